@@ -1,0 +1,76 @@
+-- The laws of the refusals' numbers. That no two share one: a table gives each number its refusal back.
+use Prim.Native.Nat.{ℕ}
+use mathlib.Core.Path.{_≡_, refl, sym, ap, _∙_}
+use mathlib.Core.Logic.{inl, inr}
+use mathlib.Core.List.{List, [], _∷_}
+use native.Mathlib.Decide.{decLe}
+use native.Mathlib.Omega.{arith}
+use lib.ListN.{getD, List·getD-eq-default}
+use Rattle.kinds.specs.declared.Refusal.{Refusal}
+use Rattle.kinds.specs.declared.Refusal.the-variants as refusal
+use Rattle.kinds.specs.Numbering.{refusalNumber, NumbersDiffer, NeverZero, NeverAnAnswer}
+
+-- The refusals from 1 to 14 in order. (Nothing is numbered 0: what stands there is never looked at.)
+inOrder : List Refusal
+inOrder =
+    refusal.Misspelled
+    ∷ refusal.Misspelled
+    ∷ refusal.TooManyRows
+    ∷ refusal.ValueOutOfRange
+    ∷ refusal.ExtraBytes
+    ∷ refusal.PeriodTooLong
+    ∷ refusal.NoSuchRow
+    ∷ refusal.CostOutOfRange
+    ∷ refusal.PlacesFull
+    ∷ refusal.DueTooLate
+    ∷ refusal.TimeTooLate
+    ∷ refusal.RunNotSound
+    ∷ refusal.NoRoom
+    ∷ refusal.AnswerSize
+    ∷ refusal.ScriptMisspelled
+    ∷ []
+
+-- The refusal that has a number.
+numbered : ℕ → Refusal
+unfolding inOrder
+numbered n = getD inOrder n refusal.NumberTooBig
+
+-- A refusal's number gives it back.
+back : (r : Refusal) → numbered (refusalNumber r) ≡ r
+unfolding inOrder numbered
+back refusal.Misspelled = refl
+back refusal.TooManyRows = refl
+back refusal.ValueOutOfRange = refl
+back refusal.ExtraBytes = refl
+back refusal.PeriodTooLong = refl
+back refusal.NoSuchRow = refl
+back refusal.CostOutOfRange = refl
+back refusal.PlacesFull = refl
+back refusal.DueTooLate = refl
+back refusal.TimeTooLate = refl
+back refusal.RunNotSound = refl
+back refusal.NoRoom = refl
+back refusal.AnswerSize = refl
+back refusal.ScriptMisspelled = refl
+back refusal.NumberTooBig = refl
+
+pub numbers-differ : NumbersDiffer
+numbers-differ r s e = sym (back r) ∙ ap numbered e ∙ back s
+
+-- So a refusal's number is the number of what the table has there.
+same : (r : Refusal) → refusalNumber r ≡ refusalNumber (numbered (refusalNumber r))
+same r = ap refusalNumber (sym (back r))
+
+pub never-zero : NeverZero
+unfolding inOrder numbered
+never-zero r = elim (decLe 1 (refusalNumber r)) [
+  | yes l ↦ l
+  | no l ↦ let z : refusalNumber r ≡ 0 = omega arith in absurd (let e : _≡_ {A = ℕ} 0 1 = sym z ∙ same r ∙ ap (λ n. refusalNumber (numbered n)) z in omega arith)
+]
+
+pub never-an-answer : NeverAnAnswer
+unfolding inOrder numbered
+never-an-answer r = elim (decLe 20 (refusalNumber r)) [
+  | yes l ↦ inr (let e : refusalNumber r ≡ 25 = same r ∙ ap refusalNumber (List·getD-eq-default inOrder refusal.NumberTooBig {n = refusalNumber r} (omega arith)) in omega arith)
+  | no l ↦ inl (omega arith)
+]

@@ -1,0 +1,38 @@
+-- The numbers that refusals are known by. (docs/RULES.md, section 10.)
+use Prim.Native.Nat.{ℕ, _≤_, _<_}
+use mathlib.Core.Path.{_≡_}
+use mathlib.Core.Logic.{_⊎_}
+use Rattle.kinds.specs.declared.Refusal.{Refusal}
+use Rattle.kinds.specs.declared.Refusal.the-variants as refusal
+
+-- Each refusal's number.
+abbrev pub refusalNumber : Refusal → ℕ
+refusalNumber refusal.Misspelled = 1
+refusalNumber refusal.TooManyRows = 2
+refusalNumber refusal.ValueOutOfRange = 3
+refusalNumber refusal.ExtraBytes = 4
+refusalNumber refusal.PeriodTooLong = 5
+refusalNumber refusal.NoSuchRow = 6
+refusalNumber refusal.CostOutOfRange = 7
+refusalNumber refusal.PlacesFull = 8
+refusalNumber refusal.DueTooLate = 9
+refusalNumber refusal.TimeTooLate = 10
+refusalNumber refusal.RunNotSound = 11
+refusalNumber refusal.NoRoom = 12
+refusalNumber refusal.AnswerSize = 13
+refusalNumber refusal.ScriptMisspelled = 14
+refusalNumber refusal.NumberTooBig = 25
+
+-- ---- what is proved of them (proofs/Numbering.antt)
+
+-- No two refusals share a number.
+abbrev pub NumbersDiffer : Type 0
+NumbersDiffer = (r s : Refusal) → refusalNumber r ≡ refusalNumber s → r ≡ s
+
+-- No refusal has the number 0.
+abbrev pub NeverZero : Type 0
+NeverZero = (r : Refusal) → 1 ≤ refusalNumber r
+
+-- No refusal has the number of an answer, 20 to 23.
+abbrev pub NeverAnAnswer : Type 0
+NeverAnAnswer = (r : Refusal) → (refusalNumber r < 20) ⊎ (23 < refusalNumber r)

@@ -1,0 +1,185 @@
+-- The laws of the spelling are proved: what was written reads as the number, and what reads as a number is spelled by it. Both go by induction on the
+-- number of groups that are allowed.
+use mathlib.Core.Path.{_≡_, refl, sym, ap, _∙_}
+use Prim.Native.Nat.{ℕ, zero, suc, _+_, _-_, _*_, _/_, _%_, _^_, _≤_, _<_}
+use native.Mathlib.Omega.{arith}
+use native.Mathlib.Decide.{decLe}
+use mathlib.Core.List.{List, [], _∷_, _++_, append-cancel-left}
+use mathlib.Core.Bool.{Bool, true, false}
+use lib.ListN.{length, getD, drop, length-append, length-drop}
+use lib.Seq.{getD-drop, drop-drop, drop-append-seam}
+use lib.Dec.{ltb, leb, eqb}
+use borrow.Author.Tests.{lt-ltb, le-ltb, ne-eqb}
+use Rattle.numbers.specs.declared.Number.{Number}
+use Rattle.numbers.specs.declared.NumberRead.the-variants as answer
+use Rattle.numbers.specs.Spelling.{maxGroups, maxNumber, groupsOf, spelling}
+use Rattle.numbers.specs.Reading.{Spelt, number, superfluous-zero, asks-for-more, cut-off, before, spelt, answered, readAt, misspelledAt}
+use Rattle.numbers.specs.Laws.{Bytes, Spelled, ReadsBack, OneSpelling, SpellingLength, SpelledInBytes, SpellingsDiffer, NothingPastTheEnd}
+use Rattle.numbers.proofs.Reading.{limit, limit-pos, spelt-cut}
+
+-- ---- the groups of a number
+
+groups-last : (most n : ℕ) → n < 128 → groupsOf (suc most) n ≡ n ∷ []
+unfolding groupsOf
+groups-last most n h = simp (lt-ltb n 128 h)
+
+groups-more : (most n : ℕ) → 128 ≤ n → groupsOf (suc most) n ≡ (n % 128 + 128) ∷ groupsOf most (n / 128)
+unfolding groupsOf
+groups-more most n h = simp (le-ltb n 128 h)
+
+-- More groups than enough change nothing.
+groups-enough : (most n : ℕ) → n < limit most → 0 < most + n → groupsOf (suc most) n ≡ groupsOf most n
+groups-enough zero n h p = absurd (omega arith)
+groups-enough (suc most) n h p = elim (decLe 128 n) [
+  | yes l ↦ simp (groups-more (suc most) n l, groups-more most n l, groups-enough most (n / 128) (omega arith) (omega arith))
+  | no l ↦ let k : n < 128 = omega arith in simp (groups-last (suc most) n k, groups-last most n k)
+]
+
+-- A number below 128 is one group ..
+pub spelling-last : (n : ℕ) → n < 128 → spelling n ≡ n ∷ []
+spelling-last n h = groups-last 5 n h
+
+-- .. and any other is a group with 128 added, and then the spelling of what is left.
+pub spelling-more : (n : ℕ) → n ≤ maxNumber → 128 ≤ n → spelling n ≡ (n % 128 + 128) ∷ spelling (n / 128)
+spelling-more n h l =
+    groups-more 5 n l ∙ ap (λ (t : List ℕ). (n % 128 + 128) ∷ t) (sym (groups-enough 5 (n / 128) (omega arith) (omega arith)))
+
+groups-some : (most n : ℕ) → 1 ≤ length (groupsOf (suc most) n)
+groups-some most n = elim (decLe 128 n)
+    [ yes l ↦ simp (groups-more most n l) (omega arith) | no l ↦ simp (groups-last most n (omega arith)) (omega arith) ]
+
+groups-most : (most n : ℕ) → length (groupsOf most n) ≤ most
+unfolding groupsOf
+groups-most zero n = omega arith
+groups-most (suc most) n = elim (decLe 128 n) [
+  | yes l ↦ simp (groups-more most n l) (omega (arith, groups-most most (n / 128)))
+  | no l ↦ simp (groups-last most n (omega arith)) (omega arith)
+]
+
+pub spelling-length : SpellingLength
+spelling-length n = (groups-some 5 n, groups-most maxGroups n)
+
+bytes-cons : (b : ℕ) (s : List ℕ) → b < 256 → Bytes s → Bytes (b ∷ s)
+bytes-cons b s h k zero = h
+bytes-cons b s h k (suc i) = k i
+
+groups-bytes : (most n : ℕ) → Bytes (groupsOf most n)
+unfolding groupsOf
+groups-bytes zero n = λ i. omega arith
+groups-bytes (suc most) n = elim (decLe 128 n) [
+  | yes l ↦ rw (groups-more most n l) (bytes-cons (n % 128 + 128) (groupsOf most (n / 128)) (omega arith) (groups-bytes most (n / 128)))
+  | no l ↦ rw (groups-last most n (omega arith)) (bytes-cons n [] (omega arith) (λ i. omega arith))
+]
+
+pub spelled-in-bytes : SpelledInBytes
+spelled-in-bytes n = groups-bytes maxGroups n
+
+-- ---- reading what was written, whatever follows
+
+spelt-groups : (most n : ℕ) (rest : List ℕ) (at : ℕ) → n < limit most → 0 < most + n
+    → spelt most (groupsOf most n ++ rest) at ≡ number n (at + length (groupsOf most n))
+unfolding spelt
+spelt-groups zero n rest at h p = absurd (omega arith)
+spelt-groups (suc most) n rest at h p = elim (decLe 128 n) [
+  | yes l ↦
+      let ih = spelt-groups most (n / 128) rest (at + 1) (omega arith) (omega arith) in
+      let low : n % 128 + 128 - 128 + 128 * (n / 128) ≡ n = omega arith in
+      simp (groups-more most n l, le-ltb (n % 128 + 128) 128 (omega arith), ih, ne-eqb (n / 128) 0 (λ z. omega arith), low)
+      (ap (number n) (omega arith))
+  | no l ↦
+      let k : n < 128 = omega arith in
+      simp (groups-last most n k, lt-ltb n 128 k)
+]
+
+pub reads-back : ReadsBack
+reads-back front n rest h =
+    rw (drop-append-seam, spelt-groups maxGroups n rest (length front) (omega arith) (omega arith))
+
+-- ---- what reads as a number
+
+-- A number that stands behind a group, and the number that the later groups spell.
+before-inverse : (low n next : ℕ) (r : Spelt) → before low r ≡ number n next
+    → (m : ℕ) × (r ≡ number m next) × (n ≡ low + 128 * m) × (0 < m)
+before-inverse low n next (number zero k) e = absurd (let z : _≡_ {A = ℕ} 0 1 = cc in omega arith)
+before-inverse low n next (number (suc m) k) e =
+    let q : eqb (suc m) 0 ≡ false = ne-eqb (suc m) 0 (λ h. omega arith) in
+    (suc m, cc, cc, omega arith)
+before-inverse low n next (superfluous-zero k) e = absurd (let z : _≡_ {A = ℕ} 0 1 = cc in omega arith)
+before-inverse low n next (asks-for-more k) e = absurd (let z : _≡_ {A = ℕ} 0 1 = cc in omega arith)
+before-inverse low n next (cut-off k) e = absurd (let z : _≡_ {A = ℕ} 0 1 = cc in omega arith)
+
+-- What is read in at most so many groups is below their limit.
+spelt-small : (most : ℕ) (s : List ℕ) (at n next : ℕ) → Bytes s → spelt most s at ≡ number n next → n < limit most
+unfolding spelt
+spelt-small zero s at n next h e = absurd (let z : _≡_ {A = ℕ} 0 1 = cc in omega arith)
+spelt-small (suc most) [] at n next h e = absurd (let z : _≡_ {A = ℕ} 0 1 = cc in omega arith)
+spelt-small (suc most) (b ∷ s) at n next h e = elim (decLe 128 b) [
+  | yes l ↦
+      let t = before-inverse (b - 128) n next (spelt most s (at + 1)) (simp (le-ltb b 128 l) at e) in
+      omega (arith, h 0, spelt-small most s (at + 1) (t .0) next (λ i. h (suc i)) (t .1))
+  | no l ↦
+      let q : ltb b 128 ≡ true = lt-ltb b 128 (omega arith) in
+      let z : b ≡ n = cc in
+      omega (arith, limit-pos most)
+]
+
+-- What reads as n is the groups of n, and then anything.
+spelt-is-groups : (most : ℕ) (s : List ℕ) (at n next : ℕ) → Bytes s → spelt most s at ≡ number n next
+    → (rest : List ℕ) × (s ≡ groupsOf most n ++ rest) × (next ≡ at + length (groupsOf most n))
+unfolding spelt
+spelt-is-groups zero s at n next h e = absurd (let z : _≡_ {A = ℕ} 0 1 = cc in omega arith)
+spelt-is-groups (suc most) [] at n next h e = absurd (let z : _≡_ {A = ℕ} 0 1 = cc in omega arith)
+spelt-is-groups (suc most) (b ∷ s) at n next h e = elim (decLe 128 b) [
+  | yes l ↦
+      let t = before-inverse (b - 128) n next (spelt most s (at + 1)) (simp (le-ltb b 128 l) at e) in
+      let ih = spelt-is-groups most s (at + 1) (t .0) next (λ i. h (suc i)) (t .1) in
+      let low : n % 128 + 128 ≡ b = omega (arith, h 0) in
+      let high : n / 128 ≡ t .0 = omega (arith, h 0) in
+      let g = groups-more most n (omega arith) in
+      (ih .0, simp (g, low, high) (ap (λ (l : List ℕ). b ∷ l) (ih .1)), simp (g, high) (omega arith))
+  | no l ↦
+      let q : ltb b 128 ≡ true = lt-ltb b 128 (omega arith) in
+      let z : b ≡ n = cc in
+      let y : at + 1 ≡ next = cc in
+      let g = groups-last most n (omega arith) in
+      (s, simp (g, z), simp g (sym y))
+]
+
+-- An answer that is a number was a number's spelling.
+answered-number : (start : ℕ) (r : Spelt) (k : Number) → answered start r ≡ answer.Number k → r ≡ number (k .value) (k .next)
+answered-number start (number n next) k e = let v : n ≡ k .value = cc in let w : next ≡ k .next = cc in cc
+answered-number start (superfluous-zero place) k e = absurd (let z : _≡_ {A = ℕ} 0 1 = cc in omega arith)
+answered-number start (asks-for-more place) k e = absurd (let z : _≡_ {A = ℕ} 0 1 = cc in omega arith)
+answered-number start (cut-off place) k e = absurd (let z : _≡_ {A = ℕ} 0 1 = cc in omega arith)
+
+spelled-rest : (s rest : List ℕ) (at : ℕ) (k : Number) → k .value ≤ maxNumber → drop at s ≡ spelling (k .value) ++ rest
+    → k .next ≡ at + length (spelling (k .value)) → Spelled s at k
+spelled-rest s rest at k h d e =
+    let room : length s - at ≡ length (spelling (k .value)) + length rest = rw (← length-drop, d, length-append) in
+    record {
+      in-range = h;
+      stands-here = rw (e, ← drop-drop, d, drop-append-seam);
+      ends = e;
+      forward = omega (arith, groups-some 5 (k .value));
+      within = omega (arith, groups-some 5 (k .value));
+    }
+
+pub one-spelling : OneSpelling
+one-spelling s at k h e =
+    let b : Bytes (drop at s) = λ i. rw getD-drop (h (at + i)) in
+    let n = answered-number at (spelt maxGroups (drop at s) at) k e in
+    let r = spelt-is-groups maxGroups (drop at s) at (k .value) (k .next) b n in
+    spelled-rest s (r .0) at k (omega (arith, spelt-small maxGroups (drop at s) at (k .value) (k .next) b n)) (r .1) (r .2)
+
+pub nothing-past-the-end : NothingPastTheEnd
+nothing-past-the-end s at h = rw (spelt-cut maxGroups s at (omega arith) h)
+
+-- What a number reads as, with its spelling in front.
+front : (n : ℕ) (s : List ℕ) → n ≤ maxNumber → spelt maxGroups (spelling n ++ s) 0 ≡ number n (length (spelling n))
+front n s h = spelt-groups maxGroups n s 0 (omega arith) (omega arith) ∙ ap (number n) (omega arith)
+
+pub spellings-differ : SpellingsDiffer
+spellings-differ m n s t h k e =
+    let both : number m (length (spelling m)) ≡ number n (length (spelling n)) = sym (front m s h) ∙ ap (λ l. spelt maxGroups l 0) e ∙ front n t k in
+    let same : m ≡ n = cc in
+    (same, append-cancel-left (spelling n) s t (rw same at e))

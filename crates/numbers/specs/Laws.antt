@@ -1,0 +1,46 @@
+-- The laws of the spelling, for those who read and write numbers: cite these, and not the text of the definitions. (docs/RULES.md, section 2.)
+use Prim.Native.Nat.{ℕ, _+_, _≤_, _<_}
+use mathlib.Core.Path.{_≡_}
+use mathlib.Core.List.{List, _++_}
+use lib.ListN.{length, getD, drop}
+use Rattle.numbers.specs.declared.Number.{Number}
+use Rattle.numbers.specs.declared.NumberRead.the-variants as answer
+use Rattle.numbers.specs.Spelling.{maxGroups, maxNumber, spelling}
+use Rattle.numbers.specs.Reading.{readAt, misspelledAt}
+
+-- Every element of a list is a byte.
+abbrev pub Bytes : List ℕ → Type 0
+Bytes s = (i : ℕ) → getD s i 0 < 256
+
+-- What a number says that was read at a place: it is in range, and from the place on to the next stands its spelling.
+pub record Spelled (s : List ℕ) (at : ℕ) (number : Number) : Type 0 where
+  pub in-range : number .value ≤ maxNumber
+  pub stands-here : drop at s ≡ spelling (number .value) ++ drop (number .next) s
+  pub ends : number .next ≡ at + length (spelling (number .value))
+  pub forward : at < number .next
+  pub within : number .next ≤ length s
+
+-- What is written reads back as itself, with anything before and after it.
+abbrev pub ReadsBack : Type 0
+ReadsBack = (front : List ℕ) (n : ℕ) (rest : List ℕ) → n ≤ maxNumber
+    → readAt (front ++ (spelling n ++ rest)) (length front) ≡ answer.Number (record { value = n; next = length front + length (spelling n) })
+
+-- A place that reads as n holds exactly the spelling of n: one number has one spelling.
+abbrev pub OneSpelling : Type 0
+OneSpelling = (s : List ℕ) (at : ℕ) (number : Number) → Bytes s → readAt s at ≡ answer.Number number → Spelled s at number
+
+-- A spelling has one to six bytes ..
+abbrev pub SpellingLength : Type 0
+SpellingLength = (n : ℕ) → (1 ≤ length (spelling n)) × (length (spelling n) ≤ maxGroups)
+
+-- .. each of them a byte.
+abbrev pub SpelledInBytes : Type 0
+SpelledInBytes = (n : ℕ) → Bytes (spelling n)
+
+-- Different numbers have different spellings, and no spelling begins another: what follows is settled too.
+abbrev pub SpellingsDiffer : Type 0
+SpellingsDiffer = (m n : ℕ) (s t : List ℕ) → m ≤ maxNumber → n ≤ maxNumber → spelling m ++ s ≡ spelling n ++ t → (m ≡ n) × (s ≡ t)
+
+-- A place at or past the end is refused there.
+abbrev pub NothingPastTheEnd : Type 0
+NothingPastTheEnd = (s : List ℕ) (at : ℕ) → length s ≤ at → readAt s at ≡ misspelledAt at

@@ -1,0 +1,4 @@
+pub mod Spelling
+pub mod Reading
+pub mod Writing
+pub mod Laws

@@ -1,0 +1,10 @@
+pub mod Lists
+pub mod Curves
+pub mod Demand
+pub mod Paper
+pub mod Jobs
+pub mod DueTimes
+pub mod Ticks
+pub mod Trace
+pub mod Schedules
+pub mod Sources

@@ -1,0 +1,146 @@
+-- Traces: what a scheduler did, event by event. A trace knows nothing of tables, verdicts, limits or rules of choice: a job is accepted at the clock, a tick
+-- is taken, idles or gives a unit to *some* waiting job, a job leaves early. That the unit goes to an earliest due job, and that no tick idles while a job
+-- waits, are predicates on the trace, apart from it; another rule of choice is another predicate. The theorem: where earliest due goes first and nothing
+-- idles while a job waits, a job is late only if some window that ends then asked for more than its free ticks. (docs/RULES.md, section 6.)
+use Prim.Native.Nat.{ℕ, zero, suc, _+_, _-_, _≤_, _<_}
+use mathlib.Core.Path.{_≡_}
+use mathlib.Core.Logic.{_⊎_, _≢_}
+use mathlib.Core.Bool.{Bool, true, false, cond}
+use mathlib.Core.Option.{Option, none, some}
+use mathlib.Core.List.{List, [], _∷_, List·Memᴰ}
+use lib.Dec.{leb}
+use lib.ListN.{length}
+use Rattle.theory.specs.Lists.{All, total, Insert}
+use Rattle.theory.specs.Jobs.{Job, DistinctNames, asked, BoundedBy}
+use Rattle.theory.specs.Ticks.{free, had, TakenAtMost}
+
+-- A job that waits, and how many units it has left to get.
+pub record Waiting : Type 0 where
+  pub job : Job
+  pub left : ℕ
+
+-- How many of the ticks so far the job named n had. (Ticks are listed newest first; each says which job had it, if any.)
+unfoldable pub units : (n : ℕ) → List (Option ℕ) → ℕ
+units n ticks = total (had n) ticks
+
+-- What waits after the job j had a unit and has `left` more to get: it waits on, at some place among the rest, or it is done and gone.
+pub data Onward (j : Job) : (left : ℕ) (rest after : List Waiting) → Type 0 where
+  done : {rest : List Waiting} → Onward j 0 rest rest
+  on : {left : ℕ} {rest after : List Waiting} → Insert (record { job = j; left = suc left }) rest after → Onward j (suc left) rest after
+
+-- A trace up to the clock: what waits, the jobs accepted so far (newest first), who had each tick (newest first), and the jobs that left early (newest
+-- first, with the units that they had left).
+pub data Trace (taken : ℕ → Bool) : (clock : ℕ) → List Waiting → List Job → List (Option ℕ) → List Waiting → Type 0 where
+  -- nothing has happened
+  begin : Trace taken 0 [] [] [] []
+  -- a job of some cost, released at the clock, is accepted
+  accept : {t : ℕ} {waiting after : List Waiting} {accepted : List Job} {ticks : List (Option ℕ)} {left-early : List Waiting}
+      → Trace taken t waiting accepted ticks left-early
+      → (j : Job) → j .release ≡ t → 1 ≤ j .cost → Insert (record { job = j; left = j .cost }) waiting after
+      → Trace taken t after (j ∷ accepted) ticks left-early
+  -- a tick that no job can have
+  lost : {t : ℕ} {waiting : List Waiting} {accepted : List Job} {ticks : List (Option ℕ)} {left-early : List Waiting}
+      → Trace taken t waiting accepted ticks left-early → taken t ≡ true
+      → Trace taken (suc t) waiting accepted (none ∷ ticks) left-early
+  -- a free tick that no job has
+  idle : {t : ℕ} {waiting : List Waiting} {accepted : List Job} {ticks : List (Option ℕ)} {left-early : List Waiting}
+      → Trace taken t waiting accepted ticks left-early → taken t ≡ false
+      → Trace taken (suc t) waiting accepted (none ∷ ticks) left-early
+  -- a free tick that a waiting job has
+  serve : {t : ℕ} {waiting after : List Waiting} {accepted : List Job} {ticks : List (Option ℕ)} {left-early : List Waiting}
+      → Trace taken t waiting accepted ticks left-early → taken t ≡ false
+      → (j : Job) (left : ℕ) {rest : List Waiting} → Insert (record { job = j; left = suc left }) rest waiting → Onward j left rest after
+      → Trace taken (suc t) after accepted (some (j .name) ∷ ticks) left-early
+  -- a waiting job leaves early
+  leave : {t : ℕ} {waiting rest : List Waiting} {accepted : List Job} {ticks : List (Option ℕ)} {left-early : List Waiting}
+      → Trace taken t waiting accepted ticks left-early → (w : Waiting) → Insert w rest waiting
+      → Trace taken t rest accepted ticks (w ∷ left-early)
+
+module _ {taken : ℕ → Bool} where
+  -- Every unit went to a job with the earliest due time of those that waited. Ties are broken in any way.
+  unfoldable pub EarliestDueFirst : {t : ℕ} {waiting : List Waiting} {accepted : List Job} {ticks : List (Option ℕ)} {left-early : List Waiting}
+      → Trace taken t waiting accepted ticks left-early → Type 0
+  EarliestDueFirst begin = Unit {0}
+  EarliestDueFirst (accept r j at some-cost put) = EarliestDueFirst r
+  EarliestDueFirst (lost r k) = EarliestDueFirst r
+  EarliestDueFirst (idle r k) = EarliestDueFirst r
+  EarliestDueFirst (serve {waiting = waiting} r k j left from goes) = All (λ w. j .due ≤ w .job .due) waiting × EarliestDueFirst r
+  EarliestDueFirst (leave r w from) = EarliestDueFirst r
+
+  -- No free tick idled while a job waited.
+  unfoldable pub NeverIdlesInVain : {t : ℕ} {waiting : List Waiting} {accepted : List Job} {ticks : List (Option ℕ)} {left-early : List Waiting}
+      → Trace taken t waiting accepted ticks left-early → Type 0
+  NeverIdlesInVain begin = Unit {0}
+  NeverIdlesInVain (accept r j at some-cost put) = NeverIdlesInVain r
+  NeverIdlesInVain (lost r k) = NeverIdlesInVain r
+  NeverIdlesInVain (idle {waiting = waiting} r k) = (waiting ≡ []) × NeverIdlesInVain r
+  NeverIdlesInVain (serve r k j left from goes) = NeverIdlesInVain r
+  NeverIdlesInVain (leave r w from) = NeverIdlesInVain r
+
+-- What the jobs that wait and are due by D have left to get.
+unfoldable pub work : (D : ℕ) → List Waiting → ℕ
+work D waiting = total (λ w. cond (leb (w .job .due) D) (w .left) 0) waiting
+
+-- For the time D there is a window, begun by now, whose free ticks so far, with the work still due by D, were all asked for by jobs of the window.
+pub record Busy (taken : ℕ → Bool) (t : ℕ) (waiting : List Waiting) (accepted : List Job) (D : ℕ) : Type 0 where
+  pub from : ℕ
+  pub begun : from ≤ t
+  pub bound : work D waiting + free taken from t ≤ asked from D accepted
+
+-- What has become of an accepted job: it waits, and has had all but what is left; or it has had its cost; or it left early, and had then all but what was left.
+pub data Fate (j : Job) (waiting : List Waiting) (ticks : List (Option ℕ)) (left-early : List Waiting) : Type 0 where
+  waits : (left : ℕ) → 1 ≤ left → List·Memᴰ (record { job = j; left = left }) waiting → units (j .name) ticks + left ≡ j .cost
+      → Fate j waiting ticks left-early
+  served : units (j .name) ticks ≡ j .cost → Fate j waiting ticks left-early
+  ended : (left : ℕ) → 1 ≤ left → List·Memᴰ (record { job = j; left = left }) left-early → units (j .name) ticks + left ≡ j .cost
+      → Fate j waiting ticks left-early
+
+-- A job that waits was accepted, and has had all but what is left, which is not nothing.
+pub record Accounted (accepted : List Job) (ticks : List (Option ℕ)) (w : Waiting) : Type 0 where
+  pub was-accepted : List·Memᴰ (w .job) accepted
+  pub some-left : 1 ≤ w .left
+  pub had-the-rest : units (w .job .name) ticks + w .left ≡ w .job .cost
+
+-- ---- what is proved of them (proofs/Trace.antt and proofs/EarliestDue.antt)
+
+module _ (taken : ℕ → Bool) (t : ℕ) (waiting : List Waiting) (accepted : List Job) (ticks : List (Option ℕ)) (left-early : List Waiting) where
+  -- One entry for each tick of the clock.
+  abbrev pub OneEntryATick : Type 0
+  OneEntryATick = Trace taken t waiting accepted ticks left-early → length ticks ≡ t
+
+  -- Every accepted job was released by the clock.
+  abbrev pub ReleasedByTheClock : Type 0
+  ReleasedByTheClock = Trace taken t waiting accepted ticks left-early → All (λ j. j .release ≤ t) accepted
+
+  -- Ticks go to accepted jobs only.
+  abbrev pub OnlyAcceptedHaveTicks : Type 0
+  OnlyAcceptedHaveTicks = Trace taken t waiting accepted ticks left-early → (n : ℕ) → All (λ j. j .name ≢ n) accepted → units n ticks ≡ 0
+
+  -- No unit is lost or invented: each accepted job waits, or has had exactly its cost, or left early ..
+  abbrev pub EveryJobHasItsFate : Type 0
+  EveryJobHasItsFate = Trace taken t waiting accepted ticks left-early → DistinctNames accepted → All (λ j. Fate j waiting ticks left-early) accepted
+
+  -- .. and what waits was accepted, and still has units to get.
+  abbrev pub WaitingAreAccounted : Type 0
+  WaitingAreAccounted = Trace taken t waiting accepted ticks left-early → DistinctNames accepted → All (Accounted accepted ticks) waiting
+
+  -- No job ever has more than its cost.
+  abbrev pub NeverMoreThanItsCost : Type 0
+  NeverMoreThanItsCost = Trace taken t waiting accepted ticks left-early → DistinctNames accepted → All (λ j. units (j .name) ticks ≤ j .cost) accepted
+
+  -- The invariant of earliest due first.
+  abbrev pub AlwaysBusy : Type 0
+  AlwaysBusy = (r : Trace taken t waiting accepted ticks left-early) → EarliestDueFirst r → NeverIdlesInVain r → (D : ℕ) → Busy taken t waiting accepted D
+
+  -- Where no window that ends at the clock asks for more than its free ticks, nothing that is due by the clock still waits.
+  abbrev pub NothingDueWaits : Type 0
+  NothingDueWaits = (r : Trace taken t waiting accepted ticks left-early) → EarliestDueFirst r → NeverIdlesInVain r
+      → ((a : ℕ) → a ≤ t → asked a t accepted ≤ free taken a t) → All (λ w. t < w .job .due) waiting
+
+  -- Where the jobs' demand and the taken ticks together fit every length, each accepted job that is due by the clock has had exactly its cost, or left early.
+  abbrev pub InTime : Type 0
+  InTime = (r : Trace taken t waiting accepted ticks left-early) → EarliestDueFirst r → NeverIdlesInVain r → DistinctNames accepted
+      → (demand lost-ticks : ℕ → ℕ) → BoundedBy demand accepted → TakenAtMost lost-ticks taken
+      → demand 0 ≡ 0 → ((L : ℕ) → 1 ≤ L → demand L + lost-ticks L ≤ L)
+      → All (λ j. j .due ≤ t → (units (j .name) ticks ≡ j .cost)
+      ⊎ ((left : ℕ) × List·Memᴰ (record { job = j; left = left }) left-early × (units (j .name) ticks + left ≡ j .cost))) accepted
