@@ -1,3 +1,12 @@
 pub mod Cases
+pub mod Sums
 pub mod Weigh
 pub mod Ticks
+pub mod Curves
+pub mod Demand
+pub mod Paper
+pub mod DueTimes
+pub mod Windows
+pub mod AllAtZero
+pub mod Schedules
+pub mod Sources
