@@ -1,4 +1,5 @@
 pub mod Cases
+pub mod Lists
 pub mod Sums
 pub mod Weigh
 pub mod Ticks
@@ -8,5 +9,7 @@ pub mod Paper
 pub mod DueTimes
 pub mod Windows
 pub mod AllAtZero
+pub mod Trace
+pub mod EarliestDue
 pub mod Schedules
 pub mod Sources

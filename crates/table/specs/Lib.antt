@@ -1,0 +1,5 @@
+pub mod Limits
+pub mod Period
+pub mod Rows
+pub mod Tables
+pub mod Laws

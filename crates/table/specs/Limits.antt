@@ -1,0 +1,28 @@
+-- The limits of a table, each once. (docs/RULES.md, section 3.)
+use Prim.Native.Nat.{ℕ}
+use Rattle.table.specs.declared.Limits.{Limits}
+
+-- A table has at most so many rows.
+abbrev pub maxRows : ℕ
+maxRows = 16
+
+-- A row's x, y, d and c are at least 1, and at most:
+abbrev pub maxX : ℕ
+maxX = 64
+
+abbrev pub maxY : ℕ
+maxY = 4096
+
+abbrev pub maxD : ℕ
+maxD = 16384
+
+abbrev pub maxC : ℕ
+maxC = 4096
+
+-- The least common multiple of every y is at most so much.
+abbrev pub maxPeriod : ℕ
+maxPeriod = 1048576
+
+-- All of them, as the code hands them out.
+abbrev pub limits : Limits
+limits = record { rows = maxRows; x = maxX; y = maxY; d = maxD; c = maxC; period = maxPeriod }

@@ -1,0 +1,70 @@
+-- A row's rule, and how a row is read. (docs/RULES.md, section 3.)
+use Prim.Native.Nat.{ℕ}
+use mathlib.Core.Bool.{Bool, true, false, cond, _&&_}
+use mathlib.Core.Option.{Option, none, some}
+use mathlib.Core.List.{List}
+use lib.Dec.{leb}
+use Rattle.kinds.specs.declared.Refusal.{Refusal}
+use Rattle.kinds.specs.declared.Refusal.the-variants.{ValueOutOfRange}
+use Rattle.kinds.specs.declared.RefusedAt.{RefusedAt}
+use Rattle.numbers.specs.declared.Number.{Number}
+use Rattle.numbers.specs.declared.NumberRead.{NumberRead}
+use Rattle.numbers.specs.declared.NumberRead.the-variants as number
+use Rattle.numbers.specs.Reading.{readAt}
+use Rattle.table.specs.declared.Row.{Row}
+use Rattle.table.specs.declared.RowRead.{RowRead}
+use Rattle.table.specs.declared.RowRead.the-variants as row
+use Rattle.table.specs.Limits.{maxX, maxY, maxD, maxC}
+
+-- A value from 1 to a limit is in range; any other gets refusal 3.
+abbrev pub withinLimit : (most v : ℕ) → Option Refusal
+withinLimit most v = cond (leb 1 v && leb v most) none (some ValueOutOfRange)
+
+-- A row's rule, value by value: what is wrong with it, if anything.
+abbrev pub ruleOfX : ℕ → Option Refusal
+ruleOfX x = withinLimit maxX x
+
+abbrev pub ruleOfY : ℕ → Option Refusal
+ruleOfY y = withinLimit maxY y
+
+abbrev pub ruleOfD : ℕ → Option Refusal
+ruleOfD d = withinLimit maxD d
+
+abbrev pub ruleOfC : ℕ → Option Refusal
+ruleOfC c = withinLimit maxC c
+
+-- Nothing is wrong.
+abbrev pub fine : Option Refusal → Bool
+fine none = true
+fine (some r) = false
+
+-- A row is in range: nothing is wrong with any of its values.
+abbrev pub rowInRange : Row → Bool
+rowInRange r = fine (ruleOfX (r .x)) && fine (ruleOfY (r .y)) && fine (ruleOfD (r .d)) && fine (ruleOfC (r .c))
+
+-- A number that was read at a place, tested by a rule: it stands, or is refused at its start.
+abbrev pub testedAt : (at : ℕ) → Option Refusal → Number → NumberRead
+testedAt at none n = number.Number n
+testedAt at (some r) n = number.Refused (record { refusal = r; place = at })
+
+abbrev pub tested : (rule : ℕ → Option Refusal) (at : ℕ) → NumberRead → NumberRead
+tested rule at (number.Number n) = testedAt at (rule (n .value)) n
+tested rule at (number.Refused r) = number.Refused r
+
+-- A value is tested as it is read.
+abbrev pub readValue : (rule : ℕ → Option Refusal) → List ℕ → (at : ℕ) → NumberRead
+readValue rule s at = tested rule at (readAt s at)
+
+-- What comes after a value; a refusal ends the row.
+abbrev pub afterValue : NumberRead → (Number → RowRead) → RowRead
+afterValue (number.Number n) k = k n
+afterValue (number.Refused r) k = row.Refused r
+
+-- A row: x, y, d and c from left to right.
+abbrev pub readRow : List ℕ → (at : ℕ) → RowRead
+readRow s at =
+    afterValue (readValue ruleOfX s at) λ x.
+    afterValue (readValue ruleOfY s (x .next)) λ y.
+    afterValue (readValue ruleOfD s (y .next)) λ d.
+    afterValue (readValue ruleOfC s (d .next)) λ c.
+    row.Row (record { row = record { x = x .value; y = y .value; d = d .value; c = c .value }; next = c .next })
