@@ -11,6 +11,15 @@ pub struct RowNumber(pub u64);
 // A time in ticks: a clock, a release, a due time.
 pub struct Tick(pub u64);
 
+// What is known of a job that has had its cost: one record of a log. It finished in the tick that ended at `finish`.
+pub struct Finish {
+    pub serial: Serial,
+    pub row: RowNumber,
+    pub release: Tick,
+    pub due: Tick,
+    pub finish: Tick,
+}
+
 // Why a call says no: a case for each refusal of docs/RULES.md, section 10, named after its rule.
 pub enum Refusal {
     Misspelled,

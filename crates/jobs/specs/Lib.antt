@@ -1,0 +1,7 @@
+pub mod Places
+pub mod Choice
+pub mod Units
+pub mod Late
+pub mod Serials
+pub mod Turns
+pub mod Laws
