@@ -36,3 +36,11 @@ NeverZero = (r : Refusal) → 1 ≤ refusalNumber r
 -- No refusal has the number of an answer, 20 to 23.
 abbrev pub NeverAnAnswer : Type 0
 NeverAnAnswer = (r : Refusal) → (refusalNumber r < 20) ⊎ (23 < refusalNumber r)
+
+-- ---- what an answer says outside: a number, and two values
+
+-- A status number and two numbers beside it; 0 where there is nothing to say.
+pub record Said : Type 0 where
+  pub number : ℕ
+  pub first : ℕ
+  pub second : ℕ

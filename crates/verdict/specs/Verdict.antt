@@ -1,0 +1,56 @@
+-- What a verdict means. It is a relation and no computation: feasible, and every length fits; or overloaded, with the smallest length that fails and its demand;
+-- or refused as the table is. It is proved that some verdict is right of any bytes, and one only. (docs/RULES.md, section 5.)
+use Prim.Native.Nat.{ℕ, _≤_, _<_}
+use mathlib.Core.Path.{_≡_}
+use mathlib.Core.List.{List}
+use Rattle.kinds.specs.Numbering.{Said, refusalNumber}
+use Rattle.numbers.specs.Laws.{Bytes}
+use Rattle.theory.specs.Curves.{EveryLengthFits, SmallestFailing}
+use Rattle.table.specs.declared.Table.{Table}
+use Rattle.table.specs.declared.TableAnswer.{TableAnswer}
+use Rattle.table.specs.declared.TableAnswer.the-variants as answer
+use Rattle.table.specs.Tables.{tableRead}
+use Rattle.verdict.specs.declared.Witness.{Witness}
+use Rattle.verdict.specs.declared.Verdict.{Verdict}
+use Rattle.verdict.specs.declared.Verdict.the-variants as verdict
+use Rattle.verdict.specs.declared.Scan.{Scan}
+use Rattle.verdict.specs.declared.Scan.the-variants as scan
+use Rattle.verdict.specs.Demand.{tableDemand}
+
+-- A verdict is right of a table. (A table that was accepted is not refused.)
+abbrev pub RightOf : Table → Verdict → Type 0
+RightOf t verdict.Feasible = EveryLengthFits (tableDemand t)
+RightOf t (verdict.Overloaded w) = SmallestFailing (tableDemand t) (w .length) × (w .demand ≡ tableDemand t (w .length))
+RightOf t (verdict.Refused r) = ⊥
+
+-- A verdict is right of what was read.
+abbrev pub RightOfRead : Table → TableAnswer → Verdict → Type 0
+RightOfRead t (answer.Accepted period) v = RightOf t v
+RightOfRead t (answer.Refused r) v = v ≡ verdict.Refused r
+
+-- A verdict is right of the bytes.
+abbrev pub Judged : List ℕ → Verdict → Type 0
+Judged s v = RightOfRead (tableRead s .table) (tableRead s .answer) v
+
+-- The number and the two values that each verdict is known by outside.
+abbrev pub verdictSays : Verdict → Said
+verdictSays verdict.Feasible = record { number = 20; first = 0; second = 0 }
+verdictSays (verdict.Overloaded w) = record { number = 21; first = w .length; second = w .demand }
+verdictSays (verdict.Refused r) = record { number = refusalNumber (r .refusal); first = r .place; second = 0 }
+
+-- What is found in a range of lengths: every one fits, or this is the smallest that fails, with what is asked for.
+abbrev pub Scanned : (f : ℕ → ℕ) (first last : ℕ) → Scan → Type 0
+Scanned f first last scan.Fits = (L : ℕ) → first ≤ L → L ≤ last → f L ≤ L
+Scanned f first last (scan.Fails w) =
+    (first ≤ w .length) × (w .length ≤ last) × (w .length < f (w .length)) × (w .demand ≡ f (w .length))
+    × ((M : ℕ) → first ≤ M → M < w .length → f M ≤ M)
+
+-- ---- what is proved (proofs/Verdict.antt)
+
+-- At most one verdict is right of the bytes ..
+abbrev pub OneVerdict : Type 0
+OneVerdict = (s : List ℕ) (v w : Verdict) → Judged s v → Judged s w → v ≡ w
+
+-- .. and some verdict is.
+abbrev pub SomeVerdict : Type 0
+SomeVerdict = (s : List ℕ) → Bytes s → (v : Verdict) × Judged s v
