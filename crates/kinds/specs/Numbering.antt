@@ -1,9 +1,13 @@
--- The numbers that refusals are known by. (docs/RULES.md, section 10.)
-use Prim.Native.Nat.{ℕ, _≤_, _<_}
+-- The latest time of all, and the numbers that refusals are known by. (docs/RULES.md, sections 6 and 10.)
+use Prim.Native.Nat.{ℕ, _^_, _≤_, _<_}
 use mathlib.Core.Path.{_≡_}
 use mathlib.Core.Logic.{_⊎_}
 use Rattle.kinds.specs.declared.Refusal.{Refusal}
 use Rattle.kinds.specs.declared.Refusal.the-variants as refusal
+
+-- No clock, script time or due time is ever later.
+abbrev pub maxTime : ℕ
+maxTime = 2 ^ 40
 
 -- Each refusal's number.
 abbrev pub refusalNumber : Refusal → ℕ

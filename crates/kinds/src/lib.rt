@@ -1,6 +1,6 @@
 // The words that every crate uses: the three kinds of number that must not be mixed up, and the refusals.
 ghost use mathlib.Core.Path.{_≡_};
-ghost use Rattle.kinds.specs.Numbering.{refusalNumber};
+ghost use Rattle.kinds.specs.Numbering.{maxTime, refusalNumber};
 
 // The serial of an accepted release: 0 for a run's first, then counted up.
 pub struct Serial(pub u64);
@@ -10,6 +10,18 @@ pub struct RowNumber(pub u64);
 
 // A time in ticks: a clock, a release, a due time.
 pub struct Tick(pub u64);
+
+impl Tick {
+    // No clock, script time or due time is ever later: 2^40.
+    pub const MAX: u64 = 0x100_0000_0000;
+
+    // The limit of the code is that of the rules.
+    pub fn max() -> u64
+        ensures { λ r. ⌜ r ≡ maxTime ⌝ }
+    {
+        Tick::MAX
+    }
+}
 
 // What is known of a job that has had its cost: one record of a log. It finished in the tick that ended at `finish`.
 pub struct Finish {

@@ -6,7 +6,7 @@ use numbers::NumberRead;
 ghost use mathlib.Core.Path.{_≡_};
 ghost use Prim.Native.Nat.{_≤_, _<_};
 ghost use Rattle.table.specs.Limits.{limits, maxPeriod};
-ghost use Rattle.table.specs.Rows.{withinLimit, readValue, readRow};
+ghost use Rattle.table.specs.Rows.{withinLimit, fine, rowInRange, readValue, readRow};
 ghost use Rattle.table.specs.Tables.{emptyTable, refusedTable, rowsOf, tableRead, InRange};
 ghost use Rattle.table.specs.Period.{IsGreatestDivisor, periodWithin};
 
@@ -71,6 +71,25 @@ impl Row {
     pub const MAX_D: u64 = 16_384;
 
     pub const MAX_C: u64 = 4_096;
+
+    // Whether each value is from 1 to its limit.
+    pub fn in_range(self) -> bool
+        ensures { λ r. ⌜ r ≡ rowInRange self ⌝ }
+    {
+        within_limit(Row::MAX_X, self.x)
+            & within_limit(Row::MAX_Y, self.y)
+            & within_limit(Row::MAX_D, self.d)
+            & within_limit(Row::MAX_C, self.c)
+    }
+}
+
+fn within_limit(most: u64, value: u64) -> bool
+    ensures { λ r. ⌜ r ≡ fine (withinLimit most value) ⌝ }
+{
+    if value < 1 {
+        return false;
+    }
+    value <= most
 }
 
 impl Table {

@@ -1,0 +1,48 @@
+-- What follows of kept due times, for other crates to cite. (docs/RULES.md, section 4.)
+use Prim.Native.Nat.{ℕ, _≤_, _<_}
+use mathlib.Core.Path.{_≡_}
+use mathlib.Core.Logic.{_↔_}
+use mathlib.Core.Bool.{true}
+use mathlib.Core.List.{List, [], _∷_}
+use lib.ListN.{length, take, getD}
+use Rattle.kinds.specs.Numbering.{maxTime}
+use Rattle.kinds.specs.declared.Tick.{Tick}
+use Rattle.theory.specs.DueTimes.{dueTime}
+use Rattle.table.specs.declared.Row.{Row}
+use Rattle.table.specs.Rows.{rowInRange}
+use Rattle.due.specs.declared.Kept.{Kept}
+use Rattle.due.specs.Kept.{maxKept, nothingKept, keptTimes, earlier, keptWith, keptSound}
+
+-- What is kept are the newest x of a row's due times, which are listed newest first.
+pub record KeepsNewest (k : Kept) (x : ℕ) (history : List ℕ) : Type 0 where
+  pub all-places : length (k .times) ≡ maxKept
+  pub newest : earlier k ≡ take x history
+
+-- ---- what is proved (proofs/Laws.antt)
+
+-- Nothing kept keeps the newest of no history.
+abbrev pub StartsEmpty : Type 0
+StartsEmpty = (x : ℕ) → KeepsNewest nothingKept x []
+
+-- Keeping one more due time keeps the newest of the history with it.
+abbrev pub KeepsOnKeeping : Type 0
+KeepsOnKeeping = (k : Kept) (r : Row) (history : List ℕ) (t : Tick) → rowInRange r ≡ true → KeepsNewest k (r .x) history
+    → KeepsNewest (keptWith k r t) (r .x) (t .0 ∷ history)
+
+-- So the due time that is given is the paper's, over the whole history.
+abbrev pub DueIsThePapers : Type 0
+DueIsThePapers = (k : Kept) (r : Row) (history : List ℕ) (t : ℕ) → rowInRange r ≡ true → KeepsNewest k (r .x) history
+    → dueTime (r .x) (r .y) (r .d) (earlier k) t ≡ dueTime (r .x) (r .y) (r .d) history t
+
+-- The test of what is kept means: at most x are counted, and no counted one is later than any may be.
+pub record SoundKept (k : Kept) (x : ℕ) : Type 0 where
+  pub few : k .count ≤ x
+  pub in-time : (i : ℕ) → i < length (keptTimes k) → getD (keptTimes k) i (record { 0 = 0 }) .0 ≤ maxTime
+
+abbrev pub SoundMeans : Type 0
+SoundMeans = (k : Kept) (r : Row) → (keptSound k r ≡ true) ↔ SoundKept k (r .x)
+
+-- Keeping one more due time that is not too late stays sound.
+abbrev pub StaysSound : Type 0
+StaysSound = (k : Kept) (r : Row) (t : Tick) → rowInRange r ≡ true → length (k .times) ≡ maxKept → t .0 ≤ maxTime
+    → keptSound k r ≡ true → keptSound (keptWith k r t) r ≡ true
