@@ -1,0 +1,5 @@
+pub mod Runs
+pub mod Sound
+pub mod Release
+pub mod Tick
+pub mod Advance

@@ -1,0 +1,54 @@
+-- What a release answers, and the run after it. (docs/RULES.md, sections 6.6 to 6.9.)
+use Prim.Native.Nat.{ℕ, _+_}
+use mathlib.Core.Bool.{cond}
+use lib.Dec.{ltb}
+use lib.ListN.{set}
+use Rattle.kinds.specs.declared.Refusal.{Refusal}
+use Rattle.kinds.specs.declared.Refusal.the-variants.{RunNotSound, NoSuchRow, CostOutOfRange, PlacesFull}
+use Rattle.kinds.specs.declared.Tick.{Tick}
+use Rattle.due.specs.declared.Due.{Due}
+use Rattle.due.specs.declared.Due.the-variants as due
+use Rattle.due.specs.Kept.{dueOf, keptWith}
+use Rattle.jobs.specs.declared.Job.{Job}
+use Rattle.jobs.specs.Places.{maxPlaces, put}
+use Rattle.run.specs.declared.Run.{Run}
+use Rattle.run.specs.declared.ReleaseStep.{ReleaseStep}
+use Rattle.run.specs.declared.Released.the-variants as answer
+use Rattle.run.specs.Runs.{rowInUse, rowAt, costLimit, keptOf}
+use Rattle.run.specs.Sound.{fromOneTo, soundOf}
+
+-- A refused release leaves the run as it was.
+abbrev pub refusedRelease : Run → Refusal → ReleaseStep
+refusedRelease run r = record { run = run; answer = answer.Refused r }
+
+-- The job that an accepted release adds: released at the clock, with the next serial and all of its cost left.
+abbrev pub newJob : Run → (row cost : ℕ) → (due : Tick) → Job
+newJob run row cost due = record { serial = run .next; row = record { 0 = row }; release = run .clock; due = due; cost = cost; left = cost }
+
+-- The run with that job: in the first unused place, the next serial one up, the due time kept for its row. All else stays.
+abbrev pub withJob : Run → (row cost : ℕ) → (due : Tick) → Run
+withJob run row cost due = record {
+  table = run .table;
+  clock = run .clock;
+  pending = put (run .pending) (newJob run row cost due);
+  next = record { 0 = run .next .0 + 1 };
+  kept = set (run .kept) row (keptWith (keptOf run row) (rowAt (run .table) row) due);
+}
+
+-- A release whose due time is settled, or refused (9).
+abbrev pub atDue : Run → (row cost : ℕ) → Due → ReleaseStep
+atDue run row cost (due.At t) = record { run = withJob run row cost t; answer = answer.Accepted (record { serial = run .next; due = t }) }
+atDue run row cost (due.Refused r) = refusedRelease run r
+
+-- The tests in their order: 11, 6, 7, 8, 9.
+unfoldable pub released : Run → (row cost : ℕ) → ReleaseStep
+released run row cost =
+    cond (soundOf run)
+    (cond (rowInUse (run .table) row)
+    (cond (fromOneTo (costLimit (run .table) row) cost)
+    (cond (ltb (run .pending .count) maxPlaces)
+    (atDue run row cost (dueOf (keptOf run row) (rowAt (run .table) row) (run .clock .0)))
+    (refusedRelease run PlacesFull))
+    (refusedRelease run CostOutOfRange))
+    (refusedRelease run NoSuchRow))
+    (refusedRelease run RunNotSound)

@@ -1,0 +1,47 @@
+-- Fresh runs, and how a run is started on a table's bytes. (docs/RULES.md, sections 6.1 to 6.4.)
+use Prim.Native.Nat.{ℕ}
+use mathlib.Core.Bool.{Bool}
+use mathlib.Core.List.{List, []}
+use lib.Dec.{ltb}
+use lib.ListN.{getD, replicate}
+use Rattle.table.specs.declared.Row.{Row}
+use Rattle.table.specs.declared.Table.{Table}
+use Rattle.table.specs.declared.TableAnswer.{TableAnswer}
+use Rattle.table.specs.declared.TableAnswer.the-variants as answer
+use Rattle.table.specs.Limits.{maxRows}
+use Rattle.table.specs.Tables.{noRow, tableRead}
+use Rattle.due.specs.Kept.{nothingKept}
+use Rattle.due.specs.declared.Kept.{Kept}
+use Rattle.jobs.specs.Places.{emptyPending}
+use Rattle.run.specs.declared.Run.{Run}
+use Rattle.run.specs.declared.Start.{Start}
+use Rattle.run.specs.declared.StartAnswer.{StartAnswer}
+use Rattle.run.specs.declared.StartAnswer.the-variants as start
+
+-- The fresh run of a table: the clock at 0, nothing pending, the next serial 0, and no due time kept.
+abbrev pub freshRun : Table → Run
+freshRun t = record { table = t; clock = record { 0 = 0 }; pending = emptyPending; next = record { 0 = 0 }; kept = replicate maxRows nothingKept }
+
+abbrev pub startAnswer : TableAnswer → StartAnswer
+startAnswer (answer.Accepted period) = start.Started
+startAnswer (answer.Refused r) = start.Refused r
+
+-- A run is started on any table that is accepted; else the table's refusal, with the fresh run of the empty table (which is what a refused table is read as).
+abbrev pub started : List ℕ → Start
+started s = record { run = freshRun (tableRead s .table); answer = startAnswer (tableRead s .answer) }
+
+-- A row number is in use when it is below the table's row count.
+abbrev pub rowInUse : Table → (row : ℕ) → Bool
+rowInUse t row = ltb row (t .count)
+
+-- The row that a number names.
+abbrev pub rowAt : Table → (row : ℕ) → Row
+rowAt t row = getD (t .rows) row noRow
+
+-- The most that a job of the row may cost.
+abbrev pub costLimit : Table → (row : ℕ) → ℕ
+costLimit t row = rowAt t row .c
+
+-- What is kept of a row's due times.
+abbrev pub keptOf : Run → (row : ℕ) → Kept
+keptOf run row = getD (run .kept) row (record { times = []; count = 0 })

@@ -1,0 +1,97 @@
+-- When a run is sound: exactly these conditions, and no other. (docs/RULES.md, sections 6.20 to 6.24.)
+use Prim.Native.Nat.{ℕ, suc, _+_, _≤_, _<_}
+use mathlib.Core.Path.{_≡_}
+use mathlib.Core.Logic.{_↔_}
+use mathlib.Core.Bool.{Bool, true, _&&_}
+use mathlib.Core.List.{List, [], _∷_}
+use lib.Dec.{leb, ltb}
+use lib.ListN.{length, take, getD}
+use Rattle.kinds.specs.Numbering.{maxTime}
+use Rattle.table.specs.declared.Row.{Row}
+use Rattle.table.specs.declared.Table.{Table}
+use Rattle.table.specs.Limits.{maxRows}
+use Rattle.table.specs.Rows.{rowInRange}
+use Rattle.table.specs.Tables.{rowsOf}
+use Rattle.table.specs.Laws.{WithinLimits}
+use Rattle.due.specs.declared.Kept.{Kept}
+use Rattle.due.specs.Kept.{keptSound}
+use Rattle.due.specs.Laws.{SoundKept}
+use Rattle.jobs.specs.declared.Job.{Job}
+use Rattle.jobs.specs.Places.{maxPlaces, noJob, jobsOf}
+use Rattle.jobs.specs.Serials.{distinctSerials}
+use Rattle.run.specs.declared.Run.{Run}
+use Rattle.run.specs.Runs.{rowInUse, rowAt, costLimit, keptOf}
+
+-- A number from 1 to a limit.
+abbrev pub fromOneTo : (most n : ℕ) → Bool
+fromOneTo most n = leb 1 n && leb n most
+
+-- A pending job of a run can be one: it names a row in use, was released by the clock, has a cost that its row allows, some of it left, is due in time and has a serial
+-- that was given out.
+unfoldable pub jobSound : (t : Table) (clock next : ℕ) → Job → Bool
+jobSound t clock next j =
+    rowInUse t (j .row .0)
+    && leb (j .release .0) clock
+    && fromOneTo (costLimit t (j .row .0)) (j .cost)
+    && fromOneTo (j .cost) (j .left)
+    && leb (j .due .0) maxTime
+    && ltb (j .serial .0) next
+
+-- Each of the jobs can.
+abbrev pub jobsSound : (t : Table) (clock next : ℕ) → List Job → Bool
+jobsSound t clock next [] = true
+jobsSound t clock next (j ∷ js) = jobSound t clock next j && jobsSound t clock next js
+
+-- Each row is in range, and what is kept of its due times can be its.
+abbrev pub rowsSound : List Row → List Kept → Bool
+rowsSound [] ks = true
+rowsSound (r ∷ rs) [] = true
+rowsSound (r ∷ rs) (k ∷ ks) = rowInRange r && keptSound k r && rowsSound rs ks
+
+-- The next serial is at most the clock plus the number of pending jobs: each serial given out is pending, or had a tick that finished it.
+abbrev pub serialBound : Run → ℕ
+serialBound run = run .clock .0 + run .pending .count
+
+-- The run is sound.
+unfoldable pub soundOf : Run → Bool
+soundOf run =
+    leb (run .table .count) maxRows
+    && leb (run .clock .0) maxTime
+    && leb (run .pending .count) maxPlaces
+    && rowsSound (rowsOf (run .table)) (run .kept)
+    && jobsSound (run .table) (run .clock .0) (run .next .0) (jobsOf (run .pending))
+    && distinctSerials (jobsOf (run .pending))
+    && leb (run .next .0) (serialBound run)
+
+-- ---- the same as facts
+
+pub record SoundJob (t : Table) (clock next : ℕ) (j : Job) : Type 0 where
+  pub row-in-use : j .row .0 < t .count
+  pub released : j .release .0 ≤ clock
+  pub some-cost : 1 ≤ j .cost
+  pub cost-allowed : j .cost ≤ costLimit t (j .row .0)
+  pub some-left : 1 ≤ j .left
+  pub left-of-cost : j .left ≤ j .cost
+  pub due-in-time : j .due .0 ≤ maxTime
+  pub serial-given : j .serial .0 < next
+
+pub record Sound (run : Run) : Type 0 where
+  pub few-rows : run .table .count ≤ maxRows
+  pub clock-in-time : run .clock .0 ≤ maxTime
+  pub few-pending : run .pending .count ≤ maxPlaces
+  pub rows : (i : ℕ) → i < run .table .count → WithinLimits (rowAt (run .table) i)
+  pub kept : (i : ℕ) → i < run .table .count → SoundKept (keptOf run i) (rowAt (run .table) i .x)
+  pub jobs : (i : ℕ) → i < length (jobsOf (run .pending)) → SoundJob (run .table) (run .clock .0) (run .next .0) (getD (jobsOf (run .pending)) i noJob)
+  pub apart : (i k : ℕ) → i < k → k < length (jobsOf (run .pending))
+      → getD (jobsOf (run .pending)) i noJob .serial .0 ≡ getD (jobsOf (run .pending)) k noJob .serial .0 → ⊥
+  pub serials : run .next .0 ≤ serialBound run
+
+-- The arrays of a run have all their places: every run that a program can hold does.
+pub record Whole (run : Run) : Type 0 where
+  pub all-rows : length (run .table .rows) ≡ maxRows
+  pub all-kept : length (run .kept) ≡ maxRows
+  pub all-places : length (run .pending .places) ≡ maxPlaces
+
+-- The test means these facts, and nothing more.
+abbrev pub SoundMeans : Type 0
+SoundMeans = (run : Run) → Whole run → (soundOf run ≡ true) ↔ Sound run

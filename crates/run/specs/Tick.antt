@@ -1,0 +1,43 @@
+-- What a tick answers, and the run after it. (docs/RULES.md, sections 6.10 to 6.17.)
+use Prim.Native.Nat.{ℕ, _+_}
+use mathlib.Core.Bool.{cond}
+use lib.Dec.{ltb, eqb}
+use Rattle.kinds.specs.Numbering.{maxTime}
+use Rattle.kinds.specs.declared.Refusal.{Refusal}
+use Rattle.kinds.specs.declared.Refusal.the-variants.{RunNotSound, TimeTooLate}
+use Rattle.jobs.specs.declared.Pending.{Pending}
+use Rattle.jobs.specs.Places.{jobsOf}
+use Rattle.jobs.specs.Units.{ranOf}
+use Rattle.jobs.specs.Late.{lateCount}
+use Rattle.jobs.specs.Turns.{firstJob, oneTick}
+use Rattle.run.specs.declared.Run.{Run}
+use Rattle.run.specs.declared.TickStep.{TickStep}
+use Rattle.run.specs.declared.Ticked.the-variants as answer
+use Rattle.run.specs.Sound.{soundOf}
+
+-- A refused tick leaves the run as it was, and no job becomes late.
+abbrev pub refusedTick : Run → Refusal → TickStep
+refusedTick run r = record { run = run; answer = answer.Refused r; late = 0 }
+
+-- The run at another clock, with other pending jobs. A tick touches nothing else.
+abbrev pub runWith : Run → (clock : ℕ) → Pending → Run
+runWith run clock p = record { table = run .table; clock = record { 0 = clock }; pending = p; next = run .next; kept = run .kept }
+
+-- A tick with nothing pending ..
+abbrev pub idleTick : Run → TickStep
+idleTick run = record { run = runWith run (run .clock .0 + 1) (run .pending); answer = answer.Idle; late = 0 }
+
+-- .. and one that gives a unit to the job that goes first.
+abbrev pub busyTick : Run → TickStep
+busyTick run = record {
+  run = runWith run (run .clock .0 + 1) (oneTick (run .pending));
+  answer = answer.Ran (ranOf (firstJob (run .pending)));
+  late = lateCount (run .clock .0 + 1) (jobsOf (oneTick (run .pending)));
+}
+
+-- The tests in their order: 11, 10.
+unfoldable pub ticked : Run → TickStep
+ticked run =
+    cond (soundOf run)
+    (cond (ltb (run .clock .0) maxTime) (cond (eqb (run .pending .count) 0) (idleTick run) (busyTick run)) (refusedTick run TimeTooLate))
+    (refusedTick run RunNotSound)
