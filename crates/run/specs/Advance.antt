@@ -13,7 +13,7 @@ use Rattle.run.specs.declared.Run.{Run}
 use Rattle.run.specs.declared.Advanced.{Advanced}
 use Rattle.run.specs.declared.AdvanceAnswer.the-variants as answer
 use Rattle.run.specs.Sound.{soundOf}
-use Rattle.run.specs.Tick.{ticked}
+use Rattle.run.specs.Ticking.{ticked}
 
 -- What the next tick of a sound run finishes: the job that goes first, if that is its last unit, at the new clock.
 abbrev pub finishedBy : Run → List Finish

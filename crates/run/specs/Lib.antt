@@ -1,5 +1,6 @@
 pub mod Runs
 pub mod Sound
 pub mod Release
-pub mod Tick
+pub mod Ticking
 pub mod Advance
+pub mod Laws

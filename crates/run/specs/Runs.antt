@@ -14,7 +14,7 @@ use Rattle.due.specs.Kept.{nothingKept}
 use Rattle.due.specs.declared.Kept.{Kept}
 use Rattle.jobs.specs.Places.{emptyPending}
 use Rattle.run.specs.declared.Run.{Run}
-use Rattle.run.specs.declared.Start.{Start}
+use Rattle.run.specs.declared.Started.{Started}
 use Rattle.run.specs.declared.StartAnswer.{StartAnswer}
 use Rattle.run.specs.declared.StartAnswer.the-variants as start
 
@@ -23,11 +23,11 @@ abbrev pub freshRun : Table → Run
 freshRun t = record { table = t; clock = record { 0 = 0 }; pending = emptyPending; next = record { 0 = 0 }; kept = replicate maxRows nothingKept }
 
 abbrev pub startAnswer : TableAnswer → StartAnswer
-startAnswer (answer.Accepted period) = start.Started
+startAnswer (answer.Accepted period) = start.Ready
 startAnswer (answer.Refused r) = start.Refused r
 
 -- A run is started on any table that is accepted; else the table's refusal, with the fresh run of the empty table (which is what a refused table is read as).
-abbrev pub started : List ℕ → Start
+abbrev pub started : List ℕ → Started
 started s = record { run = freshRun (tableRead s .table); answer = startAnswer (tableRead s .answer) }
 
 -- A row number is in use when it is below the table's row count.

@@ -26,16 +26,19 @@ use Rattle.run.specs.Runs.{rowInUse, rowAt, costLimit, keptOf}
 abbrev pub fromOneTo : (most n : ℕ) → Bool
 fromOneTo most n = leb 1 n && leb n most
 
--- A pending job of a run can be one: it names a row in use, was released by the clock, has a cost that its row allows, some of it left, is due in time and has a serial
--- that was given out.
-unfoldable pub jobSound : (t : Table) (clock next : ℕ) → Job → Bool
-jobSound t clock next j =
-    rowInUse t (j .row .0)
-    && leb (j .release .0) clock
-    && fromOneTo (costLimit t (j .row .0)) (j .cost)
+-- A job can be pending under a limit of its cost: it was released by the clock, has a cost within the limit and some of it left, is due in time and has a serial that was
+-- given out.
+unfoldable pub jobFits : (most clock next : ℕ) → Job → Bool
+jobFits most clock next j =
+    leb (j .release .0) clock
+    && fromOneTo most (j .cost)
     && fromOneTo (j .cost) (j .left)
     && leb (j .due .0) maxTime
     && ltb (j .serial .0) next
+
+-- A pending job can be one of a run's: it names a row in use, and fits its cost.
+unfoldable pub jobSound : (t : Table) (clock next : ℕ) → Job → Bool
+jobSound t clock next j = rowInUse t (j .row .0) && jobFits (costLimit t (j .row .0)) clock next j
 
 -- Each of the jobs can.
 abbrev pub jobsSound : (t : Table) (clock next : ℕ) → List Job → Bool
