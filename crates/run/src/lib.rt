@@ -252,7 +252,8 @@ impl Run {
                 run.pending = more;
                 let newest = kept.keep(its, due);
                 run.kept[at] = newest;
-                run.next = Serial(serial.0 + 1);
+                let following = Serial(serial.0 + 1);
+                run.next = following;
                 ReleaseStep {
                     run,
                     answer: Released::Accepted(Accepted { serial, due }),
