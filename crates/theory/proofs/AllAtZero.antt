@@ -14,9 +14,9 @@ use Rattle.theory.specs.Demand.{rowJobs, rowDemand}
 use Rattle.theory.specs.DueTimes.{dueTime, dues, latest, ByRule, allAtZero, BoundIsReached, FirstAreDueWithin, FirstCostTheDemand}
 use Rattle.theory.specs.Sources.{AllAtZeroAreNumbered}
 use Rattle.theory.proofs.Cases.{by-lt}
-use Rattle.theory.proofs.Weigh.{weight-inside, weight-late}
+use Rattle.theory.proofs.Jobs.{weight-inside, weight-late}
+use Rattle.theory.proofs.Demand.{batches}
 use Rattle.theory.proofs.DueTimes.{due-of-the-first, due-of-the-further}
-use Rattle.theory.proofs.Windows.{batches}
 
 module _ (x y d c source first : ℕ) where
   -- The first n jobs, newest first.
@@ -105,21 +105,25 @@ module _ (x y d c source first : ℕ) where
       unfolding allAtZero weighed total
       jobs-due-within zero = omega arith
       jobs-due-within (suc n) = by-lt n (rowJobs x y d L)
-          (λ h. omega (arith, weight-inside 0 L (number n) 1 (le-refl 0) (number-due-within n h), jobs-due-within n))
-          (λ h. omega (arith, weight-late 0 L (number n) 1 (number-due-after n h), jobs-due-within n))
+          (λ h. omega (arith, weight-inside (λ _. 1) 0 L (number n) (le-refl 0) (number-due-within n h), jobs-due-within n))
+          (λ h. omega (arith, weight-late (λ _. 1) 0 L (number n) (number-due-after n h), jobs-due-within n))
 
+-- They come by the rule, and exactly `rowJobs` of them are due within L, if so many come.
 pub bound-is-reached : BoundIsReached
 bound-is-reached x y d c source first L n px py h =
     (all-at-zero-by-rule x y d c source first n, omega (arith, jobs-due-within x y d c source first px py L n))
 
+-- The first `rowJobs` are due within L ..
 pub first-are-due-within : FirstAreDueWithin
 first-are-due-within x y d c source first L n px py h =
     all-of-the-first x y d c source first (λ j. j .due ≤ L) n (λ i k. number-due-within x y d c source first px py L i (omega arith))
 
+-- .. and cost the row's demand in L.
 pub first-cost-the-demand : FirstCostTheDemand
 unfolding rowDemand
 first-cost-the-demand x y d c source first L = cost-of-the-first x y d c source first (rowJobs x y d L)
 
+-- They are numbered from the first name on.
 pub all-at-zero-are-numbered : AllAtZeroAreNumbered
 all-at-zero-are-numbered x y d c source first n = record {
   distinct = distinct-names x y d c source first n;

@@ -8,9 +8,9 @@ use mathlib.Core.List.{[], _∷_}
 use native.Mathlib.Omega.{arith}
 use native.Mathlib.Nat.{zero-mul, zero-add, mul-le-mul-left}
 use Rattle.theory.specs.Lists.{total}
-use Rattle.theory.specs.Curves.{Curve, EveryLengthFits, SmallestFailing}
-use Rattle.theory.specs.Curves.{SumsAreCurves, StartsLater, SettledWithinAPeriod, FailsWhenGrowthIsAbove}
-use Rattle.theory.specs.Curves.{HasSmallestFailing, Decided, OneSmallestFailing}
+use Rattle.theory.specs.Curves.{Curve, EveryLengthFits, SmallestFailing, FitsUpTo, FailsUpTo}
+use Rattle.theory.specs.Curves.{SumsAreCurves, StartsLater, SettledWithinAPeriod, SmallestWithinAPeriod, FailsWhenGrowthIsAbove}
+use Rattle.theory.specs.Curves.{HasSmallestFailing, Decided, OneSmallestFailing, NoneWhereEveryLengthFits}
 use Rattle.theory.proofs.Cases.{by-lt}
 
 -- ---- making curves
@@ -38,14 +38,6 @@ pub starts-later : StartsLater
 starts-later f start later period growth h curve = record { monotone = curve .monotone; repeats = λ L k. curve .repeats L (omega arith) }
 
 -- ---- the smallest failing length
-
--- Every length up to n fits.
-abbrev pub FitsUpTo : (ℕ → ℕ) → ℕ → Type 0
-FitsUpTo f n = (L : ℕ) → 1 ≤ L → L ≤ n → f L ≤ L
-
--- There is a smallest failing length, and it is at or below n.
-abbrev pub FailsUpTo : (ℕ → ℕ) → ℕ → Type 0
-FailsUpTo f n = (L : ℕ) × SmallestFailing f L × (L ≤ n)
 
 -- The bound may be raised.
 fails-up-to-more : {f : ℕ → ℕ} {m n : ℕ} → m ≤ n → FailsUpTo f m → FailsUpTo f n
@@ -80,8 +72,8 @@ one-smallest-failing f L M s t =
     omega (arith, none-fails-below s M (t .some-length) (t .fails), none-fails-below t L (s .some-length) (s .fails))
 
 -- .. and none where every length fits.
-pub none-where-every-length-fits : {f : ℕ → ℕ} {L : ℕ} → EveryLengthFits f → ¬ SmallestFailing f L
-none-where-every-length-fits {f} {L} fit s = omega (arith, fit L (s .some-length))
+pub none-where-every-length-fits : NoneWhereEveryLengthFits
+none-where-every-length-fits f L fit s = omega (arith, fit L (s .some-length))
 
 -- ---- growth above the period
 
@@ -100,42 +92,31 @@ fails-when-growth-is-above f start period growth curve above =
 
 -- ---- growth at most the period
 
-module _ {f : ℕ → ℕ} {start period growth : ℕ} (curve : Curve f start period growth) (some-period : 1 ≤ period) (slow : growth ≤ period) where
-  -- A failing length above period + start has another one period before it.
-  fails-a-period-before : (L : ℕ) → period + start < L → L < f L → L - period < f (L - period)
-  fails-a-period-before L far h =
-      let e : L - period + period ≡ L = omega arith in
-      omega (arith, rw e at (curve .repeats (L - period) (omega arith)))
+-- A failing length above period + start has another one period before it, so that it is not the smallest.
+pub smallest-within-a-period : SmallestWithinAPeriod
+smallest-within-a-period f start period growth curve some-period slow L s = by-lt (period + start) L
+    (λ far.
+    let e : L - period + period ≡ L = omega arith in
+    omega (arith, s .smaller-fit (L - period) (omega arith) (omega arith), rw e at (curve .repeats (L - period) (omega arith))))
+    (λ near. near)
 
-  -- So the smallest failing length is at or below period + start.
-  pub smallest-within-a-period : {L : ℕ} → SmallestFailing f L → L ≤ period + start
-  smallest-within-a-period {L} s = by-lt (period + start) L
-      (λ far. omega (arith, none-fails-below s (L - period) (omega arith) (fails-a-period-before L far (s .fails)))) (λ near. near)
-
-  -- If any length fails, there is a smallest failing one at or below period + start.
-  pub fails-within-a-period : (L : ℕ) → 1 ≤ L → L < f L → FailsUpTo f (period + start)
-  fails-within-a-period L p h =
-      let s : FailsUpTo f L = has-smallest-failing f L p h in
-      (s .0, s .1, smallest-within-a-period (s .1))
-
-  -- If every length up to period + start fits, every length does.
-  fits-past-a-period : FitsUpTo f (period + start) → EveryLengthFits f
-  fits-past-a-period fit L p = by-lt L (f L)
-      (λ h.
-      let s : FailsUpTo f (period + start) = fails-within-a-period L p h in
-      omega (arith, fit (s .0) (s .1 .some-length) (s .2)))
-      (λ h. h)
-
-  -- So every length fits, or there is a smallest failing one at or below period + start.
-  pub decided-within-a-period : EveryLengthFits f ⊎ FailsUpTo f (period + start)
-  decided-within-a-period = ⊎-elim (λ fit. inl (fits-past-a-period fit)) inr (fits-or-fails-up-to f (period + start))
-
--- Growth at most the period: the lengths up to period + start settle every length.
+-- If every length up to period + start fits, none is the smallest failing, so that every length fits.
 pub settled-within-a-period : SettledWithinAPeriod
-settled-within-a-period f start period growth = fits-past-a-period
+settled-within-a-period f start period growth curve some-period slow fit L p = by-lt L (f L)
+    (λ h.
+    let s : FailsUpTo f L = has-smallest-failing f L p h in
+    let near = smallest-within-a-period f start period growth curve some-period slow (s .0) (s .1) in
+    omega (arith, fit (s .0) (s .1 .some-length) near))
+    (λ h. h)
 
--- Whatever the growth, every length fits or there is a smallest failing one at or below (start + 1) · period + start.
+-- So every length fits, or there is a smallest failing one at or below period + start.
+pub decided-within-a-period : (f : ℕ → ℕ) (start period growth : ℕ) → Curve f start period growth → 1 ≤ period → growth ≤ period
+    → EveryLengthFits f ⊎ FailsUpTo f (period + start)
+decided-within-a-period f start period growth curve some-period slow =
+    ⊎-elim (λ fit. inl (settled-within-a-period f start period growth curve some-period slow fit)) inr (fits-or-fails-up-to f (period + start))
+
+-- Whatever the growth, every length fits, or there is a smallest failing one at or below (start + 1) · period + start.
 pub decided : Decided
 decided f start period growth curve some-period = by-lt period growth
     (λ above. inr (has-smallest-failing f ((start + 1) * period + start) (omega arith) (fails-when-growth-is-above f start period growth curve above)))
-    (λ slow. ⊎-elim inl (λ s. inr (fails-up-to-more (omega arith) s)) (decided-within-a-period curve some-period slow))
+    (λ slow. ⊎-elim inl (λ s. inr (fails-up-to-more (omega arith) s)) (decided-within-a-period f start period growth curve some-period slow))

@@ -1,7 +1,6 @@
 pub mod Cases
 pub mod Lists
-pub mod Sums
-pub mod Weigh
+pub mod Jobs
 pub mod Ticks
 pub mod Curves
 pub mod Demand

@@ -1,55 +1,50 @@
--- Laws about the words of specs/Lists.antt: what an element that is put into a list, or taken out of it, does to a sum, to a property of every element and to
--- membership; and how a property of every element and a property of every member are one.
-use Prim.Native.Nat.{ℕ, _+_}
+-- Laws about the words of specs/Lists.antt: sums over lists that are made of others, sums of two weights over one list, and sums over what passes a test; what
+-- holds of every element; and what an element that is put into a list, or taken out of it, does to each of these.
+use Prim.Native.Nat.{ℕ, _+_, _≤_}
 use mathlib.Core.Path.{_≡_, refl}
 use mathlib.Core.Logic.{_⊎_, inl, inr, ⊎-elim}
-use mathlib.Core.List.{List, [], _∷_, _++_, List·Memᴰ, List·Memᴰ·head, List·Memᴰ·tail}
+use mathlib.Core.Bool.{Bool, true, false}
+use mathlib.Core.List.{List, [], _∷_, _++_, flatten, List·Memᴰ, List·Memᴰ·head, List·Memᴰ·tail}
 use native.Mathlib.Omega.{arith}
-use Rattle.theory.specs.Lists.{All, total, Insert, here, there}
+use native.Mathlib.Nat.{le-refl}
+use Rattle.theory.specs.Lists.{All, total, weightIf, Insert, here, there}
+use Rattle.theory.proofs.Cases.{by-test}
+
+-- ---- every element
 
 module _ {A : Type 0} where
-  -- A sum over a list with a put in is a's weight and the sum over the list without it.
-  pub total-put-in : (w : A → ℕ) {a : A} {l m : List A} → Insert a l m → total w m ≡ w a + total w l
-  unfolding total
-  total-put-in w here = refl
-  total-put-in w (there i) = omega (arith, total-put-in w i)
+  -- What holds of anything holds of every element.
+  pub all-of : {P : A → Type 0} → ((a : A) → P a) → (l : List A) → All P l
+  all-of f [] = tt
+  all-of f (a ∷ l) = (f a, all-of f l)
 
-  -- A sum over two lists in a row is the sum of theirs.
-  pub total-append : (w : A → ℕ) (l m : List A) → total w (l ++ m) ≡ total w l + total w m
-  unfolding total
-  total-append w [] m = omega arith
-  total-append w (a ∷ l) m = omega (arith, total-append w l m)
+  -- Where P implies Q and every element has P, every element has Q.
+  pub all-imply : {P Q : A → Type 0} → ((a : A) → P a → Q a) → (l : List A) → All P l → All Q l
+  all-imply f [] h = tt
+  all-imply f (a ∷ l) h = (f a (h .0), all-imply f l (h .1))
 
-  -- What weighs nothing by itself weighs nothing in all.
-  pub total-of-nothing : (w : A → ℕ) (l : List A) → All (λ a. w a ≡ 0) l → total w l ≡ 0
-  unfolding total
-  total-of-nothing w [] h = refl
-  total-of-nothing w (a ∷ l) h = omega (arith, total-of-nothing w l (h .1))
-
-  -- a stands in the list that it was put into.
-  pub member-put-in : {a : A} {l m : List A} → Insert a l m → List·Memᴰ a m
-  member-put-in here = List·Memᴰ·head refl
-  member-put-in (there i) = List·Memᴰ·tail (member-put-in i)
-
-  -- A member stays one when a is put in.
-  pub member-stays : {a b : A} {l m : List A} → Insert a l m → List·Memᴰ b l → List·Memᴰ b m
-  member-stays here h = List·Memᴰ·tail h
-  member-stays (there i) (List·Memᴰ·head e) = List·Memᴰ·head e
-  member-stays (there i) (List·Memᴰ·tail h) = List·Memᴰ·tail (member-stays i h)
-
-  -- A member of the list with a put in is a, or was a member before.
-  pub member-was : {a b : A} {l m : List A} → Insert a l m → List·Memᴰ b m → (b ≡ a) ⊎ List·Memᴰ b l
-  member-was here (List·Memᴰ·head e) = inl e
-  member-was here (List·Memᴰ·tail h) = inr h
-  member-was (there i) (List·Memᴰ·head e) = inr (List·Memᴰ·head e)
-  member-was (there i) (List·Memᴰ·tail h) = ⊎-elim inl (λ k. inr (List·Memᴰ·tail k)) (member-was i h)
-
-  -- A member can be taken out.
-  pub taken-out : {a : A} {m : List A} → List·Memᴰ a m → (l : List A) × Insert a l m
-  taken-out (List·Memᴰ·head {xs = l} e) = (l, rw (← e) here)
-  taken-out (List·Memᴰ·tail {x = b} h) = let (l, i) = taken-out h in (b ∷ l, there i)
+  -- Where every member has P, every element has it.
+  pub all-of-members : {P : A → Type 0} (l : List A) → ((a : A) → List·Memᴰ a l → P a) → All P l
+  all-of-members [] h = tt
+  all-of-members (a ∷ l) h = (h a (List·Memᴰ·head refl), all-of-members l (λ b m. h b (List·Memᴰ·tail m)))
 
   module _ (P : A → Type 0) where
+    -- Where every element has P, a member has it.
+    pub all-at : {a : A} {l : List A} → All P l → List·Memᴰ a l → P a
+    all-at h (List·Memᴰ·head e) = rw e (h .0)
+    all-at h (List·Memᴰ·tail m) = all-at (h .1) m
+
+    -- What every element of two lists has, every element of the two together has.
+    pub all-append : (l m : List A) → All P l → All P m → All P (l ++ m)
+    all-append [] m h k = k
+    all-append (a ∷ l) m h k = (h .0, all-append l m (h .1) k)
+
+    -- What every element of every list has, every element of the lists together has.
+    pub all-flatten : (lists : List (List A)) → All (All P) lists → All P (flatten lists)
+    unfolding flatten
+    all-flatten [] h = tt
+    all-flatten (l ∷ lists) h = all-append l (flatten lists) (h .0) (all-flatten lists (h .1))
+
     -- Every element still has P when one that has it is put in ..
     pub all-put-in : {a : A} {l m : List A} → Insert a l m → P a → All P l → All P m
     all-put-in here p h = (p, h)
@@ -60,22 +55,88 @@ module _ {A : Type 0} where
     all-taken-out here h = h
     all-taken-out (there i) h = let k = all-taken-out i (h .1) in (k .0, (h .0, k .1))
 
-    -- Every element of two lists in a row has what every element of each has.
-    pub all-append : (l m : List A) → All P l → All P m → All P (l ++ m)
-    all-append [] m h k = k
-    all-append (a ∷ l) m h k = (h .0, all-append l m (h .1) k)
+  -- A member can be taken out.
+  pub taken-out : {a : A} {m : List A} → List·Memᴰ a m → (l : List A) × Insert a l m
+  taken-out (List·Memᴰ·head {xs = l} e) = (l, rw (← e) here)
+  taken-out (List·Memᴰ·tail {x = b} h) = let (l, i) = taken-out h in (b ∷ l, there i)
 
-    -- Where every element has P, a member has it ..
-    pub all-at : {a : A} {l : List A} → All P l → List·Memᴰ a l → P a
-    all-at h (List·Memᴰ·head e) = rw e (h .0)
-    all-at h (List·Memᴰ·tail k) = all-at (h .1) k
+  -- ---- sums
 
-  -- .. and where every member has P, every element has it.
-  pub all-of-members : {P : A → Type 0} (l : List A) → ((a : A) → List·Memᴰ a l → P a) → All P l
-  all-of-members [] h = tt
-  all-of-members (a ∷ l) h = (h a (List·Memᴰ·head refl), all-of-members l (λ b k. h b (List·Memᴰ·tail k)))
+  -- The sum over two lists together is the sum of their sums.
+  pub total-append : (w : A → ℕ) (l m : List A) → total w (l ++ m) ≡ total w l + total w m
+  unfolding total
+  total-append w [] m = omega arith
+  total-append w (a ∷ l) m = omega (arith, total-append w l m)
 
-  -- What follows from P for each element follows from P for every element.
-  pub all-map : {P Q : A → Type 0} → ((a : A) → P a → Q a) → (l : List A) → All P l → All Q l
-  all-map f [] h = tt
-  all-map f (a ∷ l) h = (f a (h .0), all-map f l (h .1))
+  -- The sum over several lists together is the sum of their sums.
+  pub total-flatten : (w : A → ℕ) (lists : List (List A)) → total w (flatten lists) ≡ total (total w) lists
+  unfolding total flatten
+  total-flatten w [] = refl
+  total-flatten w (l ∷ lists) = omega (arith, total-append w l (flatten lists), total-flatten w lists)
+
+  -- The sum over a list with a put in is a's weight and the sum over the list without it.
+  pub total-put-in : (w : A → ℕ) {a : A} {l m : List A} → Insert a l m → total w m ≡ w a + total w l
+  unfolding total
+  total-put-in w here = refl
+  total-put-in w (there i) = omega (arith, total-put-in w i)
+
+  -- The sum of two weights added is the sum of the one and the sum of the other.
+  pub total-plus : (v w : A → ℕ) (l : List A) → total (λ a. v a + w a) l ≡ total v l + total w l
+  unfolding total
+  total-plus v w [] = refl
+  total-plus v w (a ∷ l) = omega (arith, total-plus v w l)
+
+  -- Where no element weighs more by v than by w, neither do all of them.
+  pub total-monotone : (v w : A → ℕ) (l : List A) → All (λ a. v a ≤ w a) l → total v l ≤ total w l
+  unfolding total
+  total-monotone v w [] h = le-refl 0
+  total-monotone v w (a ∷ l) h = omega (arith, total-monotone v w l (h .1))
+
+  -- Where no element weighs anything, neither do all of them.
+  pub total-zero : (w : A → ℕ) (l : List A) → All (λ a. w a ≡ 0) l → total w l ≡ 0
+  unfolding total
+  total-zero w [] h = refl
+  total-zero w (a ∷ l) h = omega (arith, total-zero w l (h .1))
+
+-- ---- sums over what passes a test
+
+module _ {A : Type 0} (test : A → Bool) where
+  -- What passes has its weight ..
+  pub weight-if : (w : A → ℕ) (a : A) → test a ≡ true → weightIf test w a ≡ w a
+  weight-if w a h = rw h
+
+  -- .. and what does not has none.
+  pub weight-unless : (w : A → ℕ) (a : A) → test a ≡ false → weightIf test w a ≡ 0
+  weight-unless w a h = rw h
+
+  -- No element weighs more under a test than by itself.
+  pub weight-at-most : (w : A → ℕ) (a : A) → weightIf test w a ≤ w a
+  weight-at-most w a = by-test (test a) (λ h. omega (arith, weight-if w a h)) (λ h. omega (arith, weight-unless w a h))
+
+  -- Where nothing passes, what passes weighs nothing.
+  pub none-passes : (w : A → ℕ) (l : List A) → All (λ a. test a ≡ false) l → total (weightIf test w) l ≡ 0
+  none-passes w l h = total-zero (weightIf test w) l (all-imply (weight-unless w) l h)
+
+  -- An element that passes brings its weight.
+  passing-put-in : (w : A → ℕ) {a : A} {l m : List A} → Insert a l m → test a ≡ true → total (weightIf test w) m ≡ w a + total (weightIf test w) l
+  passing-put-in w {a = a} i h = omega (arith, total-put-in (weightIf test w) i, weight-if w a h)
+
+  -- Some element passes, or none does.
+  pub some-or-none-passes : (l : List A) → ((a : A) × List·Memᴰ a l × (test a ≡ true)) ⊎ All (λ a. test a ≡ false) l
+  some-or-none-passes [] = inr tt
+  some-or-none-passes (a ∷ l) = by-test (test a) (λ h. inl (a, List·Memᴰ·head refl, h))
+      (λ h. ⊎-elim (λ found. inl (found .0, List·Memᴰ·tail (found .1), found .2)) (λ none. inr (h, none)) (some-or-none-passes l))
+
+  -- Where none is counted, what passes weighs nothing.
+  none-counted : (w : A → ℕ) (l : List A) → total (weightIf test (λ _. 1)) l ≡ 0 → total (weightIf test w) l ≡ 0
+  none-counted w l none = ⊎-elim
+      (λ found. absurd (omega (arith, none, passing-put-in (λ _. 1) (taken-out (found .1) .1) (found .2))))
+      (none-passes w l)
+      (some-or-none-passes l)
+
+  -- Where at most one is counted, what passes weighs what a member that passes does.
+  pub the-only-one : (w : A → ℕ) {a : A} {l : List A} → total (weightIf test (λ _. 1)) l ≤ 1 → List·Memᴰ a l → test a ≡ true
+      → total (weightIf test w) l ≡ w a
+  the-only-one w once m h =
+      let (rest, i) = taken-out m in
+      omega (arith, passing-put-in w i h, none-counted w rest (omega (arith, passing-put-in (λ _. 1) i h)))

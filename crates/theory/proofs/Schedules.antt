@@ -3,56 +3,41 @@
 -- the window, and is given its cost in time, has had its cost there. So where every due time is met no window asks for more than its free ticks; and jobs that
 -- are due by L and cost more than the free ticks before L ask for too much in the window from zero to L.
 use Prim.Native.Nat.{ℕ, _+_, _≤_}
-use mathlib.Core.Path.{_≡_, refl, sym}
-use mathlib.Core.Logic.{_≢_}
+use mathlib.Core.Path.{_≡_, refl}
 use mathlib.Core.Bool.{Bool, true, false, cond}
 use mathlib.Core.Option.{Option, none, some}
-use mathlib.Core.List.{List, [], _∷_, flatten}
+use mathlib.Core.List.{List, flatten}
 use native.Mathlib.Omega.{arith}
 use native.Mathlib.Decide.{le-ind}
 use native.Mathlib.Nat.{le-refl}
-use borrow.Author.Tests.{eq-eqb, ne-eqb}
-use Rattle.theory.specs.Lists.{All, total}
+use Rattle.theory.specs.Lists.{All, total, weightIf}
 use Rattle.theory.specs.Jobs.{Job, DistinctNames, within, weighed, asked}
 use Rattle.theory.specs.Ticks.{freeBefore, free, had}
 use Rattle.theory.specs.Schedules.{unitsBefore, unitsIn, Meets, WindowsFit, Overload, OverloadOfSources}
-use Rattle.theory.proofs.Cases.{by-lt, by-eq}
-use Rattle.theory.proofs.Sums.{all-of, all-imply, all-flatten, total-flatten, total-plus, total-monotone, total-zero}
-use Rattle.theory.proofs.Weigh.{weight-inside, weight-early, weight-late}
+use Rattle.theory.proofs.Cases.{by-lt}
+use Rattle.theory.proofs.Lists.{all-of, all-imply, all-flatten, total-flatten, total-plus, total-monotone, total-zero}
+use Rattle.theory.proofs.Jobs.{weight-inside, weight-early, weight-late, at-most-one-named}
+use Rattle.theory.proofs.Ticks.{had-either-way}
 
 -- ---- one tick
 
--- The job that a tick goes to has it ..
-pub had-by-its-own : (n m : ℕ) → m ≡ n → had n (some m) ≡ 1
-had-by-its-own n m q = rw eq-eqb
-
--- .. and a job of another name has not.
-pub not-had-by-another : (n m : ℕ) → m ≢ n → had n (some m) ≡ 0
-not-had-by-another n m q = rw ne-eqb
-
--- A tick that goes to nobody is had by no job ..
+-- A tick that goes to nobody is had by no job.
 nobody-has-it : (js : List Job) → total (λ j. had (j .name) none) js ≡ 0
 nobody-has-it js = total-zero (λ j. had (j .name) none) js (all-of (λ j. refl) js)
 
--- .. and one that goes to m by none of jobs that all have other names.
-no-other-has-it : (m : ℕ) (js : List Job) → All (λ j. j .name ≢ m) js → total (λ j. had (j .name) (some m)) js ≡ 0
-no-other-has-it m js apart =
-    total-zero (λ j. had (j .name) (some m)) js (all-imply (λ j k. not-had-by-another (j .name) m (λ q. k (sym q))) js apart)
-
 -- Of jobs of distinct names at most one has a tick.
 one-has-it : (tick : Option ℕ) (js : List Job) → DistinctNames js → total (λ j. had (j .name) tick) js ≤ 1
-unfolding total
+unfolding weighed
 one-has-it none js distinct = omega (arith, nobody-has-it js)
-one-has-it (some m) [] distinct = omega arith
-one-has-it (some m) (j ∷ js) distinct = by-eq m (j .name)
-    (λ q. omega (arith, had-by-its-own (j .name) m q, no-other-has-it m js (rw q (distinct .0))))
-    (λ q. omega (arith, not-had-by-another (j .name) m q, one-has-it (some m) js (distinct .1)))
+one-has-it (some n) js distinct =
+    let same = total-monotone (λ j. had (j .name) (some n)) (λ j. had n (some (j .name))) js (all-of (λ j. omega (arith, had-either-way (j .name) n)) js) in
+    omega (arith, same, at-most-one-named n js distinct)
 
 -- ---- the ticks of a window
 
 -- What a job asks for in a window.
 abbrev cost-in : (a b : ℕ) → Job → ℕ
-cost-in a b j = cond (within a b j) (j .cost) 0
+cost-in a b = weightIf (within a b) (λ j. j .cost)
 
 module _ (taken : ℕ → Bool) (who : ℕ → Option ℕ) where
   -- What a job has of the tick t ..
@@ -93,9 +78,9 @@ module _ (taken : ℕ → Bool) (who : ℕ → Option ℕ) where
   unfolding unitsIn
   had-what-it-asked a b h j met =
       let grow = units-grow a b j h in
-      by-lt (j .release) a (λ k. omega (arith, weight-early a b j (j .cost) k)) λ k.
-      by-lt b (j .due) (λ l. omega (arith, weight-late a b j (j .cost) l)) λ l.
-      omega (arith, weight-inside a b j (j .cost) k l, units-grow a (j .release) j k, units-grow (j .due) b j l)
+      by-lt (j .release) a (λ k. omega (arith, weight-early (λ i. i .cost) a b j k)) λ k.
+      by-lt b (j .due) (λ l. omega (arith, weight-late (λ i. i .cost) a b j l)) λ l.
+      omega (arith, weight-inside (λ i. i .cost) a b j k l, units-grow a (j .release) j k, units-grow (j .due) b j l)
 
   -- .. and so it is with all jobs together.
   had-what-they-asked : (a b : ℕ) (js : List Job) → a ≤ b → Meets taken who js → asked a b js + total (has-before a) js ≤ total (has-before b) js
@@ -103,6 +88,7 @@ module _ (taken : ℕ → Bool) (who : ℕ → Option ℕ) where
   had-what-they-asked a b js h met = rw (← total-plus (cost-in a b) (has-before a) js)
       (total-monotone (λ j. cost-in a b j + has-before a j) (has-before b) js (all-imply (had-what-it-asked a b h) js met))
 
+-- So where every due time is met, no window asks for more than its free ticks.
 pub windows-fit : WindowsFit
 unfolding free
 windows-fit taken who js distinct met a b h = omega (arith, units-fit taken who a b js distinct h, had-what-they-asked taken who a b js h met)
@@ -113,11 +99,13 @@ windows-fit taken who js distinct met a b h = omega (arith, units-fit taken who 
 all-asked-by : (L : ℕ) (js : List Job) → All (λ j. j .due ≤ L) js → total (λ j. j .cost) js ≤ asked 0 L js
 unfolding weighed
 all-asked-by L js due =
-    total-monotone (λ j. j .cost) (cost-in 0 L) js (all-imply (λ j k. omega (arith, weight-inside 0 L j (j .cost) (omega arith) k)) js due)
+    total-monotone (λ j. j .cost) (cost-in 0 L) js (all-imply (λ j k. omega (arith, weight-inside (λ i. i .cost) 0 L j (omega arith) k)) js due)
 
+-- So they can't all be met where they cost more than the free ticks before L.
 pub overload : Overload
 overload taken L js distinct due more who met = omega (arith, all-asked-by L js due, windows-fit taken who js distinct met 0 L (omega arith))
 
+-- The same of the jobs of several sources.
 pub overload-of-sources : OverloadOfSources
 overload-of-sources taken L lists distinct due more =
     overload taken L (flatten lists) distinct (all-flatten (λ j. j .due ≤ L) lists due) (rw (total-flatten (λ j. j .cost) lists) more)

@@ -1,29 +1,56 @@
--- Counting free ticks: how the count before a time grows, and that it is the time itself where every tick is free.
-use Prim.Native.Nat.{ℕ, zero, suc, _+_, _-_, _≤_}
-use mathlib.Core.Path.{_≡_, refl}
+-- Counting ticks: how the count of free ticks before a time grows, and that it is the time itself where every tick is free; and which job has a tick.
+use Prim.Native.Nat.{ℕ, zero, suc, _≤_}
+use mathlib.Core.Path.{_≡_, refl, sym}
+use mathlib.Core.Logic.{_≢_}
 use mathlib.Core.Bool.{Bool, true, false}
+use mathlib.Core.Option.{some}
 use native.Mathlib.Omega.{arith}
 use native.Mathlib.Decide.{le-ind}
 use native.Mathlib.Nat.{le-refl}
-use Rattle.theory.specs.Ticks.{freeBefore, free, noneTaken, AllFree}
+use borrow.Author.Tests.{eq-eqb, ne-eqb}
+use Rattle.theory.specs.Ticks.{freeBefore, free, had, noneTaken, AllFree}
+use Rattle.theory.proofs.Cases.{by-eq}
 
+-- ---- free ticks
+
+-- Before a later time no fewer ticks are free.
 pub free-before-grows : (taken : ℕ → Bool) (a b : ℕ) → a ≤ b → freeBefore taken a ≤ freeBefore taken b
 unfolding freeBefore
 free-before-grows taken a b h = le-ind (λ m. freeBefore taken a ≤ freeBefore taken m) (le-refl _) (λ m l k. omega arith) b h
 
+-- A taken tick adds nothing to the count ..
 pub after-a-taken-tick : (taken : ℕ → Bool) (t : ℕ) → taken t ≡ true → freeBefore taken (suc t) ≡ freeBefore taken t
 unfolding freeBefore
 after-a-taken-tick taken t k = rw k (omega arith)
 
+-- .. and a free tick adds one.
 pub after-a-free-tick : (taken : ℕ → Bool) (t : ℕ) → taken t ≡ false → freeBefore taken (suc t) ≡ suc (freeBefore taken t)
 unfolding freeBefore
 after-a-free-tick taken t k = rw k (omega arith)
 
+-- Where every tick is free, so are all n before n.
 none-taken-before : (n : ℕ) → freeBefore noneTaken n ≡ n
 unfolding freeBefore
 none-taken-before zero = refl
 none-taken-before (suc n) = omega (arith, none-taken-before n)
 
+-- Where every tick is free, the free ticks of a window are its length.
 pub all-free : AllFree
 unfolding free
 all-free a b = rw (none-taken-before a, none-taken-before b)
+
+-- ---- who has a tick
+
+-- The job that a tick goes to has it ..
+pub had-by-its-own : (n m : ℕ) → m ≡ n → had n (some m) ≡ 1
+had-by-its-own n m q = rw eq-eqb
+
+-- .. and a job of another name has not.
+pub not-had-by-another : (n m : ℕ) → m ≢ n → had n (some m) ≡ 0
+not-had-by-another n m q = rw ne-eqb
+
+-- n has m's tick where m would have n's.
+pub had-either-way : (n m : ℕ) → had n (some m) ≡ had m (some n)
+had-either-way n m = by-eq m n
+    (λ q. omega (arith, had-by-its-own n m q, had-by-its-own m n (sym q)))
+    (λ q. omega (arith, not-had-by-another n m q, not-had-by-another m n (λ p. q (sym p))))

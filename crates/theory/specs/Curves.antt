@@ -22,6 +22,14 @@ pub record SmallestFailing (f : ℕ → ℕ) (L : ℕ) : Type 0 where
   pub fails : L < f L
   pub smaller-fit : (M : ℕ) → 1 ≤ M → M < L → f M ≤ M
 
+-- Every length up to n fits.
+abbrev pub FitsUpTo : (ℕ → ℕ) → ℕ → Type 0
+FitsUpTo f n = (L : ℕ) → 1 ≤ L → L ≤ n → f L ≤ L
+
+-- There is a smallest failing length, and it is at or below n.
+abbrev pub FailsUpTo : (ℕ → ℕ) → ℕ → Type 0
+FailsUpTo f n = (L : ℕ) × SmallestFailing f L × (L ≤ n)
+
 -- The sum of one function for each element of a list.
 abbrev pub sumOver : {A : Type 0} → (A → ℕ → ℕ) → List A → ℕ → ℕ
 sumOver f l L = total (λ a. f a L) l
@@ -37,25 +45,34 @@ SumsAreCurves = (A : Type 0) (f : A → ℕ → ℕ) (growth : A → ℕ) (start
 abbrev pub StartsLater : Type 0
 StartsLater = (f : ℕ → ℕ) (start later period growth : ℕ) → start ≤ later → Curve f start period growth → Curve f later period growth
 
--- Growth at most the period: the lengths up to period + start settle every length.
+-- Growth at most the period: the lengths up to period + start settle every length ..
 abbrev pub SettledWithinAPeriod : Type 0
 SettledWithinAPeriod = (f : ℕ → ℕ) (start period growth : ℕ) → Curve f start period growth → 1 ≤ period → growth ≤ period
-    → ((L : ℕ) → 1 ≤ L → L ≤ period + start → f L ≤ L) → EveryLengthFits f
+    → FitsUpTo f (period + start) → EveryLengthFits f
+
+-- .. and a smallest failing length is one of them.
+abbrev pub SmallestWithinAPeriod : Type 0
+SmallestWithinAPeriod = (f : ℕ → ℕ) (start period growth : ℕ) → Curve f start period growth → 1 ≤ period → growth ≤ period
+    → (L : ℕ) → SmallestFailing f L → L ≤ period + start
 
 -- Growth above the period: the length (start + 1) · period + start fails.
 abbrev pub FailsWhenGrowthIsAbove : Type 0
 FailsWhenGrowthIsAbove = (f : ℕ → ℕ) (start period growth : ℕ) → Curve f start period growth → period < growth
     → (start + 1) * period + start < f ((start + 1) * period + start)
 
--- A length at which a curve fails has a smallest one at or below it.
+-- Where a length fails, there is a smallest failing one at or below it.
 abbrev pub HasSmallestFailing : Type 0
-HasSmallestFailing = (f : ℕ → ℕ) (L : ℕ) → 1 ≤ L → L < f L → (M : ℕ) × SmallestFailing f M × (M ≤ L)
+HasSmallestFailing = (f : ℕ → ℕ) (L : ℕ) → 1 ≤ L → L < f L → FailsUpTo f L
 
--- A curve fits at every length, or has a smallest length at which it fails, which is at or below (start + 1) · period + start.
+-- Whatever the growth, every length fits, or there is a smallest failing one at or below (start + 1) · period + start.
 abbrev pub Decided : Type 0
 Decided = (f : ℕ → ℕ) (start period growth : ℕ) → Curve f start period growth → 1 ≤ period
-    → EveryLengthFits f ⊎ ((L : ℕ) × SmallestFailing f L × (L ≤ (start + 1) * period + start))
+    → EveryLengthFits f ⊎ FailsUpTo f ((start + 1) * period + start)
 
--- There is one smallest failing length at most, and none where every length fits.
+-- There is one smallest failing length at most ..
 abbrev pub OneSmallestFailing : Type 0
 OneSmallestFailing = (f : ℕ → ℕ) (L M : ℕ) → SmallestFailing f L → SmallestFailing f M → L ≡ M
+
+-- .. and none where every length fits.
+abbrev pub NoneWhereEveryLengthFits : Type 0
+NoneWhereEveryLengthFits = (f : ℕ → ℕ) (L : ℕ) → EveryLengthFits f → ¬ SmallestFailing f L

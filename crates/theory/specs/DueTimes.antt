@@ -1,7 +1,7 @@
--- Due times: the paper's recurrence (1). Up to x jobs of a row are due d after their release; each further one is due d after its release or y after the due
--- time of the x-th job before it, whichever is later. From this alone it follows that in any window a row's jobs cost no more than its demand, and releases
+-- Due times. Up to x jobs of a row are due d after their release; each further one is due d after its release or y after the due time of the x-th job before
+-- it, whichever is later: the paper's recurrence (1). From this alone it follows that in any window a row's jobs cost no more than its demand, and releases
 -- that all come at zero reach that bound. (docs/RULES.md, sections 4 and 5.)
-use Prim.Native.Nat.{ℕ, zero, suc, _+_, _-_, _*_, _≤_, _<_, max}
+use Prim.Native.Nat.{ℕ, zero, suc, _+_, _-_, _≤_, _<_, max}
 use mathlib.Core.Path.{_≡_}
 use mathlib.Core.Bool.{cond}
 use mathlib.Core.List.{List, [], _∷_, map}
@@ -15,7 +15,11 @@ use Rattle.theory.specs.Demand.{rowJobs, rowDemand}
 unfoldable pub dueTime : (x y d : ℕ) (earlier : List ℕ) (t : ℕ) → ℕ
 dueTime x y d earlier t = cond (ltb (length earlier) x) (t + d) (max (t + d) (getD earlier (x - 1) 0 + y))
 
--- The due times of jobs, in the jobs' order.
+-- The releases of jobs, in the jobs' order ..
+abbrev pub releases : List Job → List ℕ
+releases js = map (λ (j : Job). j .release) js
+
+-- .. and their due times.
 abbrev pub dues : List Job → List ℕ
 dues js = map (λ (j : Job). j .due) js
 
@@ -35,6 +39,15 @@ unfoldable pub ByRule : (x y d c : ℕ) → List Job → Type 0
 ByRule x y d c [] = Unit {0}
 ByRule x y d c (j ∷ earlier) = Next x y d c earlier j × ByRule x y d c earlier
 
+-- The paper's recurrence (1), in its own terms. Of n jobs of a row the j-th, counted from 1 in the order of release, is released at t j and due at D j.
+pub record RecurrenceOne (x y d n : ℕ) (t D : ℕ → ℕ) : Type 0 where
+  pub up-to-x : (j : ℕ) → 1 ≤ j → j ≤ x → j ≤ n → D j ≡ t j + d
+  pub past-x : (j : ℕ) → x < j → j ≤ n → D j ≡ max (t j + d) (D (j - x) + y)
+
+-- Of numbers that are listed newest first, the j-th to come, counted from 1.
+abbrev pub jth : List ℕ → (j : ℕ) → ℕ
+jth l j = getD l (length l - j) 0
+
 -- n jobs that are all released at zero at full cost, newest first; the first has the name `first`, and each later one the next name.
 unfoldable pub allAtZero : (x y d c source first n : ℕ) → List Job
 allAtZero x y d c source first zero = []
@@ -42,7 +55,11 @@ allAtZero x y d c source first (suc n) =
     record { name = first + n; source = source; release = 0; due = dueTime x y d (dues (allAtZero x y d c source first n)) 0; cost = c }
     ∷ allAtZero x y d c source first n
 
--- ---- what is proved of them (proofs/DueTimes.antt)
+-- ---- what is proved of the rule (proofs/DueTimes.antt)
+
+-- Due times by the rule are those of the paper's recurrence.
+abbrev pub DueByRecurrenceOne : Type 0
+DueByRecurrenceOne = (x y d c : ℕ) (js : List Job) → 1 ≤ x → ByRule x y d c js → RecurrenceOne x y d (length js) (jth (releases js)) (jth (dues js))
 
 -- Each job is due at least d after its release.
 abbrev pub DueAtLeastD : Type 0
@@ -53,33 +70,36 @@ abbrev pub DueSpacedByY : Type 0
 DueSpacedByY = (x y d c : ℕ) (js : List Job) → 1 ≤ x → ByRule x y d c js → (i : ℕ) → i + x < length js
     → getD (dues js) (i + x) 0 + y ≤ getD (dues js) i 0
 
--- A later job of a row is never due before an earlier one.
+-- An earlier job of a row is never due after a later one. (Behind the oldest, `getD` says 0.)
 abbrev pub DueInOrder : Type 0
-DueInOrder = (x y d c : ℕ) (js : List Job) → ByRule x y d c js → (i : ℕ) → i + 1 < length js
-    → getD (dues js) (i + 1) 0 ≤ getD (dues js) i 0
+DueInOrder = (x y d c : ℕ) (js : List Job) → ByRule x y d c js → (i k : ℕ) → i ≤ k → getD (dues js) k 0 ≤ getD (dues js) i 0
 
 -- The rule looks at the newest x due times only, so keeping those is enough.
 abbrev pub NewestAreEnough : Type 0
 NewestAreEnough = (x y d : ℕ) (earlier : List ℕ) (t : ℕ) → 1 ≤ x → dueTime x y d (take x earlier) t ≡ dueTime x y d earlier t
 
+-- ---- what is proved of windows (proofs/Windows.antt)
+
 -- In any window at most `rowJobs` jobs of a row are released and due ..
 abbrev pub JobsInAWindow : Type 0
-JobsInAWindow = (x y d c : ℕ) (js : List Job) → 1 ≤ x → 1 ≤ y → ByRule x y d c js → (a b : ℕ) → a ≤ b → jobsIn a b js ≤ rowJobs x y d (b - a)
+JobsInAWindow = (x y d c : ℕ) (js : List Job) → 1 ≤ x → 1 ≤ y → ByRule x y d c js → (a b : ℕ) → jobsIn a b js ≤ rowJobs x y d (b - a)
 
--- .. and of jobs that are all released at zero exactly so many are, if so many come: no smaller bound holds.
+-- .. so that what they cost is at most the row's demand in the window's length.
+abbrev pub RowIsBounded : Type 0
+RowIsBounded = (x y d c : ℕ) (js : List Job) → 1 ≤ x → 1 ≤ y → ByRule x y d c js → BoundedBy (rowDemand x y d c) js
+
+-- ---- what is proved of jobs that are all released at zero (proofs/AllAtZero.antt)
+
+-- They come by the rule, and exactly `rowJobs` of them are due within L, if so many come: no smaller bound holds.
 abbrev pub BoundIsReached : Type 0
 BoundIsReached = (x y d c source first L n : ℕ) → 1 ≤ x → 1 ≤ y → rowJobs x y d L ≤ n
     → ByRule x y d c (allAtZero x y d c source first n) × (jobsIn 0 L (allAtZero x y d c source first n) ≡ rowJobs x y d L)
 
--- In any window what a row's jobs released and due inside it cost is at most its demand in the window's length.
-abbrev pub RowIsBounded : Type 0
-RowIsBounded = (x y d c : ℕ) (js : List Job) → 1 ≤ x → 1 ≤ y → ByRule x y d c js → BoundedBy (rowDemand x y d c) js
-
--- Of jobs that are all released at zero, the first `rowJobs` are due within L.
+-- The first `rowJobs` of them are due within L ..
 abbrev pub FirstAreDueWithin : Type 0
 FirstAreDueWithin = (x y d c source first L n : ℕ) → 1 ≤ x → 1 ≤ y → n ≤ rowJobs x y d L → All (λ j. j .due ≤ L) (allAtZero x y d c source first n)
 
--- Together those cost the row's demand in L.
+-- .. and cost together the row's demand in L.
 abbrev pub FirstCostTheDemand : Type 0
 FirstCostTheDemand = (x y d c source first L : ℕ)
     → total (λ j. j .cost) (allAtZero x y d c source first (rowJobs x y d L)) ≡ rowDemand x y d c L

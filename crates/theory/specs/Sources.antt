@@ -1,12 +1,11 @@
 -- Sources. A source is any set of jobs whose cost in every window is at most a bound at the window's length; a row is one kind of source. Jobs that come from
 -- several sources cost in every window at most the sum of the bounds, whatever each source releases.
 use Prim.Native.Nat.{ℕ, suc, _+_, _≤_, _<_}
-use mathlib.Core.Path.{_≡_}
 use mathlib.Core.Bool.{cond}
 use mathlib.Core.List.{List, [], _∷_, flatten}
 use lib.Dec.{eqb}
 use lib.ListN.{length, getD}
-use Rattle.theory.specs.Lists.{All, total}
+use Rattle.theory.specs.Lists.{All}
 use Rattle.theory.specs.Curves.{sumOver}
 use Rattle.theory.specs.Jobs.{Job, DistinctNames, BoundedBy}
 use Rattle.theory.specs.DueTimes.{allAtZero}
@@ -28,15 +27,17 @@ pub record NumberedFrom (first : ℕ) (js : List Job) : Type 0 where
 
 -- ---- what is proved of them (proofs/Sources.antt)
 
--- What several sources ask for in a window is at most the sum of their bounds.
+-- What several sources ask for in a window is at most the sum of their bounds. (`other` stands past the end of the list, where no source is looked up.)
 abbrev pub SumOfSources : Type 1
-SumOfSources = (A : Type 0) (bound : A → ℕ → ℕ) (none : A) (sources : List A) (js : List Job) → All (λ j. j .source < length sources) js
-    → ((i : ℕ) → i < length sources → BoundedBy (bound (getD sources i none)) (own i js)) → BoundedBy (sumOver bound sources) js
+SumOfSources = (A : Type 0) (bound : A → ℕ → ℕ) (other : A) (sources : List A) (js : List Job) → All (λ j. j .source < length sources) js
+    → ((i : ℕ) → i < length sources → BoundedBy (bound (getD sources i other)) (own i js)) → BoundedBy (sumOver bound sources) js
 
 -- Jobs of several sources, each numbered from where the last ended, are numbered through: no two have one name.
 abbrev pub NumberedThrough : Type 1
 NumberedThrough = (A : Type 0) (jobs : (i first : ℕ) → A → List Job) → ((i first : ℕ) (a : A) → NumberedFrom first (jobs i first a))
     → (i first : ℕ) (l : List A) → NumberedFrom first (flatten (inTurn jobs i first l))
+
+-- ---- and of the jobs of a row (proofs/AllAtZero.antt)
 
 -- Jobs of a row that are all released at zero are so numbered.
 abbrev pub AllAtZeroAreNumbered : Type 0

@@ -2,16 +2,16 @@
 -- is taken, idles or gives a unit to *some* waiting job, a job leaves early. That the unit goes to an earliest due job, and that no tick idles while a job
 -- waits, are predicates on the trace, apart from it; another rule of choice is another predicate. The theorem: where earliest due goes first and nothing
 -- idles while a job waits, a job is late only if some window that ends then asked for more than its free ticks. (docs/RULES.md, section 6.)
-use Prim.Native.Nat.{ℕ, zero, suc, _+_, _-_, _≤_, _<_}
+use Prim.Native.Nat.{ℕ, suc, _+_, _≤_, _<_}
 use mathlib.Core.Path.{_≡_}
-use mathlib.Core.Logic.{_⊎_, _≢_}
-use mathlib.Core.Bool.{Bool, true, false, cond}
+use mathlib.Core.Logic.{_≢_}
+use mathlib.Core.Bool.{Bool, true, false}
 use mathlib.Core.Option.{Option, none, some}
 use mathlib.Core.List.{List, [], _∷_, List·Memᴰ}
-use lib.Dec.{leb}
 use lib.ListN.{length}
-use Rattle.theory.specs.Lists.{All, total, Insert}
-use Rattle.theory.specs.Jobs.{Job, DistinctNames, asked, BoundedBy}
+use Rattle.theory.specs.Lists.{All, total, weightIf, Insert}
+use Rattle.theory.specs.Curves.{EveryLengthFits}
+use Rattle.theory.specs.Jobs.{Job, DistinctNames, named, dueBy, costs, asked, BoundedBy}
 use Rattle.theory.specs.Ticks.{free, had, TakenAtMost}
 
 -- A job that waits, and how many units it has left to get.
@@ -56,6 +56,8 @@ pub data Trace (taken : ℕ → Bool) : (clock : ℕ) → List Waiting → List 
       → Trace taken t waiting accepted ticks left-early → (w : Waiting) → Insert w rest waiting
       → Trace taken t rest accepted ticks (w ∷ left-early)
 
+-- ---- rules of choice, as predicates on a trace
+
 module _ {taken : ℕ → Bool} where
   -- Every unit went to a job with the earliest due time of those that waited. Ties are broken in any way.
   unfoldable pub EarliestDueFirst : {t : ℕ} {waiting : List Waiting} {accepted : List Job} {ticks : List (Option ℕ)} {left-early : List Waiting}
@@ -77,31 +79,42 @@ module _ {taken : ℕ → Bool} where
   NeverIdlesInVain (serve r k j left from goes) = NeverIdlesInVain r
   NeverIdlesInVain (leave r w from) = NeverIdlesInVain r
 
--- What the jobs that wait and are due by D have left to get.
-unfoldable pub work : (D : ℕ) → List Waiting → ℕ
-work D waiting = total (λ w. cond (leb (w .job .due) D) (w .left) 0) waiting
+-- ---- words for what is proved
 
--- For the time D there is a window, begun by now, whose free ticks so far, with the work still due by D, were all asked for by jobs of the window.
+-- What the jobs of a kind that wait, or left early, have left to get.
+unfoldable pub unitsLeft : (kind : Job → Bool) → List Waiting → ℕ
+unitsLeft kind ws = total (weightIf (λ w. kind (w .job)) (λ w. w .left)) ws
+
+-- For the time D there is a window, begun by now, whose free ticks so far, with what the jobs due by D have left, were all asked for by jobs of the window.
 pub record Busy (taken : ℕ → Bool) (t : ℕ) (waiting : List Waiting) (accepted : List Job) (D : ℕ) : Type 0 where
   pub from : ℕ
   pub begun : from ≤ t
-  pub bound : work D waiting + free taken from t ≤ asked from D accepted
+  pub bound : unitsLeft (dueBy D) waiting + free taken from t ≤ asked from D accepted
 
--- What has become of an accepted job: it waits, and has had all but what is left; or it has had its cost; or it left early, and had then all but what was left.
-pub data Fate (j : Job) (waiting : List Waiting) (ticks : List (Option ℕ)) (left-early : List Waiting) : Type 0 where
-  waits : (left : ℕ) → 1 ≤ left → List·Memᴰ (record { job = j; left = left }) waiting → units (j .name) ticks + left ≡ j .cost
-      → Fate j waiting ticks left-early
-  served : units (j .name) ticks ≡ j .cost → Fate j waiting ticks left-early
-  ended : (left : ℕ) → 1 ≤ left → List·Memᴰ (record { job = j; left = left }) left-early → units (j .name) ticks + left ≡ j .cost
-      → Fate j waiting ticks left-early
-
--- A job that waits was accepted, and has had all but what is left, which is not nothing.
+-- A job that waits, or left early, was accepted, and has had all but what is left, which is not nothing.
 pub record Accounted (accepted : List Job) (ticks : List (Option ℕ)) (w : Waiting) : Type 0 where
   pub was-accepted : List·Memᴰ (w .job) accepted
   pub some-left : 1 ≤ w .left
   pub had-the-rest : units (w .job .name) ticks + w .left ≡ w .job .cost
 
--- ---- what is proved of them (proofs/Trace.antt and proofs/EarliestDue.antt)
+-- The job is among those that wait, or that left early, and has had all but what is left, which is not nothing.
+pub record Unfinished (j : Job) (ws : List Waiting) (ticks : List (Option ℕ)) : Type 0 where
+  pub left : ℕ
+  pub some-left : 1 ≤ left
+  pub among : List·Memᴰ (record { job = j; left = left }) ws
+  pub had-the-rest : units (j .name) ticks + left ≡ j .cost
+
+-- The job has had exactly its cost; or it left early, and has had all but what was left then.
+pub data ServedOrEnded (j : Job) (ticks : List (Option ℕ)) (left-early : List Waiting) : Type 0 where
+  served : units (j .name) ticks ≡ j .cost → ServedOrEnded j ticks left-early
+  ended : Unfinished j left-early ticks → ServedOrEnded j ticks left-early
+
+-- What has become of an accepted job: it waits, and has had all but what is left; or it was served or ended.
+pub data Fate (j : Job) (waiting : List Waiting) (ticks : List (Option ℕ)) (left-early : List Waiting) : Type 0 where
+  waits : Unfinished j waiting ticks → Fate j waiting ticks left-early
+  over : ServedOrEnded j ticks left-early → Fate j waiting ticks left-early
+
+-- ---- what is proved of every trace (proofs/Trace.antt)
 
 module _ (taken : ℕ → Bool) (t : ℕ) (waiting : List Waiting) (accepted : List Job) (ticks : List (Option ℕ)) (left-early : List Waiting) where
   -- One entry for each tick of the clock.
@@ -112,21 +125,33 @@ module _ (taken : ℕ → Bool) (t : ℕ) (waiting : List Waiting) (accepted : L
   abbrev pub ReleasedByTheClock : Type 0
   ReleasedByTheClock = Trace taken t waiting accepted ticks left-early → All (λ j. j .release ≤ t) accepted
 
+  -- No unit is lost or invented: of each name, the units given, what the waiting have left and what those that left early had left are together what the
+  -- accepted jobs cost. It holds whether or not names are distinct.
+  abbrev pub Conserved : Type 0
+  Conserved = Trace taken t waiting accepted ticks left-early
+      → (n : ℕ) → units n ticks + unitsLeft (named n) waiting + unitsLeft (named n) left-early ≡ costs (named n) accepted
+
   -- Ticks go to accepted jobs only.
   abbrev pub OnlyAcceptedHaveTicks : Type 0
   OnlyAcceptedHaveTicks = Trace taken t waiting accepted ticks left-early → (n : ℕ) → All (λ j. j .name ≢ n) accepted → units n ticks ≡ 0
 
-  -- No unit is lost or invented: each accepted job waits, or has had exactly its cost, or left early ..
+  -- Each accepted job waits, or has had exactly its cost, or left early ..
   abbrev pub EveryJobHasItsFate : Type 0
   EveryJobHasItsFate = Trace taken t waiting accepted ticks left-early → DistinctNames accepted → All (λ j. Fate j waiting ticks left-early) accepted
 
-  -- .. and what waits was accepted, and still has units to get.
+  -- .. what waits was accepted, and has had all but what is left ..
   abbrev pub WaitingAreAccounted : Type 0
   WaitingAreAccounted = Trace taken t waiting accepted ticks left-early → DistinctNames accepted → All (Accounted accepted ticks) waiting
+
+  -- .. and so it is with what left early.
+  abbrev pub LeftEarlyAreAccounted : Type 0
+  LeftEarlyAreAccounted = Trace taken t waiting accepted ticks left-early → DistinctNames accepted → All (Accounted accepted ticks) left-early
 
   -- No job ever has more than its cost.
   abbrev pub NeverMoreThanItsCost : Type 0
   NeverMoreThanItsCost = Trace taken t waiting accepted ticks left-early → DistinctNames accepted → All (λ j. units (j .name) ticks ≤ j .cost) accepted
+
+  -- ---- what is proved of earliest due first (proofs/EarliestDue.antt)
 
   -- The invariant of earliest due first.
   abbrev pub AlwaysBusy : Type 0
@@ -141,6 +166,5 @@ module _ (taken : ℕ → Bool) (t : ℕ) (waiting : List Waiting) (accepted : L
   abbrev pub InTime : Type 0
   InTime = (r : Trace taken t waiting accepted ticks left-early) → EarliestDueFirst r → NeverIdlesInVain r → DistinctNames accepted
       → (demand lost-ticks : ℕ → ℕ) → BoundedBy demand accepted → TakenAtMost lost-ticks taken
-      → demand 0 ≡ 0 → ((L : ℕ) → 1 ≤ L → demand L + lost-ticks L ≤ L)
-      → All (λ j. j .due ≤ t → (units (j .name) ticks ≡ j .cost)
-      ⊎ ((left : ℕ) × List·Memᴰ (record { job = j; left = left }) left-early × (units (j .name) ticks + left ≡ j .cost))) accepted
+      → demand 0 ≡ 0 → EveryLengthFits (λ L. demand L + lost-ticks L)
+      → All (λ j. j .due ≤ t → ServedOrEnded j ticks left-early) accepted
