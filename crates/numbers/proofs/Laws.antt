@@ -1,21 +1,27 @@
 -- The laws of the spelling are proved: what was written reads as the number, and what reads as a number is spelled by it. Both go by induction on the
 -- number of groups that are allowed.
 use mathlib.Core.Path.{_≡_, refl, sym, ap, _∙_}
-use Prim.Native.Nat.{ℕ, zero, suc, _+_, _-_, _*_, _/_, _%_, _^_, _≤_, _<_}
+use Prim.Native.Nat.{ℕ, zero, suc, _+_, _-_, _*_, _/_, _%_, _≤_, _<_}
 use native.Mathlib.Omega.{arith}
 use native.Mathlib.Decide.{decLe}
 use mathlib.Core.List.{List, [], _∷_, _++_, append-cancel-left}
 use mathlib.Core.Bool.{Bool, true, false}
-use lib.ListN.{length, getD, drop, length-append, length-drop}
+use lib.ListN.{length, drop, length-append, length-drop}
 use lib.Seq.{getD-drop, drop-drop, drop-append-seam}
 use lib.Dec.{ltb, leb, eqb}
-use borrow.Author.Tests.{lt-ltb, le-ltb, ne-eqb}
+use borrow.Author.Tests.{lt-ltb, le-ltb, leb-true, ne-eqb}
 use Rattle.numbers.specs.declared.Number.{Number}
 use Rattle.numbers.specs.declared.NumberRead.the-variants as answer
+use Rattle.numbers.specs.declared.Written.the-variants.{Length}
 use Rattle.numbers.specs.Spelling.{maxGroups, maxNumber, groupsOf, spelling}
-use Rattle.numbers.specs.Reading.{Spelt, number, superfluous-zero, asks-for-more, cut-off, before, spelt, answered, readAt, misspelledAt}
-use Rattle.numbers.specs.Laws.{Bytes, Spelled, ReadsBack, OneSpelling, SpellingLength, SpelledInBytes, SpellingsDiffer, NothingPastTheEnd}
+use Rattle.numbers.specs.Reading.{Spelt, number, superfluous-zero, asks-for-more, cut-off, before, spelt, answered}
+use Rattle.numbers.specs.Writing.{written}
+use Rattle.numbers.specs.Laws.{Bytes, Spelled, Wrote, LargestNumber, ReadsBack, LengthAnswered, WrittenReadsBack, OneSpelling}
+use Rattle.numbers.specs.Laws.{SpellingLength, SpelledInBytes, SpellingsDiffer, NothingPastTheEnd}
 use Rattle.numbers.proofs.Reading.{limit, limit-pos, spelt-cut}
+
+pub largest-number : LargestNumber
+largest-number = refl
 
 -- ---- the groups of a number
 
@@ -37,12 +43,13 @@ groups-enough (suc most) n h p = elim (decLe 128 n) [
 
 -- A number below 128 is one group ..
 pub spelling-last : (n : ℕ) → n < 128 → spelling n ≡ n ∷ []
-spelling-last n h = groups-last 5 n h
+spelling-last n h = groups-last (maxGroups - 1) n h
 
 -- .. and any other is a group with 128 added, and then the spelling of what is left.
 pub spelling-more : (n : ℕ) → n ≤ maxNumber → 128 ≤ n → spelling n ≡ (n % 128 + 128) ∷ spelling (n / 128)
 spelling-more n h l =
-    groups-more 5 n l ∙ ap (λ (t : List ℕ). (n % 128 + 128) ∷ t) (sym (groups-enough 5 (n / 128) (omega arith) (omega arith)))
+    let most = maxGroups - 1 in
+    groups-more most n l ∙ ap (λ (t : List ℕ). (n % 128 + 128) ∷ t) (sym (groups-enough most (n / 128) (omega arith) (omega arith)))
 
 groups-some : (most n : ℕ) → 1 ≤ length (groupsOf (suc most) n)
 groups-some most n = elim (decLe 128 n)
@@ -57,7 +64,7 @@ groups-most (suc most) n = elim (decLe 128 n) [
 ]
 
 pub spelling-length : SpellingLength
-spelling-length n = (groups-some 5 n, groups-most maxGroups n)
+spelling-length n = (groups-some (maxGroups - 1) n, groups-most maxGroups n)
 
 bytes-cons : (b : ℕ) (s : List ℕ) → b < 256 → Bytes s → Bytes (b ∷ s)
 bytes-cons b s h k zero = h
@@ -94,6 +101,24 @@ spelt-groups (suc most) n rest at h p = elim (decLe 128 n) [
 pub reads-back : ReadsBack
 reads-back front n rest h =
     rw (drop-append-seam, spelt-groups maxGroups n rest (length front) (omega arith) (omega arith))
+
+-- Of the four cases of the writer's two tests, one answers a length.
+by-tests : (n room took : ℕ) (in-range had-room : Bool) → leb n maxNumber ≡ in-range → leb (length (spelling n)) room ≡ had-room
+    → written n room ≡ Length took → Wrote n room took
+by-tests n room took true true p q e =
+    let z : took ≡ length (spelling n) = cc in
+    record { in-range = leb-true n maxNumber p; spelled = z; had-room = omega (arith, leb-true (length (spelling n)) room q) }
+by-tests n room took true false p q e = absurd (let z : _≡_ {A = ℕ} 0 1 = cc in omega arith)
+by-tests n room took false true p q e = absurd (let z : _≡_ {A = ℕ} 0 1 = cc in omega arith)
+by-tests n room took false false p q e = absurd (let z : _≡_ {A = ℕ} 0 1 = cc in omega arith)
+
+pub length-answered : LengthAnswered
+length-answered n room took e = by-tests n room took _ _ refl refl e
+
+pub written-reads-back : WrittenReadsBack
+written-reads-back n took buffer e =
+    let w = length-answered n (length buffer) took e in
+    reads-back [] n _ (w .in-range) ∙ ap (λ next. answer.Number (record { value = n; next = next })) (omega (arith, w .spelled))
 
 -- ---- what reads as a number
 
@@ -160,8 +185,8 @@ spelled-rest s rest at k h d e =
       in-range = h;
       stands-here = rw (e, ← drop-drop, d, drop-append-seam);
       ends = e;
-      forward = omega (arith, groups-some 5 (k .value));
-      within = omega (arith, groups-some 5 (k .value));
+      forward = omega (arith, spelling-length (k .value));
+      within = omega (arith, spelling-length (k .value));
     }
 
 pub one-spelling : OneSpelling

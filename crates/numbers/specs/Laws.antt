@@ -5,8 +5,10 @@ use mathlib.Core.List.{List, _++_}
 use lib.ListN.{length, getD, drop}
 use Rattle.numbers.specs.declared.Number.{Number}
 use Rattle.numbers.specs.declared.NumberRead.the-variants as answer
+use Rattle.numbers.specs.declared.Written.the-variants.{Length}
 use Rattle.numbers.specs.Spelling.{maxGroups, maxNumber, spelling}
 use Rattle.numbers.specs.Reading.{readAt, misspelledAt}
+use Rattle.numbers.specs.Writing.{written, bufferAfter}
 
 -- Every element of a list is a byte.
 abbrev pub Bytes : List ℕ → Type 0
@@ -20,10 +22,28 @@ pub record Spelled (s : List ℕ) (at : ℕ) (number : Number) : Type 0 where
   pub forward : at < number .next
   pub within : number .next ≤ length s
 
+-- The largest number is 2^42 − 1.
+abbrev pub LargestNumber : Type 0
+LargestNumber = maxNumber ≡ 4398046511103
+
 -- What is written reads back as itself, with anything before and after it.
 abbrev pub ReadsBack : Type 0
 ReadsBack = (front : List ℕ) (n : ℕ) (rest : List ℕ) → n ≤ maxNumber
     → readAt (front ++ (spelling n ++ rest)) (length front) ≡ answer.Number (record { value = n; next = length front + length (spelling n) })
+
+-- What a length says that the writer answered: the number is in range, its spelling has that length, and there was room for it.
+pub record Wrote (n room took : ℕ) : Type 0 where
+  pub in-range : n ≤ maxNumber
+  pub spelled : took ≡ length (spelling n)
+  pub had-room : took ≤ room
+
+abbrev pub LengthAnswered : Type 0
+LengthAnswered = (n room took : ℕ) → written n room ≡ Length took → Wrote n room took
+
+-- So a number that was written reads back at the buffer's start, and the next place is the length answered.
+abbrev pub WrittenReadsBack : Type 0
+WrittenReadsBack = (n took : ℕ) (buffer : List ℕ) → written n (length buffer) ≡ Length took
+    → readAt (bufferAfter (Length took) n buffer) 0 ≡ answer.Number (record { value = n; next = took })
 
 -- A place that reads as n holds exactly the spelling of n: one number has one spelling.
 abbrev pub OneSpelling : Type 0

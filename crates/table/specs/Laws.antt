@@ -13,7 +13,7 @@ use Rattle.table.specs.declared.TableAnswer.the-variants.{Accepted}
 use Rattle.table.specs.Limits.{maxRows, maxX, maxY, maxD, maxC, maxPeriod}
 use Rattle.table.specs.Period.{leastCommonMultiple, periodOf}
 use Rattle.table.specs.Rows.{rowInRange}
-use Rattle.table.specs.Tables.{tableOf, tableRead, InRange}
+use Rattle.table.specs.Tables.{rowsOf, tableOf, tableRead, InRange}
 
 -- The spelling of a row: its four values.
 abbrev pub spelledRow : Row → List ℕ
@@ -68,3 +68,23 @@ pub record AcceptedAs (s : List ℕ) (h : ℕ) (rows : List Row) : Type 0 where
 
 abbrev pub AcceptedIsSpelled : Type 0
 AcceptedIsSpelled = (s : List ℕ) (h : ℕ) → Bytes s → tableRead s .answer ≡ Accepted h → (rows : List Row) × AcceptedAs s h rows
+
+-- So no two acceptable tables have one spelling.
+abbrev pub SpellingsOfTablesDiffer : Type 0
+SpellingsOfTablesDiffer = (rows others : List Row) → Acceptable rows → Acceptable others → spelledTable rows ≡ spelledTable others → rows ≡ others
+
+-- The rows in use of a table that some rows make are these rows.
+abbrev pub RowsOfTable : Type 0
+RowsOfTable = (rows : List Row) → rowsOf (tableOf rows) ≡ rows
+
+-- What an accepted table is good for: its rows in use are those that were spelled, each is within its limits, and the period is positive, within its
+-- limit and a multiple of every y.
+pub record UsableRows (s : List ℕ) (h : ℕ) (rows : List Row) : Type 0 where
+  pub accepted-as : AcceptedAs s h rows
+  pub within-limits : (r : Row) → List·Memᴰ r rows → WithinLimits r
+  pub some-period : 1 ≤ h
+  pub most-period : h ≤ maxPeriod
+  pub divides-period : (r : Row) → List·Memᴰ r rows → r .y ∣ h
+
+abbrev pub AcceptedRowsAreUsable : Type 0
+AcceptedRowsAreUsable = (s : List ℕ) (h : ℕ) → Bytes s → tableRead s .answer ≡ Accepted h → UsableRows s h (rowsOf (tableRead s .table))

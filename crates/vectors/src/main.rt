@@ -1,0 +1,8 @@
+// The edges of docs/RULES.md: the proved calls work each of them out, and it is printed on a line of its own. What is printed is held to the file `stdout`.
+// Each topic has a file, with one function that prints all of it.
+mod numbers_edges;
+mod print;
+
+fn main() {
+    numbers_edges::all();
+}
