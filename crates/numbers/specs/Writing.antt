@@ -9,6 +9,10 @@ use Rattle.numbers.specs.declared.Written.{Written}
 use Rattle.numbers.specs.declared.Written.the-variants.{Length, Refused}
 use Rattle.numbers.specs.Spelling.{maxNumber, spelling}
 
+-- How many bytes a number's spelling takes; 25 for a number too big.
+abbrev pub lengthOf : ℕ → Written
+lengthOf n = cond (leb n maxNumber) (Length (length (spelling n))) (Refused NumberTooBig)
+
 -- The writer's answer, of a number and a buffer's length: 25 for a number too big, then 12 where its spelling has no room, else the spelling's length.
 abbrev pub written : (n room : ℕ) → Written
 written n room =

@@ -7,7 +7,7 @@ ghost use Prim.Native.Nat.{_≤_};
 ghost use lib.ListN.{length};
 ghost use Rattle.numbers.specs.Spelling.{maxGroups, maxNumber, spelling};
 ghost use Rattle.numbers.specs.Reading.{readAt, misspelledAt};
-ghost use Rattle.numbers.specs.Writing.{written, bufferAfter};
+ghost use Rattle.numbers.specs.Writing.{lengthOf, written, bufferAfter};
 
 // A number that was read, and the place after it.
 pub struct Number {
@@ -107,6 +107,16 @@ fn spelled_length(value: u64) -> usize
         n += 1;
     }
     n
+}
+
+// How many bytes a number takes: refusal 25 for one too big.
+pub fn length_of(value: u64) -> Written
+    ensures { λ r. ⌜ r ≡ lengthOf value ⌝ }
+{
+    if value > Number::MAX {
+        return Written::Refused(Refusal::NumberTooBig);
+    }
+    Written::Length(spelled_length(value))
 }
 
 // Writes a number at the start of the buffer and keeps the rest; refusal 25, then 12, with the buffer as it was.
