@@ -2,13 +2,15 @@
 use Prim.Native.Nat.{ℕ, _+_, _≤_, _<_}
 use mathlib.Core.Path.{_≡_}
 use mathlib.Core.Logic.{_↔_}
-use mathlib.Core.Bool.{true}
-use mathlib.Core.List.{List}
-use lib.ListN.{length, getD}
+use mathlib.Core.Bool.{true, cond}
+use mathlib.Core.List.{List, [], _∷_, _++_}
+use lib.ListN.{length, take, drop, set, getD}
 use Rattle.jobs.specs.declared.Job.{Job}
-use Rattle.jobs.specs.Places.{noJob}
+use Rattle.jobs.specs.declared.Pending.{Pending}
+use Rattle.jobs.specs.Places.{maxPlaces, noJob, emptyPending, jobsOf, used, without, put, takenOut}
 use Rattle.jobs.specs.Choice.{firstPlace}
-use Rattle.jobs.specs.Serials.{distinctSerials}
+use Rattle.jobs.specs.Units.{lastUnit, worked, after}
+use Rattle.jobs.specs.Serials.{distinctSerials, risingSerials}
 
 -- One job is due no later than another, and has no higher serial where they are due together.
 pub record NotAfter (a b : Job) : Type 0 where
@@ -20,6 +22,24 @@ pub record IsFirst (js : List Job) (place : ℕ) : Type 0 where
   pub inside : place < length js
   pub first : (i : ℕ) → i < length js → NotAfter (getD js place noJob) (getD js i noJob)
 
+-- All the places are there, and the count is not above them. What came from the empty one is so, and a value made in another way need not be.
+pub record WellFormed (p : Pending) : Type 0 where
+  pub all-places : length (p .places) ≡ maxPlaces
+  pub in-places : p .count ≤ maxPlaces
+
+-- Jobs after the one at a place got a unit: it is gone where that was its last, and else has one less to get. (6.10, 6.13)
+abbrev pub unitAt : List Job → (at : ℕ) → List Job
+unitAt js at = cond (lastUnit (getD js at noJob)) (without js at) (set js at (worked (getD js at noJob)))
+
+-- The serial of the job at a place.
+abbrev pub serialAt : List Job → ℕ → ℕ
+serialAt js i = getD js i noJob .serial .0
+
+-- Serials that rose still rise, and serials that were distinct still are.
+pub record KeepsSerials (js next : List Job) : Type 0 where
+  pub rising : risingSerials js ≡ true → risingSerials next ≡ true
+  pub distinct : distinctSerials js ≡ true → distinctSerials next ≡ true
+
 -- ---- what is proved (proofs/Laws.antt)
 
 -- The choice is a job with the earliest due time, the lowest serial among equals.
@@ -30,3 +50,75 @@ ChoiceIsFirst = (js : List Job) → 1 ≤ length js → IsFirst js (firstPlace j
 abbrev pub DistinctMeans : Type 0
 DistinctMeans = (js : List Job)
     → (distinctSerials js ≡ true) ↔ ((i k : ℕ) → i < k → k < length js → getD js i noJob .serial .0 ≡ getD js k noJob .serial .0 → ⊥)
+
+-- ---- jobs and their places
+
+-- All jobs are those before a place, the one there, and those after it ..
+abbrev pub JobAmongTheRest : Type 0
+JobAmongTheRest = (js : List Job) (i : ℕ) → i < length js → js ≡ take i js ++ (getD js i noJob ∷ drop (i + 1) js)
+
+-- .. those without the one there are the others, in their order ..
+abbrev pub WithoutIsTheRest : Type 0
+WithoutIsTheRest = (js : List Job) (i : ℕ) → without js i ≡ take i js ++ drop (i + 1) js
+
+-- .. and one less.
+abbrev pub WithoutIsOneLess : Type 0
+WithoutIsOneLess = (js : List Job) (i : ℕ) → i < length js → length (without js i) + 1 ≡ length js
+
+-- A place in use holds the job that is pending there.
+abbrev pub PlaceHoldsJob : Type 0
+PlaceHoldsJob = (p : Pending) (i : ℕ) → i < used p → getD (p .places) i noJob ≡ getD (jobsOf p) i noJob
+
+-- Where something is pending, the place of the job that goes first is in use.
+abbrev pub FirstIsThere : Type 0
+FirstIsThere = (p : Pending) → 1 ≤ used p → firstPlace (jobsOf p) < used p
+
+-- ---- what each change makes of the jobs
+
+-- A job that is put in comes last. (6.7)
+abbrev pub PutAddsOne : Type 0
+PutAddsOne = (p : Pending) (j : Job) → WellFormed p → p .count < maxPlaces → jobsOf (put p j) ≡ jobsOf p ++ (j ∷ [])
+
+-- A job that is taken out is gone, and the others stay in their order. (6.13)
+abbrev pub TakenOutIsWithout : Type 0
+TakenOutIsWithout = (p : Pending) (at : ℕ) → jobsOf (takenOut p at) ≡ without (jobsOf p) at
+
+-- A unit changes the job that gets it and nothing else. (6.17)
+abbrev pub AfterAUnit : Type 0
+AfterAUnit = (p : Pending) (at : ℕ) → at < used p → jobsOf (after p at) ≡ unitAt (jobsOf p) at
+
+-- The empty one is well formed, and what each change makes of a well-formed one is.
+abbrev pub EmptyIsWellFormed : Type 0
+EmptyIsWellFormed = WellFormed emptyPending
+
+abbrev pub PutKeepsForm : Type 0
+PutKeepsForm = (p : Pending) (j : Job) → WellFormed p → WellFormed (put p j)
+
+abbrev pub TakenOutKeepsForm : Type 0
+TakenOutKeepsForm = (p : Pending) (at : ℕ) → WellFormed p → WellFormed (takenOut p at)
+
+abbrev pub AfterKeepsForm : Type 0
+AfterKeepsForm = (p : Pending) (at : ℕ) → WellFormed p → WellFormed (after p at)
+
+-- ---- what each change makes of the serials
+
+-- The look at neighbours means that of any two jobs the later has the higher serial ..
+abbrev pub RisingMeans : Type 0
+RisingMeans = (js : List Job) → (risingSerials js ≡ true) ↔ ((i k : ℕ) → i < k → k < length js → serialAt js i < serialAt js k)
+
+-- .. so that no two have one serial.
+abbrev pub RisingIsDistinct : Type 0
+RisingIsDistinct = (js : List Job) → risingSerials js ≡ true → distinctSerials js ≡ true
+
+-- A job whose serial is above all others keeps them where it is put in ..
+abbrev pub PutKeepsSerials : Type 0
+PutKeepsSerials = (p : Pending) (j : Job) → WellFormed p → ((i : ℕ) → i < used p → serialAt (jobsOf p) i < j .serial .0)
+    → KeepsSerials (jobsOf p) (jobsOf (put p j))
+
+-- .. any job where it is taken out ..
+abbrev pub TakenOutKeepsSerials : Type 0
+TakenOutKeepsSerials = (p : Pending) (at : ℕ) → KeepsSerials (jobsOf p) (jobsOf (takenOut p at))
+
+-- .. and where it gets a unit. So the serials of a run that came from a fresh one are seen to be distinct in one look.
+abbrev pub AfterKeepsSerials : Type 0
+AfterKeepsSerials = (p : Pending) (at : ℕ) → at < used p → KeepsSerials (jobsOf p) (jobsOf (after p at))

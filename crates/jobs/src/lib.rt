@@ -6,6 +6,7 @@ use kinds::Serial;
 use kinds::Tick;
 ghost use mathlib.Core.Path.{_≡_};
 ghost use mathlib.Core.Bool.{not};
+ghost use mathlib.Core.List.{[]};
 ghost use Prim.Native.Nat.{_+_, _≤_, _<_, min};
 ghost use lib.ListN.{take, drop, getD};
 ghost use Rattle.jobs.specs.Places.{maxPlaces, noJob, emptyPending, jobsOf, put, takenOut};
@@ -13,7 +14,7 @@ ghost use Rattle.jobs.specs.Choice.{goesBefore, choiceOf};
 ghost use Rattle.jobs.specs.Units.{given};
 ghost use Rattle.jobs.specs.Late.{isLate, lateCount};
 ghost use Rattle.jobs.specs.Serials.{hasNot, distinctSerials, risingSerials};
-ghost use Rattle.jobs.specs.Turns.{finishAt, noFinish, ticksFrom};
+ghost use Rattle.jobs.specs.Turns.{finishAt, noFinish, finishesOf, ticksFrom};
 
 // A pending job: what it asked for, and the units that it has left to get.
 pub struct Job {
@@ -179,6 +180,19 @@ fn no_finish() -> Finish
     finish_of(no_job(), 0)
 }
 
+impl Finishes {
+    // No job finished.
+    pub fn none() -> Finishes
+        ensures { λ r. ⌜ r ≡ finishesOf [] ⌝ }
+    {
+        let nothing = no_finish();
+        Finishes {
+            records: [nothing; Pending::PLACES],
+            count: 0,
+        }
+    }
+}
+
 impl Pending {
     pub const PLACES: usize = 64;
 
@@ -337,11 +351,7 @@ impl Pending {
         let mut now = clock.0;
         let mut turn = Turn::Idle;
         let mut late: u64 = 0;
-        let nothing = no_finish();
-        let mut finishes = Finishes {
-            records: [nothing; Pending::PLACES],
-            count: 0,
-        };
+        let mut finishes = Finishes::none();
         while now < until.0 {
             if count == 0 {
                 break;
@@ -349,21 +359,21 @@ impl Pending {
             now += 1;
             // the choice, as in `choice`
             let mut at: usize = 0;
-            let mut job = p.places[0];
+            let mut best = p.places[0];
             let mut i: usize = 1;
             while i < count {
-                let other = p.places[i];
-                if goes_before(other, job) {
+                let job = p.places[i];
+                if goes_before(job, best) {
                     at = i;
-                    job = other;
+                    best = job;
                 }
                 i += 1;
             }
-            let serial = job.serial;
-            if job.left <= 1 {
+            let serial = best.serial;
+            if best.left <= 1 {
                 // taken out, as in `take_out`
                 let done = finishes.count;
-                let finish = finish_of(job, now);
+                let finish = finish_of(best, now);
                 finishes.records[done] = finish;
                 finishes.count = done + 1;
                 count -= 1;
@@ -380,8 +390,8 @@ impl Pending {
                     finished: Finished::Yes,
                 });
             } else {
-                job.left -= 1;
-                p.places[at] = job;
+                best.left -= 1;
+                p.places[at] = best;
                 turn = Turn::Ran(Ran {
                     serial,
                     finished: Finished::No,

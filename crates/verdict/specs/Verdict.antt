@@ -45,7 +45,7 @@ Scanned f first last (scan.Fails w) =
     (first ≤ w .length) × (w .length ≤ last) × (w .length < f (w .length)) × (w .demand ≡ f (w .length))
     × ((M : ℕ) → first ≤ M → M < w .length → f M ≤ M)
 
--- ---- what is proved (proofs/Verdict.antt)
+-- ---- what is proved (proofs/Verdicts.antt)
 
 -- At most one verdict is right of the bytes ..
 abbrev pub OneVerdict : Type 0
@@ -54,3 +54,11 @@ OneVerdict = (s : List ℕ) (v w : Verdict) → Judged s v → Judged s w → v 
 -- .. and some verdict is.
 abbrev pub SomeVerdict : Type 0
 SomeVerdict = (s : List ℕ) → Bytes s → (v : Verdict) × Judged s v
+
+-- Outside, no verdict is known by the number 0 ..
+abbrev pub NeverSaysZero : Type 0
+NeverSaysZero = (v : Verdict) → 1 ≤ verdictSays v .number
+
+-- .. and different verdicts say different things.
+abbrev pub SaidApart : Type 0
+SaidApart = (v w : Verdict) → verdictSays v ≡ verdictSays w → v ≡ w

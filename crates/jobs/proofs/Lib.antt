@@ -1,0 +1,6 @@
+pub mod Places
+pub mod First
+pub mod Late
+pub mod Turns
+pub mod Serials
+pub mod Laws

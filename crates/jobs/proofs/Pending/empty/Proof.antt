@@ -1,0 +1,13 @@
+-- `Pending::empty` meets its contract: every place holds no job.
+use borrow.Author.Needs.{needs}
+use Rattle.jobs.proofs.Pending.empty.Statement.{statement}
+use Rattle.jobs.proofs.Pending.empty.Tie as tie
+
+no-job-requires : tie.Need-no-job-requires
+no-job-requires c κs = search needs
+
+returns : tie.Need-returns
+returns c = cc
+
+pub empty-spec : {M : Type 1} → statement M
+empty-spec = tie.close (tie.spec no-job-requires returns)

@@ -1,0 +1,5 @@
+pub mod Rows
+pub mod Bounds
+pub mod Laws
+pub mod Accepted
+pub mod Verdicts

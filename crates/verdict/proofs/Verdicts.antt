@@ -1,0 +1,90 @@
+-- One verdict at most is right of any bytes, and some verdict is. Outside, different verdicts say different things, and none says 0.
+use Prim.Native.Nat.{ℕ, _≤_}
+use mathlib.Core.Path.{_≡_, refl, sym, ap, ap₂, _∙_}
+use mathlib.Core.Logic.{⊎-elim}
+use native.Mathlib.Omega.{arith}
+use Rattle.kinds.specs.declared.RefusedAt.{RefusedAt}
+use Rattle.kinds.specs.Numbering.{Said, refusalNumber}
+use Rattle.kinds.proofs.Numbering.{never-zero, never-an-answer, numbers-differ}
+use Rattle.theory.proofs.Curves.{decided, one-smallest-failing, none-where-every-length-fits}
+use Rattle.table.specs.declared.Table.{Table}
+use Rattle.table.specs.declared.TableAnswer.{TableAnswer}
+use Rattle.table.specs.declared.TableAnswer.the-variants as answer
+use Rattle.table.specs.Tables.{tableRead}
+use Rattle.verdict.specs.declared.Witness.{Witness}
+use Rattle.verdict.specs.declared.Verdict.{Verdict}
+use Rattle.verdict.specs.declared.Verdict.the-variants as verdict
+use Rattle.verdict.specs.Demand.{tableDemand, tableGrowth, largestD}
+use Rattle.verdict.specs.Verdict.{RightOf, RightOfRead, verdictSays, OneVerdict, SomeVerdict, NeverSaysZero, SaidApart}
+use Rattle.verdict.proofs.Accepted.{Known, accepted-is-known}
+
+-- A witness is its length and its demand.
+same-witness : (v w : Witness) → v .length ≡ w .length → v .demand ≡ w .demand → v ≡ w
+same-witness v w = ap₂ (λ l d. record { length = l; demand = d })
+
+-- ---- one verdict
+
+-- At most one is right of a table ..
+one-right : (t : Table) (v w : Verdict) → RightOf t v → RightOf t w → v ≡ w
+one-right t verdict.Feasible verdict.Feasible p q = refl
+one-right t verdict.Feasible (verdict.Overloaded w) p q = absurd (none-where-every-length-fits (tableDemand t) (w .length) p (q .0))
+one-right t verdict.Feasible (verdict.Refused r) p q = absurd q
+one-right t (verdict.Overloaded v) verdict.Feasible p q = absurd (none-where-every-length-fits (tableDemand t) (v .length) q (p .0))
+one-right t (verdict.Overloaded v) (verdict.Overloaded w) p q =
+    let length : v .length ≡ w .length = one-smallest-failing (tableDemand t) (v .length) (w .length) (p .0) (q .0) in
+    let demand : v .demand ≡ w .demand = p .1 ∙ rw length (sym (q .1)) in
+    ap verdict.Overloaded (same-witness v w length demand)
+one-right t (verdict.Overloaded v) (verdict.Refused r) p q = absurd q
+one-right t (verdict.Refused r) w p q = absurd p
+
+-- .. and so of what was read.
+one-right-of-read : (t : Table) (a : TableAnswer) (v w : Verdict) → RightOfRead t a v → RightOfRead t a w → v ≡ w
+one-right-of-read t (answer.Accepted period) v w p q = one-right t v w p q
+one-right-of-read t (answer.Refused r) v w p q = p ∙ sym q
+
+pub one-verdict : OneVerdict
+one-verdict s v w p q = one-right-of-read (tableRead s .table) (tableRead s .answer) v w p q
+
+-- ---- some verdict
+
+-- A table that was accepted fits at every length, or has a smallest length that fails.
+some-right : (t : Table) (period : ℕ) → Known t period → (v : Verdict) × RightOf t v
+some-right t period known = ⊎-elim
+    (λ fits. (verdict.Feasible, fits))
+    (λ s. (verdict.Overloaded (record { length = s .0; demand = tableDemand t (s .0) }), (s .1, refl)))
+    (decided (tableDemand t) (largestD t) period (tableGrowth t period) (known .curve) (known .some-period))
+
+pub some-verdict : SomeVerdict
+some-verdict s bytes = right (tableRead s .answer) refl
+  where
+    right : (a : TableAnswer) → tableRead s .answer ≡ a → (v : Verdict) × RightOfRead (tableRead s .table) a v
+    right (answer.Accepted period) e = some-right (tableRead s .table) period (accepted-is-known s period bytes e)
+    right (answer.Refused r) e = (verdict.Refused r, refl)
+
+-- ---- what a verdict says
+
+pub never-says-zero : NeverSaysZero
+never-says-zero verdict.Feasible = omega arith
+never-says-zero (verdict.Overloaded w) = omega arith
+never-says-zero (verdict.Refused r) = never-zero (r .refusal)
+
+-- No refusal has an answer's number.
+no-answer : (r : RefusedAt) → 20 ≤ refusalNumber (r .refusal) → refusalNumber (r .refusal) ≤ 23 → ⊥
+no-answer r least most = ⊎-elim (λ h. omega arith) (λ h. omega arith) (never-an-answer (r .refusal))
+
+-- Verdicts that agree in the three numbers that are said are one.
+same-said : (v w : Verdict) → verdictSays v .number ≡ verdictSays w .number → verdictSays v .first ≡ verdictSays w .first
+    → verdictSays v .second ≡ verdictSays w .second → v ≡ w
+same-said verdict.Feasible verdict.Feasible n f s = refl
+same-said verdict.Feasible (verdict.Overloaded w) n f s = absurd (omega arith)
+same-said verdict.Feasible (verdict.Refused r) n f s = absurd (no-answer r (omega arith) (omega arith))
+same-said (verdict.Overloaded v) verdict.Feasible n f s = absurd (omega arith)
+same-said (verdict.Overloaded v) (verdict.Overloaded w) n f s = ap verdict.Overloaded (same-witness v w f s)
+same-said (verdict.Overloaded v) (verdict.Refused r) n f s = absurd (no-answer r (omega arith) (omega arith))
+same-said (verdict.Refused q) verdict.Feasible n f s = absurd (no-answer q (omega arith) (omega arith))
+same-said (verdict.Refused q) (verdict.Overloaded w) n f s = absurd (no-answer q (omega arith) (omega arith))
+same-said (verdict.Refused q) (verdict.Refused r) n f s =
+    ap₂ (λ kind place. verdict.Refused (record { refusal = kind; place = place })) (numbers-differ (q .refusal) (r .refusal) n) f
+
+pub said-apart : SaidApart
+said-apart v w e = same-said v w (ap (λ (s : Said). s .number) e) (ap (λ (s : Said). s .first) e) (ap (λ (s : Said). s .second) e)
