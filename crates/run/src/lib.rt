@@ -114,10 +114,8 @@ fn job_fits(job: Job, most: u64, clock: Tick, next: Serial) -> bool
     ensures { λ r. ⌜ r ≡ jobFits most (clock .0) (next .0) job ⌝ }
 {
     (job.release.0 <= clock.0)
-        & (1 <= job.cost)
-        & (job.cost <= most)
-        & (1 <= job.left)
-        & (job.left <= job.cost)
+        & ((1 <= job.cost) & (job.cost <= most))
+        & ((1 <= job.left) & (job.left <= job.cost))
         & (job.due.0 <= Tick::MAX)
         & (job.serial.0 < next.0)
 }
