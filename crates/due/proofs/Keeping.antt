@@ -51,10 +51,11 @@ module _ (k : Kept) (n : ℕ) (used : length (keptTimes k) ≡ n) where
   kept-first : keptTimes k ≡ take n (k .times)
   kept-first = sym (take-as-many (k .count) (k .times)) ∙ ap (λ m. take m (k .times)) used
 
-  -- .. which has so many.
+  -- .. which has so many ..
   kept-inside : n ≤ length (k .times)
   kept-inside = omega (arith, length-take (k .count) (k .times))
 
+  -- .. and each stands at its place.
   kept-at : (i : ℕ) → i < n → getD (keptTimes k) i noTime ≡ getD (k .times) i noTime
   kept-at i h = ap (λ l. getD l i noTime) kept-first ∙ getD-take n (k .times) i noTime h
 

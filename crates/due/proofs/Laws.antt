@@ -12,15 +12,15 @@ use borrow.Author.Tests.{leb-true, le-leb, lt-leb}
 use Rattle.kinds.specs.Numbering.{maxTime}
 use Rattle.kinds.specs.declared.Tick.{Tick}
 use Rattle.kinds.specs.declared.Refusal.the-variants.{ValueOutOfRange, DueTooLate}
-use Rattle.theory.proofs.Cases.{by-lt}
 use Rattle.theory.specs.DueTimes.{dueTime}
+use Rattle.theory.proofs.Cases.{by-lt}
 use Rattle.theory.proofs.DueTimes.{newest-are-enough}
 use Rattle.table.specs.declared.Row.{Row}
 use Rattle.table.specs.Rows.{rowInRange}
 use Rattle.table.proofs.Laws.{in-range-means}
 use Rattle.due.specs.declared.Kept.{Kept}
 use Rattle.due.specs.declared.Due.the-variants as due
-use Rattle.due.specs.Kept.{nothingKept, keptTimes, earlier, dueOf, keptAs, keptWith, noneTooLate, keptSound}
+use Rattle.due.specs.Kept.{nothingKept, keptTimes, earlier, notTooLate, dueOf, keptAs, keptWith, noneTooLate, keptSound}
 use Rattle.due.specs.Laws.{StartsEmpty, KeepsOnKeeping, DueIsThePapers, GivenMeans, TooLateMeans, OutOfRangeMeans, SoundMeans, EmptyIsSound, StaysSound}
 use Rattle.due.proofs.Lists.{take-reverse, map-last-ones, last-ones-few}
 use Rattle.due.proofs.Keeping.{noTime, number, byRule, newestWith, kept-with, sound-count}
@@ -55,8 +55,8 @@ take-behind (suc n) a l = ap (λ m. a ∷ m) (take-take n (suc n) l (omega arith
 pub keeps-on-keeping : KeepsOnKeeping
 keeps-on-keeping k r history t fine kept =
     let with-one : keptWith k r t ≡ keptAs k (newestWith k r t) = kept-with k r t fine in
-    let room : length (newestWith k r t) ≤ length (k .times) =
-    omega (arith, last-ones-few (r .x) (keptTimes k ++ (t ∷ [])), in-range-means r .0 fine .most-x, kept .all-places) in
+    let few = last-ones-few (r .x) (keptTimes k ++ (t ∷ [])) in
+    let room : length (newestWith k r t) ≤ length (k .times) = omega (arith, few, in-range-means r .0 fine .most-x, kept .all-places) in
     record {
       all-places = ap (λ m. length (m .times)) with-one ∙ places-as k (newestWith k r t) room ∙ kept .all-places;
       newest =
@@ -73,22 +73,30 @@ due-is-the-papers k r history t fine kept =
 
 -- ---- each answer exactly when it should be
 
+-- A due time that is in time is given ..
+in-time-given : (v : ℕ) → v ≤ maxTime → notTooLate v ≡ due.At (record { 0 = v })
+in-time-given v h = rw (le-leb v maxTime h)
+
+-- .. and any other refused.
+late-refused : (v : ℕ) → maxTime < v → notTooLate v ≡ due.Refused DueTooLate
+late-refused v h = rw (lt-leb v maxTime h)
+
 module _ (k : Kept) (r : Row) (t : ℕ) where
-  -- A row out of range is refused.
+  -- A row out of range has none ..
   no-due : rowInRange r ≡ false → dueOf k r t ≡ due.Refused ValueOutOfRange
   unfolding dueOf
   no-due e = rw e
 
   module _ (fine : rowInRange r ≡ true) where
-    -- For a row in range a due time is given ..
+    -- .. and for a row in range it is given ..
     due-given : byRule k r t ≤ maxTime → dueOf k r t ≡ due.At (record { 0 = byRule k r t })
     unfolding dueOf
-    due-given h = rw (fine, le-leb (byRule k r t) maxTime h)
+    due-given h = rw fine (in-time-given (byRule k r t) h)
 
     -- .. unless it is too late.
     due-refused : maxTime < byRule k r t → dueOf k r t ≡ due.Refused DueTooLate
     unfolding dueOf
-    due-refused h = rw (fine, lt-leb (byRule k r t) maxTime h)
+    due-refused h = rw fine (late-refused (byRule k r t) h)
 
   -- The three cases, each with its answer.
   by-answer : {G : Type 0}
@@ -101,7 +109,7 @@ module _ (k : Kept) (r : Row) (t : ℕ) where
       go true e = by-lt maxTime (byRule k r t) (λ h. late e h (due-refused e h)) (λ h. given e h (due-given e h))
       go false e = out e (no-due e)
 
--- Two answers in one case cannot be.
+-- Two answers at once can't be.
 never : {G : Type 0} → _≡_ {A = ℕ} 0 1 → G
 never e = absurd (omega arith)
 
@@ -133,10 +141,11 @@ both-true : (a b : Bool) → (a && b) ≡ true → (a ≡ true) × (b ≡ true)
 both-true true b e = (refl, e)
 both-true false b e = (cc, cc)
 
--- None of a list is too late: the first is not, and none of the others.
+-- Where none of a list is too late, the first is not, nor any behind it ..
 none-late-parts : (t : Tick) (l : List Tick) → noneTooLate (t ∷ l) ≡ true → (t .0 ≤ maxTime) × (noneTooLate l ≡ true)
 none-late-parts t l e = let b = both-true (leb (t .0) maxTime) (noneTooLate l) e in (leb-true (t .0) maxTime (b .0), b .1)
 
+-- .. and the other way round.
 none-late-whole : (t : Tick) (l : List Tick) → t .0 ≤ maxTime → noneTooLate l ≡ true → noneTooLate (t ∷ l) ≡ true
 none-late-whole t l h e = rw (le-leb (t .0) maxTime h, e)
 
@@ -151,7 +160,7 @@ in-time-all : (l : List Tick) → ((i : ℕ) → i < length l → getD l i noTim
 in-time-all [] f = refl
 in-time-all (t ∷ l) f = none-late-whole t l (f 0 (omega arith)) (in-time-all l (λ i h. f (suc i) (omega arith)))
 
--- What is sound is not too many, none of them too late.
+-- Sound: not too many are counted, and none is too late.
 sound-parts : (k : Kept) (r : Row) → keptSound k r ≡ true → (k .count ≤ r .x) × (noneTooLate (keptTimes k) ≡ true)
 unfolding keptSound
 sound-parts k r e = let b = both-true (leb (k .count) (r .x)) (noneTooLate (keptTimes k)) e in (leb-true (k .count) (r .x) (b .0), b .1)
@@ -165,12 +174,12 @@ sound-means k r = (
 pub empty-is-sound : EmptyIsSound
 empty-is-sound r = sound-count nothingKept r (omega arith)
 
--- One more that is in time makes none too late ..
+-- One more that is in time leaves none too late ..
 none-late-and-one : (l : List Tick) (t : Tick) → noneTooLate l ≡ true → t .0 ≤ maxTime → noneTooLate (l ++ (t ∷ [])) ≡ true
 none-late-and-one [] t e h = none-late-whole t [] h refl
 none-late-and-one (s ∷ l) t e h = let p = none-late-parts s l e in none-late-whole s (l ++ (t ∷ [])) (p .0) (none-late-and-one l t (p .1) h)
 
--- .. nor does leaving out the first n.
+-- .. and so does dropping the first n.
 none-late-drop : (n : ℕ) (l : List Tick) → noneTooLate l ≡ true → noneTooLate (drop n l) ≡ true
 none-late-drop zero l e = e
 none-late-drop (suc n) [] e = e

@@ -1,6 +1,6 @@
 -- The kept due times of a row, and the due time of a release. The rule itself is the paper's recurrence, `dueTime` of the theory; what is kept is as much of
 -- a row's history as the rule looks at. (docs/RULES.md, section 4.)
-use Prim.Native.Nat.{ℕ, _+_, _-_}
+use Prim.Native.Nat.{ℕ, _-_}
 use mathlib.Core.Bool.{Bool, true, cond, _&&_}
 use mathlib.Core.List.{List, [], _∷_, _++_, map, reverse}
 use lib.Dec.{leb}

@@ -1,9 +1,10 @@
--- The latest time of all, and the numbers that refusals are known by. (docs/RULES.md, sections 6 and 10.)
+-- The latest time of all, the numbers that refusals are known by, and what an answer says outside. (docs/RULES.md, sections 6, 9 and 10.)
 use Prim.Native.Nat.{ℕ, _^_, _≤_, _<_}
 use mathlib.Core.Path.{_≡_}
 use mathlib.Core.Logic.{_⊎_}
 use Rattle.kinds.specs.declared.Refusal.{Refusal}
 use Rattle.kinds.specs.declared.Refusal.the-variants as refusal
+use Rattle.kinds.specs.declared.RefusedAt.{RefusedAt}
 
 -- No clock, script time or due time is ever later.
 abbrev pub maxTime : ℕ
@@ -27,7 +28,17 @@ refusalNumber refusal.AnswerSize = 13
 refusalNumber refusal.ScriptMisspelled = 14
 refusalNumber refusal.NumberTooBig = 25
 
--- ---- what is proved of them (proofs/Numbering.antt)
+-- What an answer says outside: a status number and two numbers beside it, 0 where there is nothing to say.
+pub record Said : Type 0 where
+  pub number : ℕ
+  pub first : ℕ
+  pub second : ℕ
+
+-- A refusal says its number, its place and 0.
+abbrev pub refusedSays : RefusedAt → Said
+refusedSays r = record { number = refusalNumber (r .refusal); first = r .place; second = 0 }
+
+-- ---- what is proved of the numbers (proofs/Numbering.antt)
 
 -- No two refusals share a number.
 abbrev pub NumbersDiffer : Type 0
@@ -40,11 +51,3 @@ NeverZero = (r : Refusal) → 1 ≤ refusalNumber r
 -- No refusal has the number of an answer, 20 to 23.
 abbrev pub NeverAnAnswer : Type 0
 NeverAnAnswer = (r : Refusal) → (refusalNumber r < 20) ⊎ (23 < refusalNumber r)
-
--- ---- what an answer says outside: a number, and two values
-
--- A status number and two numbers beside it; 0 where there is nothing to say.
-pub record Said : Type 0 where
-  pub number : ℕ
-  pub first : ℕ
-  pub second : ℕ

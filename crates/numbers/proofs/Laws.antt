@@ -1,22 +1,24 @@
 -- The laws of the spelling are proved: what was written reads as the number, and what reads as a number is spelled by it. Both go by induction on the
 -- number of groups that are allowed.
 use mathlib.Core.Path.{_≡_, refl, sym, ap, _∙_}
+use mathlib.Core.Logic.{inl, inr}
 use Prim.Native.Nat.{ℕ, zero, suc, _+_, _-_, _*_, _/_, _%_, _≤_, _<_}
 use native.Mathlib.Omega.{arith}
 use native.Mathlib.Decide.{decLe}
 use mathlib.Core.List.{List, [], _∷_, _++_, append-cancel-left}
-use mathlib.Core.Bool.{Bool, true, false}
+use mathlib.Core.Bool.{true, false}
 use lib.ListN.{length, drop, length-append, length-drop}
 use lib.Seq.{getD-drop, drop-drop, drop-append-seam}
-use lib.Dec.{ltb, leb, eqb}
-use borrow.Author.Tests.{lt-ltb, le-ltb, leb-true, ne-eqb}
+use lib.Dec.{ltb, eqb}
+use borrow.Author.Tests.{lt-ltb, le-ltb, le-leb, lt-leb, ne-eqb}
+use Rattle.kinds.specs.declared.Refusal.the-variants.{NumberTooBig, NoRoom}
 use Rattle.numbers.specs.declared.Number.{Number}
 use Rattle.numbers.specs.declared.NumberRead.the-variants as answer
-use Rattle.numbers.specs.declared.Written.the-variants.{Length}
+use Rattle.numbers.specs.declared.Written.the-variants.{Length, Refused}
 use Rattle.numbers.specs.Spelling.{maxGroups, maxNumber, groupsOf, spelling}
 use Rattle.numbers.specs.Reading.{Spelt, number, superfluous-zero, asks-for-more, cut-off, before, spelt, answered}
 use Rattle.numbers.specs.Writing.{written}
-use Rattle.numbers.specs.Laws.{Bytes, Spelled, Wrote, LargestNumber, ReadsBack, LengthAnswered, WrittenReadsBack, OneSpelling}
+use Rattle.numbers.specs.Laws.{Bytes, Spelled, LargestNumber, ReadsBack, LengthAnswered, RefusalAnswered, WrittenReadsBack, OneSpelling}
 use Rattle.numbers.specs.Laws.{SpellingLength, SpelledInBytes, SpellingsDiffer, NothingPastTheEnd}
 use Rattle.numbers.proofs.Reading.{limit, limit-pos, spelt-cut}
 
@@ -25,10 +27,12 @@ largest-number = refl
 
 -- ---- the groups of a number
 
+-- A number below 128 is one group ..
 groups-last : (most n : ℕ) → n < 128 → groupsOf (suc most) n ≡ n ∷ []
 unfolding groupsOf
 groups-last most n h = simp (lt-ltb n 128 h)
 
+-- .. and any other is a group with 128 added, and then the groups of what is left.
 groups-more : (most n : ℕ) → 128 ≤ n → groupsOf (suc most) n ≡ (n % 128 + 128) ∷ groupsOf most (n / 128)
 unfolding groupsOf
 groups-more most n h = simp (le-ltb n 128 h)
@@ -41,7 +45,7 @@ groups-enough (suc most) n h p = elim (decLe 128 n) [
   | no l ↦ let k : n < 128 = omega arith in simp (groups-last (suc most) n k, groups-last most n k)
 ]
 
--- A number below 128 is one group ..
+-- So it is with spellings: a number below 128 is one group ..
 pub spelling-last : (n : ℕ) → n < 128 → spelling n ≡ n ∷ []
 spelling-last n h = groups-last (maxGroups - 1) n h
 
@@ -51,10 +55,12 @@ spelling-more n h l =
     let most = maxGroups - 1 in
     groups-more most n l ∙ ap (λ (t : List ℕ). (n % 128 + 128) ∷ t) (sym (groups-enough most (n / 128) (omega arith) (omega arith)))
 
+-- A number has a group ..
 groups-some : (most n : ℕ) → 1 ≤ length (groupsOf (suc most) n)
 groups-some most n = elim (decLe 128 n)
     [ yes l ↦ simp (groups-more most n l) (omega arith) | no l ↦ simp (groups-last most n (omega arith)) (omega arith) ]
 
+-- .. and at most as many as are allowed.
 groups-most : (most n : ℕ) → length (groupsOf most n) ≤ most
 unfolding groupsOf
 groups-most zero n = omega arith
@@ -66,10 +72,12 @@ groups-most (suc most) n = elim (decLe 128 n) [
 pub spelling-length : SpellingLength
 spelling-length n = (groups-some (maxGroups - 1) n, groups-most maxGroups n)
 
+-- A byte in front of bytes.
 bytes-cons : (b : ℕ) (s : List ℕ) → b < 256 → Bytes s → Bytes (b ∷ s)
 bytes-cons b s h k zero = h
 bytes-cons b s h k (suc i) = k i
 
+-- Each group is a byte.
 groups-bytes : (most n : ℕ) → Bytes (groupsOf most n)
 unfolding groupsOf
 groups-bytes zero n = λ i. omega arith
@@ -83,6 +91,7 @@ spelled-in-bytes n = groups-bytes maxGroups n
 
 -- ---- reading what was written, whatever follows
 
+-- The groups of a number spell it.
 spelt-groups : (most n : ℕ) (rest : List ℕ) (at : ℕ) → n < limit most → 0 < most + n
     → spelt most (groupsOf most n ++ rest) at ≡ number n (at + length (groupsOf most n))
 unfolding spelt
@@ -102,18 +111,33 @@ pub reads-back : ReadsBack
 reads-back front n rest h =
     rw (drop-append-seam, spelt-groups maxGroups n rest (length front) (omega arith) (omega arith))
 
--- Of the four cases of the writer's two tests, one answers a length.
-by-tests : (n room took : ℕ) (in-range had-room : Bool) → leb n maxNumber ≡ in-range → leb (length (spelling n)) room ≡ had-room
-    → written n room ≡ Length took → Wrote n room took
-by-tests n room took true true p q e =
-    let z : took ≡ length (spelling n) = cc in
-    record { in-range = leb-true n maxNumber p; spelled = z; had-room = omega (arith, leb-true (length (spelling n)) room q) }
-by-tests n room took true false p q e = absurd (let z : _≡_ {A = ℕ} 0 1 = cc in omega arith)
-by-tests n room took false true p q e = absurd (let z : _≡_ {A = ℕ} 0 1 = cc in omega arith)
-by-tests n room took false false p q e = absurd (let z : _≡_ {A = ℕ} 0 1 = cc in omega arith)
+-- ---- what the writer answers
+
+-- By the writer's two tests: the spelling has room, or it has none, or there is no spelling.
+by-answer : {G : Type 0} (n room : ℕ)
+    → (n ≤ maxNumber → length (spelling n) ≤ room → written n room ≡ Length (length (spelling n)) → G)
+    → (n ≤ maxNumber → room < length (spelling n) → written n room ≡ Refused NoRoom → G)
+    → (maxNumber < n → written n room ≡ Refused NumberTooBig → G)
+    → G
+by-answer n room has-room no-room too-big = elim (decLe n maxNumber) [
+  | yes l ↦ elim (decLe (length (spelling n)) room) [
+    | yes k ↦ has-room l k (simp (le-leb n maxNumber l, le-leb (length (spelling n)) room k))
+    | no k ↦ let j : room < length (spelling n) = omega arith in no-room l j (simp (le-leb n maxNumber l, lt-leb (length (spelling n)) room j))
+  ]
+  | no l ↦ let j : maxNumber < n = omega arith in too-big j (simp (lt-leb n maxNumber j))
+]
 
 pub length-answered : LengthAnswered
-length-answered n room took e = by-tests n room took _ _ refl refl e
+length-answered n room took e = by-answer n room
+    (λ l k w. let z : took ≡ length (spelling n) = cc in record { in-range = l; spelled = z; had-room = omega arith })
+    (λ l k w. absurd (let z : _≡_ {A = ℕ} 0 1 = cc in omega arith))
+    (λ l w. absurd (let z : _≡_ {A = ℕ} 0 1 = cc in omega arith))
+
+pub refusal-answered : RefusalAnswered
+refusal-answered n room r e = by-answer n room
+    (λ l k w. absurd (let z : _≡_ {A = ℕ} 0 1 = cc in omega arith))
+    (λ l k w. inr (cc, l, k))
+    (λ l w. inl (cc, l))
 
 pub written-reads-back : WrittenReadsBack
 written-reads-back n took buffer e =
@@ -177,6 +201,7 @@ answered-number start (superfluous-zero place) k e = absurd (let z : _≡_ {A = 
 answered-number start (asks-for-more place) k e = absurd (let z : _≡_ {A = ℕ} 0 1 = cc in omega arith)
 answered-number start (cut-off place) k e = absurd (let z : _≡_ {A = ℕ} 0 1 = cc in omega arith)
 
+-- What the spelling of a number at a place says of the place.
 spelled-rest : (s rest : List ℕ) (at : ℕ) (k : Number) → k .value ≤ maxNumber → drop at s ≡ spelling (k .value) ++ rest
     → k .next ≡ at + length (spelling (k .value)) → Spelled s at k
 spelled-rest s rest at k h d e =

@@ -1,15 +1,15 @@
 -- The equations of `spelt` in the terms of a reader: at a place of a list, and with what was read so far on the side.
-use mathlib.Core.Path.{_≡_, refl, sym, ap, _∙_}
-use Prim.Native.Nat.{ℕ, zero, suc, _+_, _-_, _*_, _^_, _≤_, _<_}
+use mathlib.Core.Path.{_≡_, refl, ap, _∙_}
+use Prim.Native.Nat.{ℕ, zero, suc, _+_, _-_, _*_, _≤_, _<_}
 use native.Mathlib.Nat.{le-of-suc-le-suc, mul-le-mul-left}
 use native.Mathlib.Numerals.{add-one, sub-one}
 use native.Mathlib.Omega.{arith}
-use mathlib.Core.List.{List, [], _∷_}
+use mathlib.Core.List.{List}
 use mathlib.Core.Bool.{false, cond}
 use lib.ListN.{length, getD, drop, drop-of-length-le}
 use lib.Seq.{drop-cons}
 use lib.Dec.{ltb, eqb}
-use borrow.Author.Tests.{lt-ltb, le-ltb, eq-eqb, ne-eqb}
+use borrow.Author.Tests.{lt-ltb, le-ltb, ne-eqb}
 use Rattle.numbers.specs.declared.NumberRead.the-variants as answer
 use Rattle.numbers.specs.Spelling.{maxGroups}
 use Rattle.numbers.specs.Reading.{Spelt, number, superfluous-zero, asks-for-more, cut-off, before, spelt, answered, readAt, misspelledAt}
@@ -19,10 +19,12 @@ abbrev pub limit : ℕ → ℕ
 limit zero = 1
 limit (suc most) = 128 * limit most
 
+-- There is one ..
 pub limit-pos : (n : ℕ) → 1 ≤ limit n
 limit-pos zero = omega arith
 limit-pos (suc n) = omega (arith, limit-pos n)
 
+-- .. and no fewer with more groups.
 limit-grows : (m n : ℕ) → m ≤ n → limit m ≤ limit n
 limit-grows zero n h = limit-pos n
 limit-grows (suc m) zero h = absurd (omega arith)
@@ -64,6 +66,7 @@ unfolding spelt
 spelt-cut zero s at l h = absurd (omega arith)
 spelt-cut (suc most) s at l h = rw (drop-of-length-le s h)
 
+-- The byte at a place is a last group, or another follows it.
 spelt-here : (most : ℕ) (s : List ℕ) (at : ℕ) → 1 ≤ most → at < length s → spelt most (drop at s) at
     ≡ cond (ltb (getD s at 0) 128) (number (getD s at 0) (at + 1)) (before (getD s at 0 - 128) (spelt (most - 1) (drop (at + 1) s) (at + 1)))
 unfolding spelt
@@ -82,6 +85,7 @@ spelt-more most s at l h b = spelt-here most s at l h ∙ simp (le-ltb _ _ b)
 
 -- ---- a reader that has passed some groups, each of which asked for another
 
+-- The answer is what they are worth, with what the groups from here on spell behind them.
 pub record Passed (s : List ℕ) (at value weight groups : ℕ) : Type 0 where
   pub some-groups : 1 ≤ groups
   pub not-too-many : groups ≤ maxGroups
@@ -108,7 +112,7 @@ pub read-one : (s : List ℕ) (at : ℕ) → at < length s → getD s at 0 < 128
     → readAt s at ≡ answer.Number (record { value = getD s at 0; next = at + 1 })
 read-one s at h l = ap (answered at) (spelt-last maxGroups s at (omega arith) h l)
 
-module _ (s : List ℕ) (at value weight groups : ℕ) (p : Passed s at value weight groups) where
+module _ {s : List ℕ} {at value weight groups : ℕ} (p : Passed s at value weight groups) where
   -- All groups are used up.
   pub read-too-long : maxGroups ≤ groups → readAt s at ≡ misspelledAt at
   read-too-long h = p .answers ∙ (let z : maxGroups - groups ≡ 0 = omega arith in rw (z, spelt-none))
@@ -122,6 +126,7 @@ module _ (s : List ℕ) (at value weight groups : ℕ) (p : Passed s at value we
     pub group-fits : (group : ℕ) → group < 128 → value + weight * group < limit maxGroups
     group-fits group l = omega (arith, weight-fits, p .below, mul-le-mul-left {m = group} {n = 127} weight (omega arith))
 
+    -- The bytes have ended.
     pub read-cut : length s ≤ at + groups → readAt s at ≡ misspelledAt at
     read-cut e = p .answers ∙ rw (spelt-cut (maxGroups - groups) s (at + groups) (omega arith) e)
 

@@ -1,11 +1,14 @@
 -- The laws of the spelling, for those who read and write numbers: cite these, and not the text of the definitions. (docs/RULES.md, section 2.)
 use Prim.Native.Nat.{ℕ, _+_, _≤_, _<_}
 use mathlib.Core.Path.{_≡_}
+use mathlib.Core.Logic.{_⊎_}
 use mathlib.Core.List.{List, _++_}
 use lib.ListN.{length, getD, drop}
+use Rattle.kinds.specs.declared.Refusal.{Refusal}
+use Rattle.kinds.specs.declared.Refusal.the-variants.{NumberTooBig, NoRoom}
 use Rattle.numbers.specs.declared.Number.{Number}
 use Rattle.numbers.specs.declared.NumberRead.the-variants as answer
-use Rattle.numbers.specs.declared.Written.the-variants.{Length}
+use Rattle.numbers.specs.declared.Written.the-variants.{Length, Refused}
 use Rattle.numbers.specs.Spelling.{maxGroups, maxNumber, spelling}
 use Rattle.numbers.specs.Reading.{readAt, misspelledAt}
 use Rattle.numbers.specs.Writing.{written, bufferAfter}
@@ -39,6 +42,11 @@ pub record Wrote (n room took : ℕ) : Type 0 where
 
 abbrev pub LengthAnswered : Type 0
 LengthAnswered = (n room took : ℕ) → written n room ≡ Length took → Wrote n room took
+
+-- What a refusal says that the writer answered: the number is too big; or it is in range, and there was no room for its spelling.
+abbrev pub RefusalAnswered : Type 0
+RefusalAnswered = (n room : ℕ) (r : Refusal) → written n room ≡ Refused r
+    → ((r ≡ NumberTooBig) × (maxNumber < n)) ⊎ ((r ≡ NoRoom) × (n ≤ maxNumber) × (room < length (spelling n)))
 
 -- So a number that was written reads back at the buffer's start, and the next place is the length answered.
 abbrev pub WrittenReadsBack : Type 0

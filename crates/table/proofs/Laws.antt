@@ -1,9 +1,9 @@
--- The laws of a table are proved: what its rows' test means, and that bytes are accepted exactly when they are the spelling of acceptable rows.
+-- The laws of a table are proved: what the test of a row means, and that bytes are accepted exactly when they are the spelling of acceptable rows.
 -- (docs/RULES.md, section 3.)
 use Prim.Native.Nat.{ℕ, _≤_}
 use native.Mathlib.Omega.{arith}
 use mathlib.Core.Path.{_≡_, refl, sym, ap, _∙_}
-use mathlib.Core.List.{List, flatten, map, append-nil, List·Memᴰ, Memᴰ·map, Memᴰ·of-map}
+use mathlib.Core.List.{List, flatten, map, append-nil, Memᴰ·map}
 use mathlib.Core.Bool.{Bool, true, false, cond}
 use lib.ListN.{length, drop-of-length-le}
 use lib.Seq.{take-append-seam}
@@ -19,15 +19,20 @@ use Rattle.table.specs.declared.Row.{Row}
 use Rattle.table.specs.declared.TableRead.{TableRead}
 use Rattle.table.specs.declared.TableAnswer.the-variants.{Accepted}
 use Rattle.table.specs.Limits.{maxRows, maxPeriod}
-use Rattle.table.specs.Period.{periodOf}
+use Rattle.table.specs.Period.{ysOf, periodOf}
 use Rattle.table.specs.Tables.{Rows, rows, refused, rowsOf, tableOf, readRows, refusedTable, afterRows, afterCount, tableRead}
 use Rattle.table.specs.Laws.{spelledRow, spelledTable, WithinLimits, AcceptedAs, UsableRows}
-use Rattle.table.specs.Laws.{InRangeMeans, SpelledIsAccepted, AcceptedIsSpelled, SpellingsOfTablesDiffer, RowsOfTable, AcceptedRowsAreUsable}
-use Rattle.table.proofs.Periods.{period-is-least}
-use Rattle.table.proofs.Spelling.{stands-whole, parted, joined, number-read, number-stands, limits-of, in-range-of, rows-read, rows-stand}
+use Rattle.table.specs.Laws.{InRangeMeans, RowsOfTable, SpelledIsAccepted, AcceptedIsSpelled, SpellingsOfTablesDiffer, AcceptedRowsAreUsable}
+use Rattle.table.proofs.Each.{Each}
+use Rattle.table.proofs.Ranges.{limits-of, in-range-of}
+use Rattle.table.proofs.Periods.{some-ys, period-is-least}
+use Rattle.table.proofs.Spelling.{stands-whole, parted, joined, number-read, number-stands, rows-read, rows-stand}
 
 pub in-range-means : InRangeMeans
 in-range-means r = (limits-of r, in-range-of r)
+
+pub rows-of-table : RowsOfTable
+rows-of-table rs = take-append-seam rs _
 
 -- ---- the spelling of a table
 
@@ -116,23 +121,16 @@ accepted-is-spelled s h b e =
 
 -- ---- what follows
 
-pub rows-of-table : RowsOfTable
-rows-of-table rs = take-append-seam rs _
-
 pub spellings-of-tables-differ : SpellingsOfTablesDiffer
 spellings-of-tables-differ rs qs a b e =
     let same = sym (spelled-is-accepted rs a) ∙ ap tableRead e ∙ spelled-is-accepted qs b in
     sym (rows-of-table rs) ∙ ap (λ (t : TableRead). rowsOf (t .table)) same ∙ rows-of-table qs
 
--- The y of each row within its limits is positive.
-some-ys : (rs : List Row) → ((r : Row) → List·Memᴰ r rs → WithinLimits r) → (y : ℕ) → List·Memᴰ y (map (λ (r : Row). r .y) rs) → 1 ≤ y
-some-ys rs limits y m = let o = Memᴰ·of-map (λ (r : Row). r .y) rs m in rw (← o .2) (limits (o .0) (o .1) .some-y)
-
 -- What was accepted as some rows is usable as these.
 usable-rows : (s : List ℕ) (h : ℕ) (rs : List Row) → AcceptedAs s h rs → UsableRows s h rs
 usable-rows s h rs a =
-    let limits : (r : Row) → List·Memᴰ r rs → WithinLimits r = λ r m. limits-of r (a .acceptable .in-range r m) in
-    let least = period-is-least (map (λ (r : Row). r .y) rs) (some-ys rs limits) in
+    let limits : Each WithinLimits rs = λ r m. limits-of r (a .acceptable .in-range r m) in
+    let least = period-is-least (ysOf rs) (some-ys rs limits) in
     record {
       accepted-as = a;
       within-limits = limits;

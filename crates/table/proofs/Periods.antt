@@ -2,9 +2,8 @@
 -- rows keeps it: one number stands for the rows passed.
 use Prim.Native.Nat.{ℕ, zero, suc, _+_, _*_, _/_, _%_, _≤_, _<_, _∣_}
 use mathlib.Core.Path.{_≡_, refl}
-use mathlib.Core.Logic.{⊎-elim}
-use mathlib.Core.Bool.{Bool, true, false, _&&_, and-false}
-use mathlib.Core.List.{List, [], _∷_, map, List·Memᴰ, List·Memᴰ·head, List·Memᴰ·tail, List·Memᴰ·not-nil, List·Memᴰ·cases-cons}
+use mathlib.Core.Bool.{Bool, true, false}
+use mathlib.Core.List.{List, [], _∷_}
 use native.Mathlib.Nat.{
   le-refl,
   le-trans,
@@ -28,64 +27,32 @@ use native.Mathlib.Nat.{
 use native.Mathlib.Decide.{decLe}
 use native.Mathlib.Numerals.{add-one}
 use native.Mathlib.Omega.{arith}
-use lib.Dec.{eqb, leb}
-use lib.ListN.{length, take, drop, getD, drop-of-length-le}
+use lib.Dec.{eqb}
+use lib.ListN.{length, drop, getD, drop-of-length-le}
 use lib.Seq.{drop-cons, getD-take, length-take-le}
-use borrow.Author.Tests.{eqb-true, eq-eqb, leb-true, le-leb, lt-leb}
+use borrow.Author.Tests.{eqb-true, eq-eqb, le-leb, lt-leb}
 use Rattle.table.specs.declared.Row.{Row}
 use Rattle.table.specs.declared.Table.{Table}
 use Rattle.table.specs.declared.Period.the-variants.{Ticks, TooLong}
 use Rattle.table.specs.Limits.{maxY, maxPeriod}
-use Rattle.table.specs.Period.{isMultiple, product, firstMultiple, leastCommonMultiple, periodOf, periodWithin, IsGreatestDivisor}
-use Rattle.table.specs.Rows.{rowInRange}
+use Rattle.table.specs.Period.{isMultiple, product, firstMultiple, leastCommonMultiple, ysOf, periodOf, periodWithin, IsGreatestDivisor}
 use Rattle.table.specs.Tables.{noRow, rowsOf, InRange}
-use Rattle.table.specs.Laws.{IsLeastCommonMultiple, PeriodIsLeast}
+use Rattle.table.specs.Laws.{WithinLimits, IsLeastCommonMultiple, PeriodIsLeast}
+use Rattle.table.proofs.Each.{Each, each-none, each-cons, each-head, each-tail, each-taken, each-mapped}
+use Rattle.table.proofs.Ranges.{both-true, limits-of}
 use Rattle.table.proofs.Divisors.{multiple-of-first, divides-least}
 
--- ---- each number of a list
-
--- Each of the numbers has P.
-abbrev Each : (P : ℕ → Type 0) → List ℕ → Type 0
-Each P ys = (y : ℕ) → List·Memᴰ y ys → P y
-
--- Of no numbers each has P ..
-each-none : (P : ℕ → Type 0) → Each P []
-each-none P k m = absurd (List·Memᴰ·not-nil m)
-
-module _ {P : ℕ → Type 0} {y : ℕ} {ys : List ℕ} where
-  -- .. and of one number and others, where that one has it and each of the others.
-  each-cons : P y → Each P ys → Each P (y ∷ ys)
-  each-cons p h = λ k m. ⊎-elim (λ e. rw e p) (h k) (List·Memᴰ·cases-cons m)
-
-  -- The first of them then has it ..
-  each-head : Each P (y ∷ ys) → P y
-  each-head h = h y (List·Memᴰ·head refl)
-
-  -- .. and each of the others.
-  each-tail : Each P (y ∷ ys) → Each P ys
-  each-tail h = λ k m. h k (List·Memᴰ·tail m)
+-- ---- common multiples
 
 -- n is a multiple of each of the numbers.
 abbrev MultipleOf : List ℕ → (n : ℕ) → Type 0
 MultipleOf ys n = Each (λ y. y ∣ n) ys
 
--- ---- tests
-
--- A test is true or false.
-by-test : {G : Type 0} (b : Bool) → (b ≡ true → G) → (b ≡ false → G) → G
-by-test true f g = f refl
-by-test false f g = g refl
-
--- Two tests that hold together hold each.
-both : (a b : Bool) → (a && b) ≡ true → (a ≡ true) × (b ≡ true)
-both true b e = (refl, e)
-both false b e = absurd (let z : _≡_ {A = ℕ} 0 1 = cc in omega arith)
-
 -- What the definition tests is that n is a common multiple ..
 test-means : (ys : List ℕ) (n : ℕ) → isMultiple ys n ≡ true → MultipleOf ys n
 test-means [] n e = each-none _
 test-means (y ∷ ys) n e =
-    let t = both (eqb (n % y) 0) (isMultiple ys n) e in
+    let t = both-true (eqb (n % y) 0) (isMultiple ys n) e in
     each-cons (dvd-of-mod-eq-zero y (eqb-true (n % y) 0 (t .0))) (test-means ys n (t .1))
 
 -- .. and it misses none.
@@ -104,6 +71,11 @@ product-multiple (y ∷ ys) = each-cons (dvd-mul-right y (product ys)) (λ k m. 
 product-positive : (ys : List ℕ) → Each (λ y. 1 ≤ y) ys → 1 ≤ product ys
 product-positive [] h = le-refl 1
 product-positive (y ∷ ys) h = mul-pos (each-head h) (product-positive ys (each-tail h))
+
+-- A test is true or false.
+by-test : {G : Type 0} (b : Bool) → (b ≡ true → G) → (b ≡ false → G) → G
+by-test true f g = f refl
+by-test false f g = g refl
 
 -- f is the first common multiple from n on.
 record First (ys : List ℕ) (n f : ℕ) : Type 0 where
@@ -185,21 +157,9 @@ alone {y} a = dvd-antisymm (a .least y (each-cons (dvd-refl y) (each-none _))) (
 abbrev yAt : Table → (i : ℕ) → ℕ
 yAt t i = getD (t .rows) i noRow .y
 
--- The y of each row.
-abbrev ysOf : List Row → List ℕ
-ysOf rows = map (λ (r : Row). r .y) rows
-
--- In a row that is in range, y is.
-y-in-range : (r : Row) → rowInRange r ≡ true → (1 ≤ r .y) × (r .y ≤ maxY)
-y-in-range r e = by-test (leb 1 (r .y) && leb (r .y) maxY)
-    (λ t. let b = both (leb 1 (r .y)) (leb (r .y) maxY) t in (leb-true 1 (r .y) (b .0), leb-true (r .y) maxY (b .1)))
-    (λ t. absurd (let f : false ≡ true = simp (t, and-false) at e in let z : _≡_ {A = ℕ} 0 1 = cc in omega arith))
-
--- Where each of the first n rows has a positive y, so have those that are taken.
-ys-positive : (n : ℕ) (rows : List Row) → ((i : ℕ) → i < n → 1 ≤ getD rows i noRow .y) → Each (λ y. 1 ≤ y) (ysOf (take n rows))
-ys-positive zero rows h = each-none _
-ys-positive (suc n) [] h = each-none _
-ys-positive (suc n) (r ∷ rows) h = each-cons (h 0 (omega arith)) (ys-positive n rows (λ i l. h (suc i) (omega arith)))
+-- Of rows within their limits each y is positive.
+pub some-ys : (rows : List Row) → Each WithinLimits rows → Each (λ y. 1 ≤ y) (ysOf rows)
+some-ys rows h = each-mapped _ (λ (r : Row). r .y) rows (λ r m. h r m .some-y)
 
 -- The walk has come to row i: H is the least common multiple of h, which stands for the rows before i, and the rows from i on.
 pub record Grown (t : Table) (h i : ℕ) : Type 0 where
@@ -208,9 +168,9 @@ pub record Grown (t : Table) (h i : ℕ) : Type 0 where
   pub whole : IsLeastCommonMultiple (h ∷ ysOf (drop i (rowsOf t))) (periodOf (rowsOf t))
 
 module _ {t : Table} (r : InRange t) where
-  -- A row in use has its y in range.
-  pub used-y : {i : ℕ} → i < t .count → (1 ≤ yAt t i) × (yAt t i ≤ maxY)
-  used-y {i} l = y-in-range (getD (t .rows) i noRow) (r .rows-in-range i l)
+  -- A row in use is within its limits.
+  pub used-row : (i : ℕ) → i < t .count → WithinLimits (getD (t .rows) i noRow)
+  used-row i l = limits-of (getD (t .rows) i noRow) (r .rows-in-range i l)
 
   -- The rows in use are as many as are counted.
   rows-used : length (rowsOf t) ≡ t .count
@@ -219,7 +179,7 @@ module _ {t : Table} (r : InRange t) where
   -- The walk begins with 1.
   pub grown-none : Grown t 1 0
   grown-none =
-      let ys = ys-positive (t .count) (t .rows) (λ i l. used-y l .0) in
+      let ys = some-ys (rowsOf t) (each-taken _ (t .count) (t .rows) noRow used-row) in
       record { counted = omega arith; within = omega arith; whole = one-in-front (period-is-least _ ys) }
 
   module _ {h i : ℕ} (grown : Grown t h i) where
@@ -232,7 +192,7 @@ module _ {t : Table} (r : InRange t) where
 
     -- What is computed for one row more is far from overflowing.
     pub grown-fits : i < t .count → (g : ℕ) → h / g * yAt t i ≤ maxPeriod * maxY
-    grown-fits l g = mul-le-mul (le-trans (div-le-self h g) (grown .within)) (used-y l .1)
+    grown-fits l g = mul-le-mul (le-trans (div-le-self h g) (grown .within)) (used-row i l .most-y)
 
     module _ (l : i < t .count) {g : ℕ} (d : IsGreatestDivisor h (yAt t i) g) where
       -- One row more: what h grows to stands for that row too.
@@ -241,7 +201,7 @@ module _ {t : Table} (r : InRange t) where
           let k : i < length (rowsOf t) = omega (arith, rows-used) in
           let e : drop i (rowsOf t) ≡ getD (t .rows) i noRow ∷ drop (i + 1) (rowsOf t) = rw (drop-cons (rowsOf t) i noRow k, getD-take, add-one) in
           let w = grown .whole in
-          join h (yAt t i) g d (pos-of-dvd-of-pos (each-head (w .multiple)) (w .positive)) (used-y l .0) (rw e at w)
+          join h (yAt t i) g d (pos-of-dvd-of-pos (each-head (w .multiple)) (w .positive)) (used-row i l .some-y) (rw e at w)
 
       -- Within the limit, the walk goes on ..
       pub grown-next : h / g * yAt t i ≤ maxPeriod → Grown t (h / g * yAt t i) (i + 1)

@@ -1,17 +1,85 @@
--- A row's rule as a test: nothing is wrong with a value exactly when it is from 1 to its limit.
-use Prim.Native.Nat.{ℕ}
-use mathlib.Core.Path.{_≡_, refl}
+-- A row's rule: what it says of a value, and what of a row. (docs/RULES.md, section 3.)
+use Prim.Native.Nat.{ℕ, _≤_}
+use mathlib.Core.Path.{_≡_, refl, sym, _∙_}
 use mathlib.Core.Bool.{Bool, true, false, cond, _&&_}
-use mathlib.Core.Option.{none, some}
+use mathlib.Core.Option.{Option, none, some}
 use lib.Dec.{leb}
+use borrow.Author.Tests.{leb-true, le-leb}
 use Rattle.kinds.specs.declared.Refusal.{Refusal}
 use Rattle.kinds.specs.declared.Refusal.the-variants.{ValueOutOfRange}
-use Rattle.table.specs.Rows.{withinLimit, fine}
+use Rattle.table.specs.declared.Row.{Row}
+use Rattle.table.specs.Limits.{maxX, maxY, maxD, maxC}
+use Rattle.table.specs.Rows.{withinLimit, fine, ruleOfX, ruleOfY, ruleOfD, ruleOfC, rowInRange}
+use Rattle.table.specs.Laws.{WithinLimits}
 
--- A rule that refuses where a test fails is fine where the test holds.
-fine-where : (b : Bool) (r : Refusal) → fine (cond b none (some r)) ≡ b
+-- Two tests that hold together hold each.
+pub both-true : (a b : Bool) → (a && b) ≡ true → (a ≡ true) × (b ≡ true)
+both-true true b e = (refl, e)
+both-true false b e = (cc, cc)
+
+-- ---- a value
+
+-- Where nothing is wrong, a rule has no refusal.
+pub nothing-wrong : (o : Option Refusal) → fine o ≡ true → o ≡ none
+nothing-wrong none e = refl
+nothing-wrong (some r) e = cc
+
+-- A rule that refuses where a test fails is fine where the test holds ..
+fine-where : (t : Bool) (r : Refusal) → fine (cond t none (some r)) ≡ t
 fine-where true r = refl
 fine-where false r = refl
 
+-- .. and where it is not fine, it refuses.
+refused-where : (t : Bool) (r : Refusal) → fine (cond t none (some r)) ≡ false → cond t none (some r) ≡ some r
+refused-where true r e = cc
+refused-where false r e = refl
+
+-- Nothing is wrong with a value exactly where both tests of its range hold: ..
 pub fine-within : (most v : ℕ) → fine (withinLimit most v) ≡ (leb 1 v && leb v most)
 fine-within most v = fine-where (leb 1 v && leb v most) ValueOutOfRange
+
+-- .. then it is from 1 to its limit, ..
+fine-limits : (most v : ℕ) → fine (withinLimit most v) ≡ true → (1 ≤ v) × (v ≤ most)
+fine-limits most v e =
+    let t = both-true (leb 1 v) (leb v most) (sym (fine-within most v) ∙ e) in
+    (leb-true 1 v (t .0), leb-true v most (t .1))
+
+-- .. there it is fine, ..
+pub within-fine : (most v : ℕ) → 1 ≤ v → v ≤ most → fine (withinLimit most v) ≡ true
+within-fine most v l h = simp (le-leb 1 v l, le-leb v most h)
+
+-- .. and else it is out of range.
+pub out-of-range : (most v : ℕ) → fine (withinLimit most v) ≡ false → withinLimit most v ≡ some ValueOutOfRange
+out-of-range most v e = refused-where (leb 1 v && leb v most) ValueOutOfRange e
+
+-- ---- a row
+
+-- A row in range is within its limits, ..
+pub limits-of : (r : Row) → rowInRange r ≡ true → WithinLimits r
+limits-of r e =
+    let c = both-true (fine (ruleOfX (r .x)) && fine (ruleOfY (r .y)) && fine (ruleOfD (r .d))) (fine (ruleOfC (r .c))) e in
+    let d = both-true (fine (ruleOfX (r .x)) && fine (ruleOfY (r .y))) (fine (ruleOfD (r .d))) (c .0) in
+    let y = both-true (fine (ruleOfX (r .x))) (fine (ruleOfY (r .y))) (d .0) in
+    let x-within = fine-limits maxX (r .x) (y .0) in
+    let y-within = fine-limits maxY (r .y) (y .1) in
+    let d-within = fine-limits maxD (r .d) (d .1) in
+    let c-within = fine-limits maxC (r .c) (c .1) in
+    record {
+      some-x = x-within .0;
+      most-x = x-within .1;
+      some-y = y-within .0;
+      most-y = y-within .1;
+      some-d = d-within .0;
+      most-d = d-within .1;
+      some-c = c-within .0;
+      most-c = c-within .1;
+    }
+
+-- .. and a row within its limits is in range.
+pub in-range-of : (r : Row) → WithinLimits r → rowInRange r ≡ true
+in-range-of r w = simp (
+  within-fine maxX (r .x) (w .some-x) (w .most-x),
+  within-fine maxY (r .y) (w .some-y) (w .most-y),
+  within-fine maxD (r .d) (w .some-d) (w .most-d),
+  within-fine maxC (r .c) (w .some-c) (w .most-c),
+)

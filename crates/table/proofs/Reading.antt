@@ -29,44 +29,28 @@ use Rattle.table.specs.Limits.{maxRows, maxPeriod}
 use Rattle.table.specs.Period.{periodOf, periodWithin}
 use Rattle.table.specs.Rows.{withinLimit, ruleOfX, ruleOfY, ruleOfD, ruleOfC, fine, rowInRange, testedAt, tested, readValue, afterValue, readRow}
 use Rattle.table.specs.Tables.{noRow, tableOf, emptyTable, InRange, Rows, rows, refused, inFront, readRows, refusedTable, afterRows, tableRead}
+use Rattle.table.proofs.Ranges.{nothing-wrong, out-of-range}
 
 -- ---- a value
 
--- A number from 1 to the limit stands.
-pub value-stands : (most : ℕ) (s : List ℕ) (at : ℕ) (n : Number) → readAt s at ≡ number.Number n → 1 ≤ n .value → n .value ≤ most
-    → readValue (withinLimit most) s at ≡ number.Number n
-value-stands most s at n e low high = rw (e, le-leb 1 (n .value) low, le-leb (n .value) most high)
+-- At a place stands a number with which nothing is wrong.
+pub record ValueAt (rule : ℕ → Option Refusal) (s : List ℕ) (at : ℕ) (n : Number) : Type 0 where
+  pub reads : readAt s at ≡ number.Number n
+  pub is-fine : fine (rule (n .value)) ≡ true
 
--- Zero is refused at its start ..
-pub value-zero : (most : ℕ) (s : List ℕ) (at : ℕ) (n : Number) → readAt s at ≡ number.Number n → n .value < 1
+-- Such a number is the value ..
+pub value-stands : (rule : ℕ → Option Refusal) (s : List ℕ) (at : ℕ) (n : Number) → ValueAt rule s at n → readValue rule s at ≡ number.Number n
+value-stands rule s at n p = rw (p .reads, nothing-wrong (rule (n .value)) (p .is-fine))
+
+-- .. one out of range is refused at its start ..
+pub value-out-of-range : (most : ℕ) (s : List ℕ) (at : ℕ) (n : Number) → readAt s at ≡ number.Number n → fine (withinLimit most (n .value)) ≡ false
     → readValue (withinLimit most) s at ≡ number.Refused (record { refusal = ValueOutOfRange; place = at })
-value-zero most s at n e low = rw (e, lt-leb 1 (n .value) low)
+value-out-of-range most s at n e wrong = rw (e, out-of-range most (n .value) wrong)
 
--- .. and so is a number above the limit.
-pub value-too-big : (most : ℕ) (s : List ℕ) (at : ℕ) (n : Number) → readAt s at ≡ number.Number n → 1 ≤ n .value → most < n .value
-    → readValue (withinLimit most) s at ≡ number.Refused (record { refusal = ValueOutOfRange; place = at })
-value-too-big most s at n e low high = rw (e, le-leb 1 (n .value) low, lt-leb (n .value) most high)
-
--- What can't be read is refused as the reader says.
+-- .. and what can't be read is refused as the reader says.
 pub value-misspelled : (rule : ℕ → Option Refusal) (s : List ℕ) (at : ℕ) (r : RefusedAt) → readAt s at ≡ number.Refused r
     → readValue rule s at ≡ number.Refused r
 value-misspelled rule s at r e = rw e
-
--- A number that stands came through its test unchanged, and nothing was wrong with it ..
-passed : (at : ℕ) (o : Option Refusal) (m n : Number) → testedAt at o m ≡ number.Number n → (m ≡ n) × (fine o ≡ true)
-passed at none m n e = (cc, refl)
-passed at (some r) m n e = (cc, cc)
-
--- .. whatever was read ..
-tested-fine : (rule : ℕ → Option Refusal) (at : ℕ) (v : NumberRead) (n : Number) → tested rule at v ≡ number.Number n
-    → (v ≡ number.Number n) × (fine (rule (n .value)) ≡ true)
-tested-fine rule at (number.Number m) n e = let p = passed at (rule (m .value)) m n e in (ap number.Number (p .0), rw (p .0) at (p .1))
-tested-fine rule at (number.Refused r) n e = (e, cc)
-
--- .. so that a value that stands is the number at its place, and fine by its rule.
-pub value-read : (rule : ℕ → Option Refusal) (s : List ℕ) (at : ℕ) (n : Number) → readValue rule s at ≡ number.Number n
-    → (readAt s at ≡ number.Number n) × (fine (rule (n .value)) ≡ true)
-value-read rule s at n e = tested-fine rule at (readAt s at) n e
 
 -- ---- a row
 
@@ -78,52 +62,54 @@ after-value k e = rw e
 pub after-refused : {v : NumberRead} {r : RefusedAt} (k : Number → RowRead) → v ≡ number.Refused r → afterValue v k ≡ row.Refused r
 after-refused k e = rw e
 
--- Where a row was read, the value before it stood.
-value-before : (v : NumberRead) (k : Number → RowRead) (r : RowAt) → afterValue v k ≡ row.Row r
-    → (n : Number) × (v ≡ number.Number n) × (k n ≡ row.Row r)
-value-before (number.Number n) k r e = (n, refl, e)
-value-before (number.Refused a) k r e = absurd (let z : _≡_ {A = ℕ} 0 1 = cc in omega arith)
+-- Where a row goes on after a number, nothing was wrong with it ..
+fine-before : (at : ℕ) (o : Option Refusal) (n : Number) (k : Number → RowRead) (r : RowAt) → afterValue (testedAt at o n) k ≡ row.Row r
+    → (fine o ≡ true) × (k n ≡ row.Row r)
+fine-before at none n k r e = (refl, e)
+fine-before at (some f) n k r e = (cc, cc)
 
--- The four values of a row that was read: one after another, each as its rule asks.
+-- .. so that a value stood before it.
+value-before : (rule : ℕ → Option Refusal) (s : List ℕ) (at : ℕ) (v : NumberRead) (k : Number → RowRead) (r : RowAt) → readAt s at ≡ v
+    → afterValue (tested rule at v) k ≡ row.Row r → (n : Number) × ValueAt rule s at n × (k n ≡ row.Row r)
+value-before rule s at (number.Number n) k r q e =
+    let p = fine-before at (rule (n .value)) n k r e in
+    (n, record { reads = q; is-fine = p .0 }, p .1)
+value-before rule s at (number.Refused a) k r q e = absurd (let z : _≡_ {A = ℕ} 0 1 = cc in omega arith)
+
+-- The four values of a row that was read, one after another.
 pub record FourValues (s : List ℕ) (at : ℕ) (r : RowAt) : Type 0 where
   pub x : Number
   pub y : Number
   pub d : Number
   pub c : Number
-  pub x-read : readValue ruleOfX s at ≡ number.Number x
-  pub y-read : readValue ruleOfY s (x .next) ≡ number.Number y
-  pub d-read : readValue ruleOfD s (y .next) ≡ number.Number d
-  pub c-read : readValue ruleOfC s (d .next) ≡ number.Number c
-  pub make-row : r ≡ record { row = record { x = x .value; y = y .value; d = d .value; c = c .value }; next = c .next }
+  pub x-stands : ValueAt ruleOfX s at x
+  pub y-stands : ValueAt ruleOfY s (x .next) y
+  pub d-stands : ValueAt ruleOfD s (y .next) d
+  pub c-stands : ValueAt ruleOfC s (d .next) c
+  pub made-of-them : r ≡ record { row = record { x = x .value; y = y .value; d = d .value; c = c .value }; next = c .next }
 
 -- A row that was read has them.
 pub four-values : (s : List ℕ) (at : ℕ) (r : RowAt) → readRow s at ≡ row.Row r → FourValues s at r
 four-values s at r e =
-    let x = value-before _ _ _ e in
-    let y = value-before _ _ _ (x .2) in
-    let d = value-before _ _ _ (y .2) in
-    let c = value-before _ _ _ (d .2) in
+    let x = value-before ruleOfX s at _ _ _ refl e in
+    let y = value-before ruleOfY s (x .0 .next) _ _ _ refl (x .2) in
+    let d = value-before ruleOfD s (y .0 .next) _ _ _ refl (y .2) in
+    let c = value-before ruleOfC s (d .0 .next) _ _ _ refl (d .2) in
     record {
       x = x .0;
       y = y .0;
       d = d .0;
       c = c .0;
-      x-read = x .1;
-      y-read = y .1;
-      d-read = d .1;
-      c-read = c .1;
-      make-row = cc;
+      x-stands = x .1;
+      y-stands = y .1;
+      d-stands = d .1;
+      c-stands = c .1;
+      made-of-them = cc;
     }
 
 -- So it is in range.
-pub row-in-range : (s : List ℕ) (at : ℕ) (r : RowAt) → readRow s at ≡ row.Row r → rowInRange (r .row) ≡ true
-row-in-range s at r e =
-    let p = four-values s at r e in
-    let x-fine = value-read ruleOfX s at (p .x) (p .x-read) .1 in
-    let y-fine = value-read ruleOfY s (p .x .next) (p .y) (p .y-read) .1 in
-    let d-fine = value-read ruleOfD s (p .y .next) (p .d) (p .d-read) .1 in
-    let c-fine = value-read ruleOfC s (p .d .next) (p .c) (p .c-read) .1 in
-    rw (p .make-row, x-fine, y-fine, d-fine, c-fine)
+pub row-in-range : {s : List ℕ} {at : ℕ} {r : RowAt} → FourValues s at r → rowInRange (r .row) ≡ true
+row-in-range p = rw (p .made-of-them, p .x-stands .is-fine, p .y-stands .is-fine, p .d-stands .is-fine, p .c-stands .is-fine)
 
 -- ---- rows
 
@@ -241,7 +227,7 @@ module _ {s : List ℕ} {n : ℕ} {held : List Row} {at i : ℕ} (p : ReadSoFar 
       record {
         not-past = omega arith;
         few-rows = p .few-rows;
-        in-range = in-range-more held i (r .row) room (p .in-range) (row-in-range s at r e);
+        in-range = in-range-more held i (r .row) room (p .in-range) (row-in-range (four-values s at r e));
         unused = unused-more held i (r .row) room (p .unused);
         answers = p .answers ∙ rw (left, next-row (n - (i + 1)) s at r e, add-one, now-first, one-more-in-front);
       }

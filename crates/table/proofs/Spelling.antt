@@ -3,17 +3,9 @@
 use Prim.Native.Nat.{ℕ, zero, suc, _+_, _≤_}
 use native.Mathlib.Omega.{arith}
 use mathlib.Core.Path.{_≡_, refl, sym, ap, _∙_}
-use mathlib.Core.Logic.{⊎-elim}
-use mathlib.Core.Bool.{Bool, true, false, cond, _&&_}
-use mathlib.Core.Option.{Option, none, some}
-use mathlib.Core.List.{List, [], _∷_, _++_, flatten, map, append-assoc, append-nil, List·Memᴰ, List·Memᴰ·head, List·Memᴰ·tail}
-use mathlib.Core.List.{List·Memᴰ·cases-cons, List·Memᴰ·not-nil}
+use mathlib.Core.List.{List, [], _∷_, _++_, flatten, map, append-assoc, append-nil}
 use lib.ListN.{length, take, drop, length-append, length-drop, take-append-drop}
 use lib.Seq.{length-take-le, drop-drop, drop-length, drop-append-seam}
-use lib.Dec.{leb}
-use borrow.Author.Tests.{leb-true, le-leb}
-use Rattle.kinds.specs.declared.Refusal.{Refusal}
-use Rattle.kinds.specs.declared.Refusal.the-variants.{ValueOutOfRange}
 use Rattle.numbers.specs.declared.Number.{Number}
 use Rattle.numbers.specs.declared.NumberRead.the-variants as number
 use Rattle.numbers.specs.Spelling.{maxNumber, spelling}
@@ -25,62 +17,12 @@ use Rattle.table.specs.declared.RowAt.{RowAt}
 use Rattle.table.specs.declared.RowRead.{RowRead}
 use Rattle.table.specs.declared.RowRead.the-variants as row
 use Rattle.table.specs.Limits.{maxX, maxY, maxD, maxC}
-use Rattle.table.specs.Rows.{withinLimit, fine, ruleOfX, ruleOfY, ruleOfD, ruleOfC, rowInRange, readValue, readRow}
+use Rattle.table.specs.Rows.{withinLimit, readValue, readRow}
 use Rattle.table.specs.Tables.{Rows, rows, refused, inFront, afterRow, readRows}
 use Rattle.table.specs.Laws.{spelledRow, WithinLimits}
-use Rattle.table.proofs.Reading.{value-stands, value-read, four-values, row-in-range}
-
--- ---- the test of a row
-
--- Two tests that hold together hold each.
-pub both-true : (a b : Bool) → (a && b) ≡ true → (a ≡ true) × (b ≡ true)
-both-true true b e = (refl, e)
-both-true false b e = (cc, cc)
-
--- A test that refuses where it fails, and did not refuse, holds.
-not-refused : (t : Bool) (r : Refusal) → fine (cond t none (some r)) ≡ true → t ≡ true
-not-refused true r e = refl
-not-refused false r e = cc
-
--- Nothing is wrong with a value: it is within its limit.
-fine-within : (most v : ℕ) → fine (withinLimit most v) ≡ true → (1 ≤ v) × (v ≤ most)
-fine-within most v e =
-    let t = both-true (leb 1 v) (leb v most) (not-refused (leb 1 v && leb v most) ValueOutOfRange e) in
-    (leb-true 1 v (t .0), leb-true v most (t .1))
-
--- A row in range is within its limits, ..
-pub limits-of : (r : Row) → rowInRange r ≡ true → WithinLimits r
-limits-of r e =
-    let c = both-true (fine (ruleOfX (r .x)) && fine (ruleOfY (r .y)) && fine (ruleOfD (r .d))) (fine (ruleOfC (r .c))) e in
-    let d = both-true (fine (ruleOfX (r .x)) && fine (ruleOfY (r .y))) (fine (ruleOfD (r .d))) (c .0) in
-    let y = both-true (fine (ruleOfX (r .x))) (fine (ruleOfY (r .y))) (d .0) in
-    let x-within = fine-within maxX (r .x) (y .0) in
-    let y-within = fine-within maxY (r .y) (y .1) in
-    let d-within = fine-within maxD (r .d) (d .1) in
-    let c-within = fine-within maxC (r .c) (c .1) in
-    record {
-      some-x = x-within .0;
-      most-x = x-within .1;
-      some-y = y-within .0;
-      most-y = y-within .1;
-      some-d = d-within .0;
-      most-d = d-within .1;
-      some-c = c-within .0;
-      most-c = c-within .1;
-    }
-
--- .. and a row within its limits is in range.
-pub in-range-of : (r : Row) → WithinLimits r → rowInRange r ≡ true
-in-range-of r w = simp (
-  le-leb 1 (r .x) (w .some-x),
-  le-leb (r .x) maxX (w .most-x),
-  le-leb 1 (r .y) (w .some-y),
-  le-leb (r .y) maxY (w .most-y),
-  le-leb 1 (r .d) (w .some-d),
-  le-leb (r .d) maxD (w .most-d),
-  le-leb 1 (r .c) (w .some-c),
-  le-leb (r .c) maxC (w .most-c),
-)
+use Rattle.table.proofs.Each.{Each, each-none, each-cons, each-head, each-tail}
+use Rattle.table.proofs.Ranges.{within-fine, limits-of}
+use Rattle.table.proofs.Reading.{value-stands, four-values, row-in-range}
 
 -- ---- parts of the bytes
 
@@ -107,7 +49,7 @@ module _ {s : List ℕ} {at next : ℕ} where
         record { here = later; ends = omega (arith, length-append a b) },
       )
 
--- ---- a value
+-- ---- a number, and a value
 
 -- A number is read where its spelling stands, ..
 pub number-read : {s : List ℕ} {at next : ℕ} (v : ℕ) → v ≤ maxNumber → Stands s at (spelling v) next
@@ -123,15 +65,10 @@ number-read {s} {at} {next} v h p =
 pub number-stands : {s : List ℕ} (at : ℕ) (n : Number) → Bytes s → readAt s at ≡ number.Number n → Stands s at (spelling (n .value)) (n .next)
 number-stands {s} at n b e = let o = one-spelling s at n b e in record { here = o .stands-here; ends = o .ends }
 
--- A value is read where its spelling stands, within its limit, ..
-value-here : {s : List ℕ} {at next : ℕ} (most v : ℕ) → most ≤ maxNumber → 1 ≤ v → v ≤ most → Stands s at (spelling v) next
+-- So a value is read where its spelling stands, within its limit.
+value-read : {s : List ℕ} {at next : ℕ} (most v : ℕ) → most ≤ maxNumber → 1 ≤ v → v ≤ most → Stands s at (spelling v) next
     → readValue (withinLimit most) s at ≡ number.Number (record { value = v; next = next })
-value-here {s} {at} most v m l h p = value-stands most s at _ (number-read v (omega arith) p) l h
-
--- .. and where a value is read, its spelling stands.
-value-spelled : {s : List ℕ} (rule : ℕ → Option Refusal) (at : ℕ) (n : Number) → Bytes s → readValue rule s at ≡ number.Number n
-    → Stands s at (spelling (n .value)) (n .next)
-value-spelled {s} rule at n b e = number-stands at n b (value-read rule s at n e .0)
+value-read {s} {at} most v m l h p = value-stands (withinLimit most) s at _ (record { reads = number-read v (omega arith) p; is-fine = within-fine most v l h })
 
 -- ---- a row
 
@@ -148,27 +85,27 @@ row-read {r} p =
     let y = parted (spelling (r .y)) (spelling (r .d) ++ spelling (r .c)) (x .2) in
     let d = parted (spelling (r .d)) (spelling (r .c)) (y .2) in
     simp (
-      value-here maxX (r .x) (omega arith) (w .some-x) (w .most-x) (x .1),
-      value-here maxY (r .y) (omega arith) (w .some-y) (w .most-y) (y .1),
-      value-here maxD (r .d) (omega arith) (w .some-d) (w .most-d) (d .1),
-      value-here maxC (r .c) (omega arith) (w .some-c) (w .most-c) (d .2),
+      value-read maxX (r .x) (omega arith) (w .some-x) (w .most-x) (x .1),
+      value-read maxY (r .y) (omega arith) (w .some-y) (w .most-y) (y .1),
+      value-read maxD (r .d) (omega arith) (w .some-d) (w .most-d) (d .1),
+      value-read maxC (r .c) (omega arith) (w .some-c) (w .most-c) (d .2),
     )
 
 -- Where a row is read, its spelling stands, within its limits.
 row-stands : {s : List ℕ} (at : ℕ) (r : RowAt) → Bytes s → readRow s at ≡ row.Row r → RowStands s at (r .row) (r .next)
 row-stands {s} at r b e =
     let v = four-values s at r e in
-    let x = value-spelled ruleOfX at (v .x) b (v .x-read) in
-    let y = value-spelled ruleOfY (v .x .next) (v .y) b (v .y-read) in
-    let d = value-spelled ruleOfD (v .y .next) (v .d) b (v .d-read) in
-    let c = value-spelled ruleOfC (v .d .next) (v .c) b (v .c-read) in
-    record { limits = limits-of (r .row) (row-in-range s at r e); stands = rw (v .make-row) (joined x (joined y (joined d c))) }
+    let x = number-stands at (v .x) b (v .x-stands .reads) in
+    let y = number-stands (v .x .next) (v .y) b (v .y-stands .reads) in
+    let d = number-stands (v .y .next) (v .d) b (v .d-stands .reads) in
+    let c = number-stands (v .d .next) (v .c) b (v .c-stands .reads) in
+    record { limits = limits-of (r .row) (row-in-range v); stands = rw (v .made-of-them) (joined x (joined y (joined d c))) }
 
 -- ---- rows, one after another
 
 -- Somewhere stand the spellings of rows within their limits, one after another.
 pub record RowsStand (s : List ℕ) (at : ℕ) (rs : List Row) (next : ℕ) : Type 0 where
-  pub limits : (r : Row) → List·Memᴰ r rs → WithinLimits r
+  pub limits : Each WithinLimits rs
   pub stand : Stands s at (flatten (map spelledRow rs)) next
 
 -- There the rows are read.
@@ -177,8 +114,8 @@ unfolding readRows flatten
 rows-read [] p = ap (rows []) (omega arith)
 rows-read (r ∷ rs) p =
     let t = parted (spelledRow r) (flatten (map spelledRow rs)) (p .stand) in
-    let one = row-read (record { limits = p .limits r (List·Memᴰ·head refl); stands = t .1 }) in
-    let more = rows-read rs (record { limits = λ q m. p .limits q (List·Memᴰ·tail m); stand = t .2 }) in
+    let one = row-read (record { limits = each-head (p .limits); stands = t .1 }) in
+    let more = rows-read rs (record { limits = each-tail (p .limits); stand = t .2 }) in
     simp (one, more)
 
 -- Rows that are read have a row to begin with, ..
@@ -198,7 +135,7 @@ pub rows-stand : {s : List ℕ} (n at : ℕ) (rs : List Row) (next : ℕ) → By
 unfolding readRows flatten
 rows-stand zero at [] next b e =
     let same : at ≡ next = cc in
-    (refl, record { limits = λ r m. absurd (List·Memᴰ·not-nil m); stand = record { here = rw same; ends = omega arith } })
+    (refl, record { limits = each-none _; stand = record { here = rw same; ends = omega arith } })
 rows-stand zero at (r ∷ rs) next b e = absurd (let z : _≡_ {A = ℕ} 0 1 = cc in omega arith)
 rows-stand {s} (suc n) at rs next b e =
     let f = first-row n s (readRow s at) e in
@@ -208,7 +145,7 @@ rows-stand {s} (suc n) at rs next b e =
     rw (← o .2) (
       ap suc (more .0),
       record {
-        limits = λ q m. ⊎-elim (λ h. rw h (one .limits)) (more .1 .limits q) (List·Memᴰ·cases-cons m);
+        limits = each-cons (one .limits) (more .1 .limits);
         stand = joined (one .stands) (more .1 .stand);
       },
     )

@@ -1,35 +1,21 @@
--- What follows from the definitions of a table, for other crates to cite. (docs/RULES.md, section 3.)
+-- What follows from the definitions of a table, for other crates to cite: what a row's test means, what H is, and that bytes are accepted exactly when
+-- they are the one spelling of acceptable rows. (docs/RULES.md, section 3.)
 use Prim.Native.Nat.{ℕ, _≤_, _∣_}
 use mathlib.Core.Path.{_≡_}
 use mathlib.Core.Logic.{_↔_}
 use mathlib.Core.Bool.{true}
-use mathlib.Core.List.{List, [], _∷_, _++_, flatten, map, List·Memᴰ}
+use mathlib.Core.List.{List, _++_, flatten, map, List·Memᴰ}
 use lib.ListN.{length}
 use Rattle.numbers.specs.Laws.{Bytes}
 use Rattle.numbers.specs.Spelling.{spelling}
 use Rattle.table.specs.declared.Row.{Row}
-use Rattle.table.specs.declared.TableRead.{TableRead}
 use Rattle.table.specs.declared.TableAnswer.the-variants.{Accepted}
 use Rattle.table.specs.Limits.{maxRows, maxX, maxY, maxD, maxC, maxPeriod}
 use Rattle.table.specs.Period.{leastCommonMultiple, periodOf}
 use Rattle.table.specs.Rows.{rowInRange}
-use Rattle.table.specs.Tables.{rowsOf, tableOf, tableRead, InRange}
+use Rattle.table.specs.Tables.{rowsOf, tableOf, tableRead}
 
--- The spelling of a row: its four values.
-abbrev pub spelledRow : Row → List ℕ
-spelledRow r = spelling (r .x) ++ (spelling (r .y) ++ (spelling (r .d) ++ spelling (r .c)))
-
--- The one spelling of a table: its row count, and then its rows.
-abbrev pub spelledTable : List Row → List ℕ
-spelledTable rows = spelling (length rows) ++ flatten (map spelledRow rows)
-
--- Rows that make a table: not too many, each in range, and H within its limit.
-pub record Acceptable (rows : List Row) : Type 0 where
-  pub few-rows : length rows ≤ maxRows
-  pub in-range : (r : Row) → List·Memᴰ r rows → rowInRange r ≡ true
-  pub period-within : periodOf rows ≤ maxPeriod
-
--- A row in range has each value from 1 to its limit, and the other way round.
+-- Each value of a row is from 1 to its limit. (3.2)
 pub record WithinLimits (r : Row) : Type 0 where
   pub some-x : 1 ≤ r .x
   pub most-x : r .x ≤ maxX
@@ -40,45 +26,35 @@ pub record WithinLimits (r : Row) : Type 0 where
   pub some-c : 1 ≤ r .c
   pub most-c : r .c ≤ maxC
 
--- ---- what is proved (proofs/Laws.antt)
-
--- The test of a row means that its values are within their limits.
-abbrev pub InRangeMeans : Type 0
-InRangeMeans = (r : Row) → (rowInRange r ≡ true) ↔ WithinLimits r
-
--- The least common multiple is positive, a multiple of each number, and divides every other such multiple.
+-- h is the least common multiple of some numbers: positive, a multiple of each, and it divides every other such multiple.
 pub record IsLeastCommonMultiple (ys : List ℕ) (h : ℕ) : Type 0 where
   pub positive : 1 ≤ h
   pub multiple : (y : ℕ) → List·Memᴰ y ys → y ∣ h
   pub least : (m : ℕ) → ((y : ℕ) → List·Memᴰ y ys → y ∣ m) → h ∣ m
 
-abbrev pub PeriodIsLeast : Type 0
-PeriodIsLeast = (ys : List ℕ) → ((y : ℕ) → List·Memᴰ y ys → 1 ≤ y) → IsLeastCommonMultiple ys (leastCommonMultiple ys)
+-- The spelling of a row: its four values. (3.6)
+abbrev pub spelledRow : Row → List ℕ
+spelledRow r = spelling (r .x) ++ (spelling (r .y) ++ (spelling (r .d) ++ spelling (r .c)))
 
--- Bytes are accepted as a table exactly when they are the spelling of acceptable rows: every acceptable table is read from its spelling ..
-abbrev pub SpelledIsAccepted : Type 0
-SpelledIsAccepted = (rows : List Row) → Acceptable rows → tableRead (spelledTable rows) ≡ record { table = tableOf rows; answer = Accepted (periodOf rows) }
+-- The one spelling of a table: its row count, and then its rows. (3.6)
+abbrev pub spelledTable : List Row → List ℕ
+spelledTable rows = spelling (length rows) ++ flatten (map spelledRow rows)
 
--- .. and whatever is accepted is the spelling of acceptable rows, namely of those in the table.
+-- Rows that make a table: not too many, each in range, and H within its limit.
+pub record Acceptable (rows : List Row) : Type 0 where
+  pub few-rows : length rows ≤ maxRows
+  pub in-range : (r : Row) → List·Memᴰ r rows → rowInRange r ≡ true
+  pub period-within : periodOf rows ≤ maxPeriod
+
+-- Bytes that were accepted are the spelling of acceptable rows; the table that was read is theirs, and h is their H.
 pub record AcceptedAs (s : List ℕ) (h : ℕ) (rows : List Row) : Type 0 where
   pub acceptable : Acceptable rows
   pub spelled : s ≡ spelledTable rows
   pub read-as : tableRead s .table ≡ tableOf rows
   pub period : h ≡ periodOf rows
 
-abbrev pub AcceptedIsSpelled : Type 0
-AcceptedIsSpelled = (s : List ℕ) (h : ℕ) → Bytes s → tableRead s .answer ≡ Accepted h → (rows : List Row) × AcceptedAs s h rows
-
--- So no two acceptable tables have one spelling.
-abbrev pub SpellingsOfTablesDiffer : Type 0
-SpellingsOfTablesDiffer = (rows others : List Row) → Acceptable rows → Acceptable others → spelledTable rows ≡ spelledTable others → rows ≡ others
-
--- The rows in use of a table that some rows make are these rows.
-abbrev pub RowsOfTable : Type 0
-RowsOfTable = (rows : List Row) → rowsOf (tableOf rows) ≡ rows
-
--- What an accepted table is good for: its rows in use are those that were spelled, each is within its limits, and the period is positive, within its
--- limit and a multiple of every y.
+-- What an accepted table is good for: its rows are those that were spelled, each is within its limits, and the period is positive, within its limit and a
+-- multiple of every y.
 pub record UsableRows (s : List ℕ) (h : ℕ) (rows : List Row) : Type 0 where
   pub accepted-as : AcceptedAs s h rows
   pub within-limits : (r : Row) → List·Memᴰ r rows → WithinLimits r
@@ -86,5 +62,32 @@ pub record UsableRows (s : List ℕ) (h : ℕ) (rows : List Row) : Type 0 where
   pub most-period : h ≤ maxPeriod
   pub divides-period : (r : Row) → List·Memᴰ r rows → r .y ∣ h
 
+-- ---- what is proved (proofs/Laws.antt; PeriodIsLeast in proofs/Periods.antt)
+
+-- The test of a row means that its values are within their limits.
+abbrev pub InRangeMeans : Type 0
+InRangeMeans = (r : Row) → (rowInRange r ≡ true) ↔ WithinLimits r
+
+-- What the definition of H finds is the least common multiple, of positive numbers.
+abbrev pub PeriodIsLeast : Type 0
+PeriodIsLeast = (ys : List ℕ) → ((y : ℕ) → List·Memᴰ y ys → 1 ≤ y) → IsLeastCommonMultiple ys (leastCommonMultiple ys)
+
+-- The rows in use of a table that some rows make are these rows.
+abbrev pub RowsOfTable : Type 0
+RowsOfTable = (rows : List Row) → rowsOf (tableOf rows) ≡ rows
+
+-- Bytes are accepted as a table exactly when they are the spelling of acceptable rows: acceptable rows are read from their spelling ..
+abbrev pub SpelledIsAccepted : Type 0
+SpelledIsAccepted = (rows : List Row) → Acceptable rows → tableRead (spelledTable rows) ≡ record { table = tableOf rows; answer = Accepted (periodOf rows) }
+
+-- .. and whatever is accepted is the spelling of acceptable rows, namely of those in the table.
+abbrev pub AcceptedIsSpelled : Type 0
+AcceptedIsSpelled = (s : List ℕ) (h : ℕ) → Bytes s → tableRead s .answer ≡ Accepted h → (rows : List Row) × AcceptedAs s h rows
+
+-- So no two acceptable tables have one spelling ..
+abbrev pub SpellingsOfTablesDiffer : Type 0
+SpellingsOfTablesDiffer = (rows others : List Row) → Acceptable rows → Acceptable others → spelledTable rows ≡ spelledTable others → rows ≡ others
+
+-- .. and the rows in use of an accepted table are good for what is done with them.
 abbrev pub AcceptedRowsAreUsable : Type 0
 AcceptedRowsAreUsable = (s : List ℕ) (h : ℕ) → Bytes s → tableRead s .answer ≡ Accepted h → UsableRows s h (rowsOf (tableRead s .table))

@@ -2,11 +2,11 @@
 use Prim.Native.Nat.{ℕ}
 use Rattle.table.specs.declared.Limits.{Limits}
 
--- A table has at most so many rows.
+-- A table has at most so many rows. (3.1)
 abbrev pub maxRows : ℕ
 maxRows = 16
 
--- A row's x, y, d and c are at least 1, and at most:
+-- A row's x, y, d and c are at least 1, and at most: (3.2)
 abbrev pub maxX : ℕ
 maxX = 64
 
@@ -19,7 +19,7 @@ maxD = 16384
 abbrev pub maxC : ℕ
 maxC = 4096
 
--- The least common multiple of every y is at most so much.
+-- H is at most so much. (3.4)
 abbrev pub maxPeriod : ℕ
 maxPeriod = 1048576
 

@@ -1,6 +1,5 @@
--- The period of a table, H: the least common multiple of every row's y, by divisibility. (docs/RULES.md, section 3.)
-use Prim.Native.Nat.{ℕ, zero, suc, _+_, _*_, _%_, _≤_, _∣_}
-use mathlib.Core.Path.{_≡_}
+-- The period of a table, H: the least common multiple of every row's y, by divisibility. (docs/RULES.md, 3.4 and 3.5.)
+use Prim.Native.Nat.{ℕ, zero, suc, _+_, _*_, _%_, _∣_}
 use mathlib.Core.Bool.{Bool, true, cond, _&&_}
 use mathlib.Core.List.{List, [], _∷_, map}
 use lib.Dec.{eqb, leb}
@@ -27,9 +26,13 @@ firstMultiple (suc tries) ys n = cond (isMultiple ys n) n (firstMultiple tries y
 unfoldable pub leastCommonMultiple : List ℕ → ℕ
 leastCommonMultiple ys = firstMultiple (product ys) ys 1
 
+-- The y of each row.
+abbrev pub ysOf : List Row → List ℕ
+ysOf rows = map (λ (r : Row). r .y) rows
+
 -- H of a table's rows.
 abbrev pub periodOf : List Row → ℕ
-periodOf rows = leastCommonMultiple (map (λ (r : Row). r .y) rows)
+periodOf rows = leastCommonMultiple (ysOf rows)
 
 -- H where it is within a limit.
 abbrev pub periodWithin : (limit : ℕ) → List Row → Period

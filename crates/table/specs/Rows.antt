@@ -6,7 +6,6 @@ use mathlib.Core.List.{List}
 use lib.Dec.{leb}
 use Rattle.kinds.specs.declared.Refusal.{Refusal}
 use Rattle.kinds.specs.declared.Refusal.the-variants.{ValueOutOfRange}
-use Rattle.kinds.specs.declared.RefusedAt.{RefusedAt}
 use Rattle.numbers.specs.declared.Number.{Number}
 use Rattle.numbers.specs.declared.NumberRead.{NumberRead}
 use Rattle.numbers.specs.declared.NumberRead.the-variants as number
@@ -16,11 +15,11 @@ use Rattle.table.specs.declared.RowRead.{RowRead}
 use Rattle.table.specs.declared.RowRead.the-variants as row
 use Rattle.table.specs.Limits.{maxX, maxY, maxD, maxC}
 
--- A value from 1 to a limit is in range; any other gets refusal 3.
+-- A value from 1 to a limit is in range; any other gets refusal 3. (3.2, 3.10)
 abbrev pub withinLimit : (most v : ℕ) → Option Refusal
 withinLimit most v = cond (leb 1 v && leb v most) none (some ValueOutOfRange)
 
--- A row's rule, value by value: what is wrong with it, if anything.
+-- A row's rule, value by value: what is wrong with it, if anything. No range depends on another value. (3.3)
 abbrev pub ruleOfX : ℕ → Option Refusal
 ruleOfX x = withinLimit maxX x
 
@@ -42,16 +41,17 @@ fine (some r) = false
 abbrev pub rowInRange : Row → Bool
 rowInRange r = fine (ruleOfX (r .x)) && fine (ruleOfY (r .y)) && fine (ruleOfD (r .d)) && fine (ruleOfC (r .c))
 
--- A number that was read at a place, tested by a rule: it stands, or is refused at its start.
+-- A number that was read at a place, tested by a rule: it stands, or is refused at its start. (3.10)
 abbrev pub testedAt : (at : ℕ) → Option Refusal → Number → NumberRead
 testedAt at none n = number.Number n
 testedAt at (some r) n = number.Refused (record { refusal = r; place = at })
 
+-- What can't be read is refused as the reader says. (3.8)
 abbrev pub tested : (rule : ℕ → Option Refusal) (at : ℕ) → NumberRead → NumberRead
 tested rule at (number.Number n) = testedAt at (rule (n .value)) n
 tested rule at (number.Refused r) = number.Refused r
 
--- A value is tested as it is read.
+-- A value is tested as it is read. (3.7)
 abbrev pub readValue : (rule : ℕ → Option Refusal) → List ℕ → (at : ℕ) → NumberRead
 readValue rule s at = tested rule at (readAt s at)
 
@@ -60,7 +60,7 @@ abbrev pub afterValue : NumberRead → (Number → RowRead) → RowRead
 afterValue (number.Number n) k = k n
 afterValue (number.Refused r) k = row.Refused r
 
--- A row: x, y, d and c from left to right.
+-- A row: x, y, d and c from left to right. (3.6, 3.7)
 abbrev pub readRow : List ℕ → (at : ℕ) → RowRead
 readRow s at =
     afterValue (readValue ruleOfX s at) λ x.

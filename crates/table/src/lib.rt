@@ -1,10 +1,8 @@
 // Tables: the rows that a rig is to serve, and the reader that turns any bytes into a table or its exact refusal. (docs/RULES.md, section 3.)
 use kinds::Refusal;
 use kinds::RefusedAt;
-use numbers::Number;
 use numbers::NumberRead;
 ghost use mathlib.Core.Path.{_≡_};
-ghost use Prim.Native.Nat.{_≤_, _<_};
 ghost use Rattle.table.specs.Limits.{limits, maxPeriod};
 ghost use Rattle.table.specs.Rows.{withinLimit, fine, rowInRange, readValue, readRow};
 ghost use Rattle.table.specs.Tables.{emptyTable, refusedTable, rowsOf, tableRead, InRange};
@@ -24,7 +22,7 @@ pub struct Table {
     pub count: usize,
 }
 
-// Whether the bytes are a table: accepted, with the least common multiple of every row's y, or refused.
+// Whether the bytes are a table: accepted, with H, the least common multiple of every row's y; or refused.
 pub enum TableAnswer {
     Accepted(u64),
     Refused(RefusedAt),
@@ -52,18 +50,20 @@ struct RowAt {
     next: usize,
 }
 
+// A row that was read, or the refusal that ended it.
 enum RowRead {
     Row(RowAt),
     Refused(RefusedAt),
 }
 
-// The least common multiple of every y, where it is within the limit.
+// H, where it is within the limit.
 enum Period {
     Ticks(u64),
     TooLong,
 }
 
 impl Row {
+    // The most that each value may be; the least is 1.
     pub const MAX_X: u64 = 64;
 
     pub const MAX_Y: u64 = 4_096;
@@ -83,20 +83,20 @@ impl Row {
     }
 }
 
+// Whether a value is from 1 to its limit.
 fn within_limit(most: u64, value: u64) -> bool
     ensures { λ r. ⌜ r ≡ fine (withinLimit most value) ⌝ }
 {
-    if value < 1 {
-        return false;
-    }
-    value <= most
+    (1 <= value) & (value <= most)
 }
 
 impl Table {
+    // A table has room for so many rows.
     pub const MAX_ROWS: usize = 16;
-
+    // The most that H may be.
     pub const MAX_PERIOD: u64 = 1_048_576;
 
+    // The table with no rows.
     pub fn empty() -> Table
         ensures { λ r. ⌜ r ≡ emptyTable ⌝ }
     {
@@ -133,7 +133,7 @@ fn read_value(bytes: &[u8], at: usize, most: u64) -> NumberRead
     match numbers::read(bytes, at) {
         NumberRead::Number(n) => {
             let value = n.value;
-            if 1 <= value && value <= most {
+            if within_limit(most, value) {
                 return NumberRead::Number(n);
             }
             NumberRead::Refused(RefusedAt {
@@ -178,7 +178,6 @@ fn read_row(bytes: &[u8], at: usize) -> RowRead
 
 // The greatest common divisor, by Euclid's rule.
 fn greatest_divisor(a: u64, b: u64) -> u64
-    requires { ⌜ 1 ≤ b ⌝ }
     ensures { λ r. ⌜ IsGreatestDivisor a b r ⌝ }
 {
     let mut m = a;
@@ -191,7 +190,7 @@ fn greatest_divisor(a: u64, b: u64) -> u64
     n
 }
 
-// Grows row by row and stops once it is above the limit, so that nothing overflows.
+// H grows row by row, and no further once it is above the limit, so that nothing overflows.
 fn period_of(table: Table) -> Period
     requires { ⌜ InRange table ⌝ }
     ensures { λ r. ⌜ r ≡ periodWithin maxPeriod (rowsOf table) ⌝ }
@@ -209,6 +208,7 @@ fn period_of(table: Table) -> Period
     Period::Ticks(h)
 }
 
+// The empty table, with the refusal.
 fn refused(at: RefusedAt) -> TableRead
     ensures { λ r. ⌜ r ≡ refusedTable at ⌝ }
 {

@@ -1,12 +1,13 @@
 -- `numbers::read` meets its contract. The loop's invariant is `Passed`: the answer is what the groups passed are worth, with what the groups from here on
 -- spell behind them. Each byte is looked at once.
-use Prim.Native.Nat.{ℕ, _+_, _-_, _≤_, _<_}
-use mathlib.Core.Path.{_≡_, sym, _∙_}
+use Prim.Native.Nat.{ℕ, _+_, _-_, _*_, _<_}
+use mathlib.Core.Path.{sym, _∙_}
 use native.Mathlib.Omega.{arith}
 use lib.ListN.{getD}
 use borrow.Author.Needs.{needs}
 use Rattle.numbers.specs.Spelling.{maxGroups}
-use Rattle.numbers.proofs.Reading.{Passed, first-passed, next-passed, weight-fits, group-fits, read-one, read-too-long, read-cut, read-zero, read-last}
+use Rattle.numbers.proofs.Reading.{limit, Passed, first-passed, next-passed, weight-fits, group-fits}
+use Rattle.numbers.proofs.Reading.{read-one, read-too-long, read-cut, read-zero, read-last}
 use Rattle.numbers.proofs.Laws.{nothing-past-the-end}
 use Rattle.numbers.proofs.read.Statement.{statement}
 use Rattle.numbers.proofs.read.Tie as tie
@@ -16,6 +17,34 @@ Inv-loop bytes at first value₀ weight₀ groups₀ value weight groups = Passe
 
 abbrev μ-loop : tie.MeasureT-loop
 μ-loop bytes at first value₀ weight₀ groups₀ value weight groups = maxGroups - groups
+
+-- ---- in the loop
+
+-- The place that the loop looks at ..
+abbrev place : tie.In-loop Inv-loop μ-loop → ℕ
+place t = t .before .before .before .before .before .before .args .at + t .before .loop .groups
+
+-- .. and the byte there.
+abbrev byte : tie.In-loop Inv-loop μ-loop → ℕ
+byte t = getD (t .before .before .before .before .before .before .args .bytes .now) (place t) 0
+
+-- With one group more the number is in range.
+fits : (t : tie.In-loop Inv-loop μ-loop) (group : ℕ) → group < 128 → t .before .loop .value + t .before .loop .weight * group < limit maxGroups
+fits t group h = group-fits (t .before .loop .inv) (t .loop-test .taken) group h
+
+-- So it is with a last group ..
+last-fits : (c : tie.Then5 Inv-loop μ-loop)
+    → (let t = c .before .before .before .before in t .before .loop .value + t .before .loop .weight * byte t < limit maxGroups)
+last-fits c = fits (c .before .before .before .before) _ (c .if5 .taken)
+
+-- .. and with a group that another follows.
+more-fits : (c : tie.Else5 Inv-loop μ-loop)
+    → (let t = c .before .before .before .before in t .before .loop .value + t .before .loop .weight * (byte t - 128) < limit maxGroups)
+more-fits c =
+    let t = c .before .before .before .before in
+    fits t _ (omega (arith, c .before .before .shared-slice-known3 .given (place t)))
+
+-- ---- the needs
 
 misspelled-requires : tie.Need-misspelled-requires Inv-loop μ-loop
 misspelled-requires c κs = search needs
@@ -36,7 +65,9 @@ returns-2 : tie.Need-returns-2 Inv-loop μ-loop
 returns-2 c = sym (read-one _ _ (c .before .before .if1 .left) (c .if2 .taken))
 
 loop-holds : tie.Need-loop-holds Inv-loop μ-loop
-loop-holds c = first-passed _ _ (c .before .before .if1 .left) (c .if2 .left) (c .before .shared-slice-known2 .given (c .before .before .before .before .args .at) .fits)
+loop-holds c =
+    let a = c .before .before .before .before .args in
+    first-passed _ _ (c .before .before .if1 .left) (c .if2 .left) (c .before .shared-slice-known2 .given (a .at) .fits)
 
 add-i : tie.Need-add-i Inv-loop μ-loop
 add-i c = omega (arith, c .before .loop .inv)
@@ -45,40 +76,50 @@ misspelled-requires-2 : tie.Need-misspelled-requires-2 Inv-loop μ-loop
 misspelled-requires-2 c κs = search needs
 
 returns-3 : tie.Need-returns-3 Inv-loop μ-loop
-returns-3 c = c .misspelled2 .ensures ∙ sym (read-cut _ _ _ _ _ (c .before .before .before .loop .inv) (c .before .before .loop-test .taken) (c .before .if3 .taken))
+returns-3 c =
+    let t = c .before .before in
+    c .misspelled2 .ensures ∙ sym (read-cut (t .before .loop .inv) (t .loop-test .taken) (c .before .if3 .taken))
 
 shared-slice-read-group : tie.Need-shared-slice-read-group Inv-loop μ-loop
 shared-slice-read-group c = omega arith
 
 cast-group : tie.Need-cast-group Inv-loop μ-loop
-cast-group c = omega (arith, c .shared-slice-known3 .given (c .before .before .before .before .before .before .before .before .args .at + c .before .before .before .loop .groups))
+cast-group c = omega (arith, c .shared-slice-known3 .given (place (c .before .before)))
 
 misspelled-requires-3 : tie.Need-misspelled-requires-3 Inv-loop μ-loop
 misspelled-requires-3 c κs = search needs
 
 returns-4 : tie.Need-returns-4 Inv-loop μ-loop
-returns-4 c = c .misspelled3 .ensures ∙ sym (read-zero _ _ _ _ _ (c .before .before .before .before .before .loop .inv) (c .before .before .before .before .loop-test .taken) (c .before .before .before .if3 .left) (c .before .if4 .taken))
+returns-4 c =
+    let here = c .before .before .before in
+    let t = here .before in
+    c .misspelled3 .ensures ∙ sym (read-zero (t .before .loop .inv) (t .loop-test .taken) (here .if3 .left) (c .before .if4 .taken))
 
 mul-t19 : tie.Need-mul-t19 Inv-loop μ-loop
-mul-t19 c = omega (arith, group-fits _ _ _ _ _ (c .before .before .before .before .before .loop .inv) (c .before .before .before .before .loop-test .taken) (getD (c .before .before .before .before .before .before .before .before .before .before .args .bytes .now) (c .before .before .before .before .before .before .before .before .before .before .args .at + c .before .before .before .before .before .loop .groups) 0) (c .if5 .taken))
+mul-t19 c = omega (arith, last-fits c)
 
 add-t20 : tie.Need-add-t20 Inv-loop μ-loop
-add-t20 c = omega (arith, group-fits _ _ _ _ _ (c .before .before .before .before .before .loop .inv) (c .before .before .before .before .loop-test .taken) (getD (c .before .before .before .before .before .before .before .before .before .before .args .bytes .now) (c .before .before .before .before .before .before .before .before .before .before .args .at + c .before .before .before .before .before .loop .groups) 0) (c .if5 .taken))
+add-t20 c = omega (arith, last-fits c)
 
 add-t21 : tie.Need-add-t21 Inv-loop μ-loop
 add-t21 c = omega arith
 
 returns-5 : tie.Need-returns-5 Inv-loop μ-loop
-returns-5 c = sym (read-last _ _ _ _ _ (c .before .before .before .before .before .loop .inv) (c .before .before .before .before .loop-test .taken) (c .before .before .before .if3 .left) (c .before .if4 .left) (c .if5 .taken))
+returns-5 c =
+    let here = c .before .before .before in
+    let t = here .before in
+    sym (read-last (t .before .loop .inv) (t .loop-test .taken) (here .if3 .left) (c .before .if4 .left) (c .if5 .taken))
 
 mul-value : tie.Need-mul-value Inv-loop μ-loop
-mul-value c = omega (arith, group-fits _ _ _ _ _ (c .before .before .before .before .before .loop .inv) (c .before .before .before .before .loop-test .taken) (getD (c .before .before .before .before .before .before .before .before .before .before .args .bytes .now) (c .before .before .before .before .before .before .before .before .before .before .args .at + c .before .before .before .before .before .loop .groups) 0 - 128) (omega (arith, c .before .before .shared-slice-known3 .given (c .before .before .before .before .before .before .before .before .before .before .args .at + c .before .before .before .before .before .loop .groups))))
+mul-value c = omega (arith, more-fits c)
 
 add-value : tie.Need-add-value Inv-loop μ-loop
-add-value c = omega (arith, group-fits _ _ _ _ _ (c .before .before .before .before .before .loop .inv) (c .before .before .before .before .loop-test .taken) (getD (c .before .before .before .before .before .before .before .before .before .before .args .bytes .now) (c .before .before .before .before .before .before .before .before .before .before .args .at + c .before .before .before .before .before .loop .groups) 0 - 128) (omega (arith, c .before .before .shared-slice-known3 .given (c .before .before .before .before .before .before .before .before .before .before .args .at + c .before .before .before .before .before .loop .groups))))
+add-value c = omega (arith, more-fits c)
 
 mul-weight : tie.Need-mul-weight Inv-loop μ-loop
-mul-weight c = omega (arith, weight-fits _ _ _ _ _ (c .before .before .before .before .before .loop .inv) (c .before .before .before .before .loop-test .taken))
+mul-weight c =
+    let t = c .before .before .before .before in
+    omega (arith, weight-fits (t .before .loop .inv) (t .loop-test .taken))
 
 add-groups : tie.Need-add-groups Inv-loop μ-loop
 add-groups c = omega arith
@@ -87,13 +128,17 @@ loop-less : tie.Need-loop-less Inv-loop μ-loop
 loop-less c = omega arith
 
 loop-again : tie.Need-loop-again Inv-loop μ-loop
-loop-again c = next-passed _ _ _ _ _ (c .before .before .before .before .before .loop .inv) (c .before .before .before .before .loop-test .taken) (c .before .before .before .if3 .left) (c .if5 .left) (c .before .before .shared-slice-known3 .given (c .before .before .before .before .before .before .before .before .before .before .args .at + c .before .before .before .before .before .loop .groups) .fits)
+loop-again c =
+    let here = c .before .before .before in
+    let t = here .before in
+    let b = c .before .before .shared-slice-known3 .given (place t) in
+    next-passed (t .before .loop .inv) (t .loop-test .taken) (here .if3 .left) (c .if5 .left) (b .fits)
 
 misspelled-requires-4 : tie.Need-misspelled-requires-4 Inv-loop μ-loop
 misspelled-requires-4 c κs = search needs
 
 returns-6 : tie.Need-returns-6 Inv-loop μ-loop
-returns-6 c = c .misspelled4 .ensures ∙ sym (read-too-long _ _ _ _ _ (c .before .before .loop .inv) (c .before .loop-test .left))
+returns-6 c = c .misspelled4 .ensures ∙ sym (read-too-long (c .before .before .loop .inv) (c .before .loop-test .left))
 
 pub read-spec : {M : Type 1} → statement M
 read-spec =

@@ -2,7 +2,8 @@
 use Prim.Native.Nat.{_-_}
 use native.Mathlib.Nat.{pos-of-dvd-of-pos}
 use native.Mathlib.Omega.{arith}
-use Rattle.table.proofs.Periods.{Grown, used-y, grown-none, grown-all, grown-fits, grown-next, grown-too-long}
+use borrow.Author.Needs.{needs}
+use Rattle.table.proofs.Periods.{Grown, used-row, grown-none, grown-all, grown-fits, grown-next, grown-too-long}
 use Rattle.table.proofs.period_of.Statement.{statement}
 use Rattle.table.proofs.period_of.Tie as tie
 
@@ -22,12 +23,12 @@ element-copy-out-row : tie.Need-element-copy-out-row Inv-loop μ-loop
 element-copy-out-row c = omega arith
 
 greatest-divisor-requires : tie.Need-greatest-divisor-requires Inv-loop μ-loop
-greatest-divisor-requires c κs = used-y (c .before .before .before .pre) (c .before .loop-test .taken) .0
+greatest-divisor-requires c κs = search needs
 
 div-h : tie.Need-div-h Inv-loop μ-loop
 div-h c =
     pos-of-dvd-of-pos (c .greatest-divisor .ensures .of-second)
-    (used-y (c .before .before .before .before .pre) (c .before .before .loop-test .taken) .0)
+    (used-row (c .before .before .before .before .pre) _ (c .before .before .loop-test .taken) .some-y)
 
 mul-h : tie.Need-mul-h Inv-loop μ-loop
 mul-h c =
