@@ -26,7 +26,6 @@ use Rattle.due.proofs.Laws.{sound-means as kept-means}
 use Rattle.jobs.specs.declared.Job.{Job}
 use Rattle.jobs.specs.declared.Pending.{Pending}
 use Rattle.jobs.specs.Places.{maxPlaces, noJob, jobsOf, used}
-
 use Rattle.jobs.specs.Serials.{distinctSerials}
 use Rattle.jobs.proofs.Places.{rest-cons}
 use Rattle.jobs.proofs.Laws.{distinct-means}
@@ -188,32 +187,32 @@ module _ (t : Table) (clock next : ℕ) where
   unfolding jobSound jobFits
   job-means j = (
     λ e.
-    let row = both-true _ _ e in
-    let serial = both-true _ _ (row .1) in
-    let due = both-true _ _ (serial .0) in
-    let left = both-true _ _ (due .0) in
-    let cost = both-true _ _ (left .0) in
-    record {
-      row-in-use = ltb-true _ _ (row .0);
-      released = leb-true _ _ (cost .0);
-      some-cost = within _ _ (cost .1) .0;
-      cost-allowed = within _ _ (cost .1) .1;
-      some-left = within _ _ (left .1) .0;
-      left-of-cost = within _ _ (left .1) .1;
-      due-in-time = leb-true _ _ (due .1);
-      serial-given = ltb-true _ _ (serial .1);
-    },
+        let row = both-true _ _ e in
+        let serial = both-true _ _ (row .1) in
+        let due = both-true _ _ (serial .0) in
+        let left = both-true _ _ (due .0) in
+        let cost = both-true _ _ (left .0) in
+        record {
+          row-in-use = ltb-true _ _ (row .0);
+          released = leb-true _ _ (cost .0);
+          some-cost = within _ _ (cost .1) .0;
+          cost-allowed = within _ _ (cost .1) .1;
+          some-left = within _ _ (left .1) .0;
+          left-of-cost = within _ _ (left .1) .1;
+          due-in-time = leb-true _ _ (due .1);
+          serial-given = ltb-true _ _ (serial .1);
+        },
     λ s.
-    simp (
-      lt-ltb _ _ (s .row-in-use),
-      le-leb _ _ (s .released),
-      le-leb _ _ (s .some-cost),
-      le-leb _ _ (s .cost-allowed),
-      le-leb _ _ (s .some-left),
-      le-leb _ _ (s .left-of-cost),
-      le-leb _ _ (s .due-in-time),
-      lt-ltb _ _ (s .serial-given),
-    ),
+        simp (
+          lt-ltb _ _ (s .row-in-use),
+          le-leb _ _ (s .released),
+          le-leb _ _ (s .some-cost),
+          le-leb _ _ (s .cost-allowed),
+          le-leb _ _ (s .some-left),
+          le-leb _ _ (s .left-of-cost),
+          le-leb _ _ (s .due-in-time),
+          lt-ltb _ _ (s .serial-given),
+        ),
   )
 
   -- All jobs are sound: each is.

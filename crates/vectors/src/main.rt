@@ -2,7 +2,9 @@
 // Each topic has a file, with one function that prints all of it.
 mod numbers_edges;
 mod print;
+mod verdicts_edges;
 
 fn main() {
     numbers_edges::all();
+    verdicts_edges::all();
 }
