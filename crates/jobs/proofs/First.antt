@@ -1,15 +1,33 @@
--- The search for the job that goes first, one job at a time.
+-- Which of two jobs goes first, and the search for the job that goes first, one job at a time.
 use Prim.Native.Nat.{ℕ, zero, suc, _+_, _≤_, _<_}
 use mathlib.Core.Path.{_≡_, refl}
 use mathlib.Core.List.{List, [], _∷_}
 use mathlib.Core.Bool.{Bool, true, false, cond}
 use native.Mathlib.Omega.{arith}
 use native.Mathlib.Numerals.{add-one}
+use lib.Dec.{ltb}
 use lib.ListN.{length, take, drop, getD, drop-of-length-le}
+use borrow.Author.Tests.{lt-ltb, le-ltb}
 use Rattle.jobs.specs.declared.Job.{Job}
 use Rattle.jobs.specs.declared.Choice.the-variants as choice
 use Rattle.jobs.specs.Choice.{goesBefore, firstFrom, firstPlace, choiceOf}
 use Rattle.jobs.proofs.Places.{rest-cons}
+
+module _ (a b : Job) where
+  -- The earlier due time goes first ..
+  pub goes-by-due : a .due .0 < b .due .0 → true ≡ goesBefore a b
+  unfolding goesBefore
+  goes-by-due h = rw (lt-ltb (a .due .0) (b .due .0) h)
+
+  -- .. the later does not ..
+  pub goes-not-by-due : b .due .0 < a .due .0 → false ≡ goesBefore a b
+  unfolding goesBefore
+  goes-not-by-due h = rw (le-ltb (a .due .0) (b .due .0) (omega arith), lt-ltb (b .due .0) (a .due .0) h)
+
+  -- .. and where neither is earlier the serial decides.
+  pub goes-by-serial : b .due .0 ≤ a .due .0 → a .due .0 ≤ b .due .0 → ltb (a .serial .0) (b .serial .0) ≡ goesBefore a b
+  unfolding goesBefore
+  goes-by-serial h k = rw (le-ltb (a .due .0) (b .due .0) h, le-ltb (b .due .0) (a .due .0) k)
 
 -- The search starts with the first job.
 pub first-start : (n : ℕ) (l : List Job) (d : Job) → firstFrom 1 0 (getD l 0 d) (drop 1 (take n l)) ≡ firstPlace (take n l)
@@ -17,12 +35,11 @@ first-start zero l d = refl
 first-start (suc n) [] d = refl
 first-start (suc n) (j ∷ js) d = refl
 
--- The next job is the first so far, or it is not.
-module _ (n : ℕ) (l : List Job) (i at : ℕ) (best d : Job) (h : i < length (take n l)) where
-  pub first-next : (b : Bool) → goesBefore (getD l i d) best ≡ b
-      → firstFrom i at best (drop i (take n l)) ≡ firstFrom (i + 1) (cond b i at) (cond b (getD l i d) best) (drop (i + 1) (take n l))
-  first-next true e = rw (rest-cons n l i d h, e, add-one)
-  first-next false e = rw (rest-cons n l i d h, e, add-one)
+-- The next job is the best so far where it goes before the one that was.
+pub first-next : (n : ℕ) (l : List Job) (i at : ℕ) (best d : Job) → i < length (take n l) → (b : Bool) → goesBefore (getD l i d) best ≡ b
+    → firstFrom i at best (drop i (take n l)) ≡ firstFrom (i + 1) (cond b i at) (cond b (getD l i d) best) (drop (i + 1) (take n l))
+first-next n l i at best d h true e = rw (rest-cons n l i d h, e, add-one)
+first-next n l i at best d h false e = rw (rest-cons n l i d h, e, add-one)
 
 -- No job is left: the place is that of the first.
 pub first-end : (js : List Job) (i at : ℕ) (best : Job) → length js ≤ i → firstFrom i at best (drop i js) ≡ firstPlace js → at ≡ firstPlace js

@@ -7,11 +7,19 @@ use native.Mathlib.Decide.{decLe}
 use native.Mathlib.Omega.{arith}
 use lib.Dec.{ltb}
 use lib.ListN.{length, take, drop, getD, set, drop-of-length-le}
-use borrow.Author.Tests.{lt-ltb, le-ltb, ne-eqb}
+use borrow.Author.Tests.{lt-ltb, le-ltb, eq-eqb, ne-eqb}
 use Rattle.jobs.specs.declared.Job.{Job}
 use Rattle.jobs.specs.Places.{noJob, without}
 use Rattle.jobs.specs.Late.{isLate, lateCount}
 use Rattle.jobs.proofs.Places.{rest-cons}
+
+-- A job that is due at the clock is late where it has a unit left ..
+pub late-at-due : (t : ℕ) (j : Job) → j .due .0 ≡ t → ltb 0 (j .left) ≡ isLate t j
+late-at-due t j e = rw (eq-eqb (j .due .0) t e)
+
+-- .. and no other is.
+pub late-at-due-alone : (t : ℕ) (j : Job) → (j .due .0 ≡ t → ⊥) → false ≡ isLate t j
+late-at-due-alone t j h = rw (ne-eqb (j .due .0) t h)
 
 -- The count of what is left is that of the next job and of the rest.
 pub late-next : (n : ℕ) (l : List Job) (i t : ℕ) (d : Job) → i < length (take n l) → (b : Bool) → isLate t (getD l i d) ≡ b
@@ -29,6 +37,7 @@ unfoldable pub dueAfter : (clock : ℕ) → List Job → ℕ
 dueAfter clock [] = 0
 dueAfter clock (j ∷ js) = cond (ltb clock (j .due .0)) 1 0 + dueAfter clock js
 
+-- A test counts as one or none.
 one-or-none : (b : Bool) → cond b 1 0 ≤ 1
 one-or-none true = omega arith
 one-or-none false = omega arith

@@ -69,6 +69,7 @@ record Kept (p q : Pending) (out : ℕ) : Type 0 where
   due : (t : ℕ) → dueAfter t (jobsOf q) ≤ dueAfter t (jobsOf p)
 
 module _ (p : Pending) (at : ℕ) (h : at < used p) where
+  -- A job that is taken out is the one that goes.
   taken-out-keeps : Kept p (takenOut p at) 1
   taken-out-keeps =
       record {
@@ -77,6 +78,7 @@ module _ (p : Pending) (at : ℕ) (h : at < used p) where
         due = λ t. rw (jobs-taken-out p at h) (due-without t (jobsOf p) at);
       }
 
+  -- None goes where another job with the same due time takes the place.
   set-keeps : (j : Job) → j .due ≡ getD (p .places) at noJob .due → Kept p (record { places = set (p .places) at j; count = used p }) 0
   set-keeps j e =
       let k : at < p .count = omega (arith, length-take (p .count) (p .places)) in
@@ -86,6 +88,7 @@ module _ (p : Pending) (at : ℕ) (h : at < used p) where
         due = λ t. rw (jobs-set p at j h) (omega (arith, due-set t (jobsOf p) at j (rw (getD-take (p .count) (p .places) at noJob k) e)));
       }
 
+  -- A job goes with its last unit.
   unit-keeps : Kept p (after p at) (cond (lastUnit (getD (p .places) at noJob)) 1 0)
   unfolding after
   unit-keeps = by-last (lastUnit (getD (p .places) at noJob)) (worked (getD (p .places) at noJob)) refl
@@ -105,6 +108,7 @@ oneMore f x = record { records = set (f .records) (f .count) x; count = f .count
 abbrev finishesAfter : Finishes → (clock : ℕ) → Job → Finishes
 finishesAfter f clock j = cond (lastUnit j) (oneMore f (finishAt clock j)) f
 
+-- Their number goes up by one with a last unit.
 count-after : (f : Finishes) (clock : ℕ) (j : Job) → finishesAfter f clock j .count ≡ f .count + cond (lastUnit j) 1 0
 count-after f clock j = by-last (lastUnit j)
   where
@@ -112,12 +116,13 @@ count-after f clock j = by-last (lastUnit j)
     by-last true = refl
     by-last false = omega arith
 
+-- The records of a list, with one more, are those of the longer list.
 one-more : (fs : List Finish) (x : Finish) → length fs < maxPlaces → oneMore (finishesOf fs) x ≡ finishesOf (fs ++ x ∷ [])
 one-more fs x h =
     let n : maxPlaces - length fs ≡ suc (maxPlaces - (length fs + 1)) = omega arith in
     rw (n, set-append-seam fs noFinish (replicate (maxPlaces - (length fs + 1)) noFinish) x, length-append fs (x ∷ []), append-assoc)
 
--- They are the list with the job at its end, where that has finished.
+-- The records of a list, after a job had a unit, are those of the list with its finish at the end where it has finished.
 recorded-after : (fs : List Finish) (clock : ℕ) (j : Job) → length fs + cond (lastUnit j) 1 0 ≤ maxPlaces
     → finishesAfter (finishesOf fs) clock j ≡ finishesOf (fs ++ cond (lastUnit j) (finishAt clock j ∷ []) [])
 recorded-after fs clock j = by-last (lastUnit j)
@@ -155,6 +160,7 @@ reached-first now until p l h =
     }
 
 module _ {end : Done} {until now : ℕ} {p : Pending} {last : Turn} {late : ℕ} {finishes : Finishes} (r : Reached end until now p last late finishes) where
+  -- One tick more.
   reached-next : now < until → firstPlace (jobsOf p) < p .count
       → Reached end until (now + 1) (oneTick p) (turn.Ran (ranOf (firstJob p))) (late + lateCount (now + 1) (jobsOf (oneTick p)))
       (finishesAfter finishes (now + 1) (firstJob p))
@@ -172,10 +178,10 @@ module _ {end : Done} {until now : ℕ} {p : Pending} {last : Turn} {late : ℕ}
         few-late = omega (arith, kept .due now, late-was-due now (jobsOf (oneTick p)));
       }
 
-  -- One tick more, in which the job that goes first has a unit ..
+  -- The same with what the code has made of the job that goes first, the one at `at`: its unit ..
   module _ (h : now < until) (at : ℕ) (j : Job) (a : at ≡ firstPlace (jobsOf p)) (b : j ≡ getD (p .places) at noJob) (k : at < p .count)
       (q : Pending) (last′ : Turn) (finishes′ : Finishes) where
-    -- .. that is its last ..
+    -- .. is its last ..
     pub reached-last : j .left ≤ 1 → q ≡ takenOut p at → last′ ≡ turn.Ran (record { serial = j .serial; finished = finished.Yes })
         → finishes′ ≡ oneMore finishes (finishAt (now + 1) j) → Reached end until (now + 1) q last′ (late + lateCount (now + 1) (jobsOf q)) finishes′
     unfolding after
@@ -196,10 +202,11 @@ module _ {end : Done} {until now : ℕ} {p : Pending} {last : Turn} {late : ℕ}
   abbrev given-here : Ticks
   given-here = record { pending = p; clock = record { 0 = now }; turn = last; late = late; finishes = finishes }
 
+  -- It is the result where the ticks stop ..
   reached-end : turnsFrom (until - now) now p last late (r .finished) ≡ stopped now p last late (r .finished) → given-here ≡ handedOut end
   reached-end e = rw (← r .leads-on, e, r .recorded)
 
-  -- It is the result where no time is left ..
+  -- .. as they do where no time is left ..
   pub reached-until : until ≤ now → given-here ≡ handedOut end
   reached-until h = reached-end (turns-over until now p last late (r .finished) h)
 

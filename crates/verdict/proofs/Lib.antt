@@ -3,3 +3,4 @@ pub mod Bounds
 pub mod Laws
 pub mod Accepted
 pub mod Verdicts
+pub mod Scans

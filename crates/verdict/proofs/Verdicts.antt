@@ -14,8 +14,9 @@ use Rattle.table.specs.Tables.{tableRead}
 use Rattle.verdict.specs.declared.Witness.{Witness}
 use Rattle.verdict.specs.declared.Verdict.{Verdict}
 use Rattle.verdict.specs.declared.Verdict.the-variants as verdict
+use Rattle.verdict.specs.declared.Scan.the-variants as scan
 use Rattle.verdict.specs.Demand.{tableDemand, tableGrowth, largestD}
-use Rattle.verdict.specs.Verdict.{RightOf, RightOfRead, verdictSays, OneVerdict, SomeVerdict, NeverSaysZero, SaidApart}
+use Rattle.verdict.specs.Verdict.{RightOf, RightOfRead, verdictSays, Scanned, OneVerdict, SomeVerdict, NeverSaysZero, SaidApart}
 use Rattle.verdict.proofs.Accepted.{Known, accepted-is-known}
 
 -- A witness is its length and its demand.
@@ -24,20 +25,23 @@ same-witness v w = ap₂ (λ l d. record { length = l; demand = d })
 
 -- ---- one verdict
 
--- At most one is right of a table ..
+-- A table has one witness at most.
+one-witness : (t : Table) (v w : Witness) → RightOf t (verdict.Overloaded v) → RightOf t (verdict.Overloaded w) → v ≡ w
+one-witness t v w p q =
+    let length : v .length ≡ w .length = one-smallest-failing (tableDemand t) (v .length) (w .length) (p .0) (q .0) in
+    same-witness v w length (p .1 ∙ rw length (sym (q .1)))
+
+-- So one verdict at most is right of a table ..
 one-right : (t : Table) (v w : Verdict) → RightOf t v → RightOf t w → v ≡ w
 one-right t verdict.Feasible verdict.Feasible p q = refl
 one-right t verdict.Feasible (verdict.Overloaded w) p q = absurd (none-where-every-length-fits (tableDemand t) (w .length) p (q .0))
 one-right t verdict.Feasible (verdict.Refused r) p q = absurd q
 one-right t (verdict.Overloaded v) verdict.Feasible p q = absurd (none-where-every-length-fits (tableDemand t) (v .length) q (p .0))
-one-right t (verdict.Overloaded v) (verdict.Overloaded w) p q =
-    let length : v .length ≡ w .length = one-smallest-failing (tableDemand t) (v .length) (w .length) (p .0) (q .0) in
-    let demand : v .demand ≡ w .demand = p .1 ∙ rw length (sym (q .1)) in
-    ap verdict.Overloaded (same-witness v w length demand)
+one-right t (verdict.Overloaded v) (verdict.Overloaded w) p q = ap verdict.Overloaded (one-witness t v w p q)
 one-right t (verdict.Overloaded v) (verdict.Refused r) p q = absurd q
 one-right t (verdict.Refused r) w p q = absurd p
 
--- .. and so of what was read.
+-- .. and of what was read.
 one-right-of-read : (t : Table) (a : TableAnswer) (v w : Verdict) → RightOfRead t a v → RightOfRead t a w → v ≡ w
 one-right-of-read t (answer.Accepted period) v w p q = one-right t v w p q
 one-right-of-read t (answer.Refused r) v w p q = p ∙ sym q
@@ -60,6 +64,10 @@ some-verdict s bytes = right (tableRead s .answer) refl
     right : (a : TableAnswer) → tableRead s .answer ≡ a → (v : Verdict) × RightOfRead (tableRead s .table) a v
     right (answer.Accepted period) e = some-right (tableRead s .table) period (accepted-is-known s period bytes e)
     right (answer.Refused r) e = (verdict.Refused r, refl)
+
+-- The first length from 1 on that a scan finds to fail is the witness.
+pub smallest-found : (t : Table) (last : ℕ) (w : Witness) → Scanned (tableDemand t) 1 last (scan.Fails w) → RightOf t (verdict.Overloaded w)
+smallest-found t last w found = (record { some-length = found .0; fails = found .2; smaller-fit = found .4 }, omega (arith, found .3))
 
 -- ---- what a verdict says
 

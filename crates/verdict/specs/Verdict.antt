@@ -3,14 +3,13 @@
 use Prim.Native.Nat.{ℕ, _≤_, _<_}
 use mathlib.Core.Path.{_≡_}
 use mathlib.Core.List.{List}
-use Rattle.kinds.specs.Numbering.{Said, refusalNumber}
+use Rattle.kinds.specs.Numbering.{Said, refusedSays}
 use Rattle.numbers.specs.Laws.{Bytes}
 use Rattle.theory.specs.Curves.{EveryLengthFits, SmallestFailing}
 use Rattle.table.specs.declared.Table.{Table}
 use Rattle.table.specs.declared.TableAnswer.{TableAnswer}
 use Rattle.table.specs.declared.TableAnswer.the-variants as answer
 use Rattle.table.specs.Tables.{tableRead}
-use Rattle.verdict.specs.declared.Witness.{Witness}
 use Rattle.verdict.specs.declared.Verdict.{Verdict}
 use Rattle.verdict.specs.declared.Verdict.the-variants as verdict
 use Rattle.verdict.specs.declared.Scan.{Scan}
@@ -36,7 +35,7 @@ Judged s v = RightOfRead (tableRead s .table) (tableRead s .answer) v
 abbrev pub verdictSays : Verdict → Said
 verdictSays verdict.Feasible = record { number = 20; first = 0; second = 0 }
 verdictSays (verdict.Overloaded w) = record { number = 21; first = w .length; second = w .demand }
-verdictSays (verdict.Refused r) = record { number = refusalNumber (r .refusal); first = r .place; second = 0 }
+verdictSays (verdict.Refused r) = refusedSays r
 
 -- What is found in a range of lengths: every one fits, or this is the smallest that fails, with what is asked for.
 abbrev pub Scanned : (f : ℕ → ℕ) (first last : ℕ) → Scan → Type 0

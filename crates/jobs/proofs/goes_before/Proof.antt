@@ -1,20 +1,22 @@
 -- `goes_before` meets its contract: each `return` is one case of the definition.
-use borrow.Author.Tests.{lt-ltb, le-ltb}
-use Rattle.jobs.specs.Choice.{goesBefore}
+use Rattle.jobs.proofs.First.{goes-by-due, goes-not-by-due, goes-by-serial}
 use Rattle.jobs.proofs.goes_before.Statement.{statement}
 use Rattle.jobs.proofs.goes_before.Tie as tie
 
 returns : tie.Need-returns
-unfolding goesBefore
-returns c = simp (lt-ltb _ _ (c .if1 .taken))
+returns c =
+    let a = c .before .before .before .args in
+    goes-by-due (a .a) (a .b) (c .if1 .taken)
 
 returns-2 : tie.Need-returns-2
-unfolding goesBefore
-returns-2 c = simp (le-ltb _ _ (c .before .before .before .if1 .left), lt-ltb _ _ (c .if2 .taken))
+returns-2 c =
+    let a = c .before .before .before .before .before .before .args in
+    goes-not-by-due (a .a) (a .b) (c .if2 .taken)
 
 returns-3 : tie.Need-returns-3
-unfolding goesBefore
-returns-3 c = simp (le-ltb _ _ (c .before .before .before .before .before .if1 .left), le-ltb _ _ (c .before .before .if2 .left))
+returns-3 c =
+    let a = c .before .before .before .before .before .before .before .before .args in
+    goes-by-serial (a .a) (a .b) (c .before .before .before .before .before .if1 .left) (c .before .before .if2 .left)
 
 pub goes-before-spec : {M : Type 1} → statement M
 goes-before-spec = tie.close (tie.spec returns returns-2 returns-3)

@@ -7,8 +7,10 @@ use Rattle.verdict.specs.declared.Verdict.{Verdict}
 use Rattle.verdict.specs.Demand.{maxLength}
 use Rattle.verdict.specs.Verdict.{RightOf, Judged}
 use Rattle.verdict.proofs.Bounds.{last-at-most}
-use Rattle.verdict.proofs.Accepted.{Known, Settles, settled-by-one-period, settled-by-many-periods, smallest-found}
-use Rattle.verdict.proofs.Accepted.{read-is-known, judged-as-accepted, judged-as-refused}
+use Rattle.verdict.proofs.Accepted.{Known}
+use Rattle.verdict.proofs.Scans.{Settles, settled-by-one-period, settled-by-many-periods}
+use Rattle.verdict.proofs.Scans.{read-is-known, judged-as-accepted, judged-as-refused}
+use Rattle.verdict.proofs.Verdicts.{smallest-found}
 use Rattle.verdict.proofs.judge.Statement.{statement}
 use Rattle.verdict.proofs.judge.Tie as tie
 
@@ -36,8 +38,8 @@ settled c =
     let d = c .before .before .largest-d .ensures in
     let g = c .before .growth .ensures in
     ⊎-elim
-    (λ w. rw (w .1, d) (settled-by-many-periods _ _ k (rw g at (w .0 .taken))))
-    (λ w. rw (w .1, d) (settled-by-one-period _ _ k (rw g at (w .0 .left))))
+    (λ w. rw (w .1) (settled-by-many-periods _ _ k d g (w .0 .taken)))
+    (λ w. rw (w .1) (settled-by-one-period _ _ k d g (w .0 .left)))
     (c .if1 .came)
 
 read-table-requires : tie.Need-read-table-requires

@@ -20,6 +20,7 @@ Inv-loop self count at₀ best₀ i₀ at best i =
 abbrev μ-loop : tie.MeasureT-loop
 μ-loop self count at₀ best₀ i₀ at best i = count - i
 
+-- The count is the number of places in use.
 counted : (c : tie.After-in-use Inv-loop μ-loop) → c .in-use .result ≡ used (c .before .args .t1)
 counted c = used-is (c .before .args .t1) (c .in-use .result) (search (needs, length-mapped)) (c .in-use .ensures)
 

@@ -9,6 +9,7 @@ use Rattle.jobs.proofs.Places.{used-is, length-mapped}
 use Rattle.jobs.proofs.Pending.give.Statement.{statement}
 use Rattle.jobs.proofs.Pending.give.Tie as tie
 
+-- The count is the number of places in use.
 counted : (c : tie.After-in-use) → c .in-use .result ≡ used (c .before .args .t1)
 counted c = used-is (c .before .args .t1) (c .in-use .result) (search (needs, length-mapped)) (c .in-use .ensures)
 

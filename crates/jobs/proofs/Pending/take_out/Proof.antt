@@ -16,6 +16,7 @@ Inv-loop at count p₀ last i₀ p i =
 abbrev μ-loop : tie.MeasureT-loop
 μ-loop at count p₀ last i₀ p i = last - i
 
+-- The count is the number of places in use.
 counted : (c : tie.After-in-use Inv-loop μ-loop) → c .in-use .result ≡ used (c .before .args .self)
 counted c = used-is (c .before .args .self) (c .in-use .result) (search (needs, length-mapped)) (c .in-use .ensures)
 

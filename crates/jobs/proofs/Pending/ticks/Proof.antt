@@ -57,6 +57,7 @@ abbrev head : tie.After-struct-known2 Inv-loop2 μ-loop2 Inv-loop3 μ-loop3 Inv-
     → tie.At-loop Inv-loop2 μ-loop2 Inv-loop3 μ-loop3 Inv-loop4 μ-loop4 Inv-loop μ-loop
 head c = c .before .before .before .before .before .before .before .before
 
+-- The count is the number of places in use.
 counted : (c : tie.After-in-use Inv-loop2 μ-loop2 Inv-loop3 μ-loop3 Inv-loop4 μ-loop4 Inv-loop μ-loop) → c .in-use .result ≡ used (c .before .args .self)
 counted c = used-is (c .before .args .self) (c .in-use .result) (search (needs, length-mapped)) (c .in-use .ensures)
 
