@@ -6,7 +6,8 @@ ghost use mathlib.Core.Path.{_≡_};
 ghost use lib.ListN.{length};
 ghost use Rattle.log.specs.Log.{writtenRecord, restAfter};
 
-// Writes one record at the start of the rest of a log, and keeps what comes after it: 25 for a number too big, then 12 where it has no room, with the rest as it was.
+// Writes one record at the start of the rest of a log, and keeps what comes after it: 25 for a number too big, then 12 where it has no room, with the rest as
+// it was. So the numbers are counted before the first of them is written.
 pub fn write_record(rest: &mut [u8], job: Finish) -> Written
     ensures { λ r. ⌜ (r ≡ writtenRecord job (length (now (rest .entry))))
         × (now (rest .exit) ≡ restAfter r job (now (rest .entry))) ⌝ }
@@ -35,6 +36,7 @@ pub fn write_record(rest: &mut [u8], job: Finish) -> Written
     while k < 5 {
         match numbers::write(&mut rest[at..], values[k]) {
             Written::Length(n) => at += n,
+            // Never: the number is in range, and there is room.
             Written::Refused(r) => return Written::Refused(r),
         }
         k += 1;

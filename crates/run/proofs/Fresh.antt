@@ -1,6 +1,7 @@
--- Fresh runs are sound, and so is every run that is started: whatever the bytes, the table that they are read as is in range. (docs/RULES.md, sections 6.4 and 6.25.)
-use Prim.Native.Nat.{ℕ, zero, suc, _≤_, _<_}
-use mathlib.Core.Path.{_≡_, refl, sym, _∙_}
+-- Fresh runs are sound, and so is every run that is started: whatever the bytes, the table that they are read as is in range.
+-- (docs/RULES.md, sections 6.3, 6.4 and 6.25.)
+use Prim.Native.Nat.{ℕ, zero, suc, _<_}
+use mathlib.Core.Path.{_≡_, refl}
 use mathlib.Core.Logic.{_⊎_, inl, inr, ⊎-elim}
 use mathlib.Core.Bool.{Bool, true, false, cond}
 use mathlib.Core.List.{List, [], _∷_, List·Memᴰ, List·Memᴰ·head, List·Memᴰ·tail}
@@ -8,7 +9,6 @@ use native.Mathlib.Nat.{not-suc-le-zero, le-of-suc-le-suc}
 use native.Mathlib.Omega.{arith}
 use lib.Dec.{ltb, leb}
 use lib.ListN.{length, getD, length-append, length-replicate, getD-replicate, List·getD-append}
-use Rattle.kinds.specs.declared.RefusedAt.{RefusedAt}
 use Rattle.numbers.specs.declared.NumberRead.{NumberRead}
 use Rattle.numbers.specs.declared.NumberRead.the-variants as number
 use Rattle.numbers.specs.Laws.{Bytes}
@@ -26,8 +26,7 @@ use Rattle.table.proofs.Laws.{in-range-means, accepted-is-spelled}
 use Rattle.due.specs.Kept.{nothingKept}
 use Rattle.due.proofs.Laws.{sound-means as kept-means, empty-is-sound}
 use Rattle.run.specs.declared.Run.{Run}
-use Rattle.run.specs.declared.Started.{Started}
-use Rattle.run.specs.Runs.{freshRun, startAnswer, started, rowAt, keptOf}
+use Rattle.run.specs.Runs.{freshRun, startAnswer, started, rowAt}
 use Rattle.run.specs.Sound.{Whole, Sound}
 use Rattle.run.specs.Laws.{FreshIsSound, StartedIsSound}
 use Rattle.run.proofs.Sound.{sound-means}
@@ -35,16 +34,20 @@ use Rattle.run.proofs.Sound.{sound-means}
 -- ---- fresh runs
 
 module _ (t : Table) (in-range : InRange t) where
+  -- A fresh run's arrays have all their places ..
   fresh-whole : Whole (freshRun t)
   fresh-whole = record { all-rows = in-range .all-places; all-kept = refl; all-places = refl }
 
+  -- .. and it has the facts of a sound run.
   fresh-facts : Sound (freshRun t)
   fresh-facts = record {
     few-rows = in-range .few-rows;
     clock-in-time = omega arith;
     few-pending = omega arith;
     rows = λ i h. in-range-means (rowAt t i) .0 (in-range .rows-in-range i h);
-    kept = λ i h. rw (getD-replicate maxRows i nothingKept _ (omega (arith, in-range .few-rows))) (kept-means nothingKept (rowAt t i) .0 (empty-is-sound (rowAt t i)));
+    kept = λ i h.
+        rw (getD-replicate maxRows i nothingKept _ (omega (arith, in-range .few-rows)))
+        (kept-means nothingKept (rowAt t i) .0 (empty-is-sound (rowAt t i)));
     jobs = λ i h. absurd (not-suc-le-zero h);
     apart = λ i k h l e. absurd (not-suc-le-zero l);
     serials = omega arith;
@@ -73,14 +76,17 @@ acceptable-in-range rs a = record {
 abbrev AcceptedOrEmpty : TableRead → Type 0
 AcceptedOrEmpty r = ((h : ℕ) × (r .answer ≡ Accepted h)) ⊎ (r .table ≡ emptyTable)
 
+-- Of two that are so, the one that a test picks is.
 either : (test : Bool) (r q : TableRead) → AcceptedOrEmpty r → AcceptedOrEmpty q → AcceptedOrEmpty (cond test r q)
 either true r q a b = a
 either false r q a b = b
 
+-- What is read after the rows is so ..
 after-rows : (s : List ℕ) (v : Rows) → AcceptedOrEmpty (afterRows s v)
 after-rows s (rows rs next) = either (ltb next (length s)) _ _ (inr refl) (either (leb (periodOf rs) maxPeriod) _ _ (inl (periodOf rs, refl)) (inr refl))
 after-rows s (refused at) = inr refl
 
+-- .. and what is read after the row count.
 after-count : (s : List ℕ) (v : NumberRead) → AcceptedOrEmpty (afterCount s v)
 after-count s (number.Number n) = either (leb (n .value) maxRows) _ _ (after-rows s (readRows (n .value) s (n .next))) (inr refl)
 after-count s (number.Refused at) = inr refl
@@ -95,7 +101,9 @@ read-in-range s b = ⊎-elim
 pub started-is-sound : StartedIsSound
 started-is-sound s b = fresh-is-sound (tableRead s .table) (read-in-range s b)
 
--- A run is started as the table's bytes are read.
+-- ---- how a run is started
+
+-- What `started` says of the bytes, from the table that was read, its fresh run and its answer.
 pub starts : (s : List ℕ) {r : TableRead} {run : Run} {a : TableAnswer} → r ≡ tableRead s → run ≡ freshRun (r .table) → r .answer ≡ a
     → record { run = run; answer = startAnswer a } ≡ started s
 starts s e f g = rw (f, ← g, e)

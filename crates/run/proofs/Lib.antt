@@ -1,2 +1,5 @@
 pub mod Sound
 pub mod Fresh
+pub mod Release
+pub mod Ticking
+pub mod Advancing

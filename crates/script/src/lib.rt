@@ -117,24 +117,18 @@ pub fn choose(first: &[u8], second: &[u8], first_time: Tick, second_time: Tick) 
     }
     let one = record_at(first, 0);
     let other = record_at(second, 0);
-    if let RecordRead::Refused(r) = one {
-        return refused_in(Which::First, r);
-    }
-    if let RecordRead::Refused(r) = other {
-        return refused_in(Which::Second, r);
-    }
     match one {
+        RecordRead::Refused(r) => refused_in(Which::First, r),
         RecordRead::Record(a) => match other {
+            RecordRead::Refused(r) => refused_in(Which::Second, r),
             RecordRead::Record(b) => earlier(a, b, first_time, second_time),
             RecordRead::End => next_of(Which::First, a.next),
-            RecordRead::Refused(_) => Chosen::Ended,
         },
         RecordRead::End => match other {
+            RecordRead::Refused(r) => refused_in(Which::Second, r),
             RecordRead::Record(b) => next_of(Which::Second, b.next),
             RecordRead::End => Chosen::Ended,
-            RecordRead::Refused(_) => Chosen::Ended,
         },
-        RecordRead::Refused(_) => Chosen::Ended,
     }
 }
 

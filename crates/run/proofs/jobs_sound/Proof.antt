@@ -25,7 +25,7 @@ element-copy-out-job : tie.Need-element-copy-out-job Inv-loop μ-loop
 element-copy-out-job c = omega arith
 
 returns : tie.Need-returns Inv-loop μ-loop
-returns c = no-such-row (c .before .before .before .loop .inv) (c .before .before .loop-test .taken) (c .if1 .taken)
+returns c = let t = c .before .before in no-such-row (t .before .loop .inv) (t .loop-test .taken) (c .if1 .taken)
 
 mul-row : tie.Need-mul-row Inv-loop μ-loop
 mul-row c = omega arith
@@ -38,7 +38,9 @@ job-fits-requires c κs = search needs
 
 returns-2 : tie.Need-returns-2 Inv-loop μ-loop
 returns-2 c =
-    job-does-not-fit (c .before .before .before .before .before .before .loop .inv) (c .before .before .before .before .before .loop-test .taken) (c .before .before .before .if1 .left) (sym (c .before .job-fits .ensures) ∙ not-true _ (c .if2 .taken))
+    let t = c .before .before .before .before .before in
+    job-does-not-fit (t .before .loop .inv) (t .loop-test .taken) (c .before .before .before .if1 .left)
+    (sym (c .before .job-fits .ensures) ∙ not-true _ (c .if2 .taken))
 
 add-i : tie.Need-add-i Inv-loop μ-loop
 add-i c = omega arith
@@ -48,7 +50,9 @@ loop-less c = omega arith
 
 loop-again : tie.Need-loop-again Inv-loop μ-loop
 loop-again c =
-    job-fits (c .before .before .before .before .before .before .loop .inv) (c .before .before .before .before .before .loop-test .taken) (c .before .before .before .if1 .left) (sym (c .before .job-fits .ensures) ∙ not-false _ (c .if2 .left))
+    let t = c .before .before .before .before .before in
+    job-fits (t .before .loop .inv) (t .loop-test .taken) (c .before .before .before .if1 .left)
+    (sym (c .before .job-fits .ensures) ∙ not-false _ (c .if2 .left))
 
 returns-3 : tie.Need-returns-3 Inv-loop μ-loop
 returns-3 c = no-job-left (c .before .loop .inv) (c .loop-test .left)

@@ -1,11 +1,14 @@
 -- `run::rows_sound` meets its contract. The loop's invariant: whether all rows are sound is settled by those from here on.
 use Prim.Native.Nat.{_-_}
-use mathlib.Core.Path.{refl, sym, _∙_}
+use mathlib.Core.Bool.{true}
+use mathlib.Core.Path.{_≡_, refl, sym, _∙_}
 use native.Mathlib.Omega.{arith}
 use borrow.Author.Needs.{needs}
 use borrow.Author.Tests.{not-true, not-false}
+use Rattle.table.specs.Rows.{rowInRange}
 use Rattle.jobs.proofs.Places.{length-mapped}
-use Rattle.run.proofs.Sound.{RowsFrom, row-out-of-range, kept-unsound, row-and-kept-sound, no-row-left}
+use Rattle.run.specs.Runs.{rowAt}
+use Rattle.run.proofs.Sound.{RowsFrom, row-out-of-range, kept-unsound, row-sound, no-row-left}
 use Rattle.run.proofs.rows_sound.Statement.{statement}
 use Rattle.run.proofs.rows_sound.Tie as tie
 
@@ -14,6 +17,11 @@ Inv-loop table kept i₀ i = RowsFrom table kept i
 
 abbrev μ-loop : tie.MeasureT-loop
 μ-loop table kept i₀ i = table .count - i
+
+-- A row that was found in range is.
+in-range : (c : tie.Else1 Inv-loop μ-loop)
+    → (let t = c .before .before .before .before .before in rowInRange (rowAt (t .before .args .t1) (t .loop .i)) ≡ true)
+in-range c = sym (c .before .in-range .ensures) ∙ not-false _ (c .if1 .left)
 
 loop-holds : tie.Need-loop-holds Inv-loop μ-loop
 loop-holds c = record { all-rows = search (needs, length-mapped); all-kept = search (needs, length-mapped); few-rows = c .pre; settled = refl }
@@ -34,15 +42,17 @@ in-range-requires : tie.Need-in-range-requires Inv-loop μ-loop
 in-range-requires c κs = search needs
 
 returns : tie.Need-returns Inv-loop μ-loop
-returns c = row-out-of-range (c .before .before .before .before .before .loop .inv) (c .before .before .before .before .loop-test .taken) (sym (c .before .in-range .ensures) ∙ not-true _ (c .if1 .taken))
+returns c =
+    let t = c .before .before .before .before in
+    row-out-of-range (t .before .loop .inv) (t .loop-test .taken) (sym (c .before .in-range .ensures) ∙ not-true _ (c .if1 .taken))
 
 sound-requires : tie.Need-sound-requires Inv-loop μ-loop
 sound-requires c κs = search needs
 
 returns-2 : tie.Need-returns-2 Inv-loop μ-loop
 returns-2 c =
-    kept-unsound (c .before .before .before .before .before .before .before .loop .inv) (c .before .before .before .before .before .before .loop-test .taken) (sym (c .before .before .before .in-range .ensures) ∙ not-false _ (c .before .before .if1 .left))
-    (sym (c .before .sound .ensures) ∙ not-true _ (c .if2 .taken))
+    let t = c .before .before .before .before .before .before in
+    kept-unsound (t .before .loop .inv) (t .loop-test .taken) (in-range (c .before .before)) (sym (c .before .sound .ensures) ∙ not-true _ (c .if2 .taken))
 
 add-i : tie.Need-add-i Inv-loop μ-loop
 add-i c = omega arith
@@ -52,8 +62,8 @@ loop-less c = omega arith
 
 loop-again : tie.Need-loop-again Inv-loop μ-loop
 loop-again c =
-    row-and-kept-sound (c .before .before .before .before .before .before .before .loop .inv) (c .before .before .before .before .before .before .loop-test .taken) (sym (c .before .before .before .in-range .ensures) ∙ not-false _ (c .before .before .if1 .left))
-    (sym (c .before .sound .ensures) ∙ not-false _ (c .if2 .left))
+    let t = c .before .before .before .before .before .before in
+    row-sound (t .before .loop .inv) (t .loop-test .taken) (in-range (c .before .before)) (sym (c .before .sound .ensures) ∙ not-false _ (c .if2 .left))
 
 returns-3 : tie.Need-returns-3 Inv-loop μ-loop
 returns-3 c = no-row-left (c .before .loop .inv) (c .loop-test .left)

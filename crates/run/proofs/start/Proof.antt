@@ -3,10 +3,6 @@ use borrow.Author.Needs.{needs}
 use Rattle.run.proofs.Fresh.{starts}
 use Rattle.run.proofs.start.Statement.{statement}
 use Rattle.run.proofs.start.Tie as tie
-use Rattle.run.proofs.start.Reads as reads
-use Rattle.run.proofs.start.Lts as lts
-use Rattle.run.proofs.Run.fresh.Reads as fresh-reads
-use Rattle.table.proofs.read_table.Reads as read-table-reads
 
 read-table-requires : tie.Need-read-table-requires
 read-table-requires c κs = search needs
@@ -21,10 +17,14 @@ enum-known-answer : tie.Need-enum-known-answer
 enum-known-answer c = search needs
 
 returns : tie.Need-returns
-returns c = starts (c .before .before .before .before .before .before .args .bytes .now) (c .before .before .before .before .read-table .ensures) (c .before .before .fresh .ensures) (c .enum-told .given .1)
+returns c =
+    let r = c .before .before .before .before in
+    starts (r .before .before .args .bytes .now) (r .read-table .ensures) (c .before .before .fresh .ensures) (c .enum-told .given .1)
 
 returns-2 : tie.Need-returns-2
-returns-2 c = starts (c .before .before .before .before .before .before .before .args .bytes .now) (c .before .before .before .before .before .read-table .ensures) (c .before .before .before .fresh .ensures) (c .before .answer .given .1)
+returns-2 c =
+    let r = c .before .before .before .before .before in
+    starts (r .before .before .args .bytes .now) (r .read-table .ensures) (c .before .before .before .fresh .ensures) (c .before .answer .given .1)
 
 pub start-spec : {M : Type 1} → statement M
 start-spec =

@@ -2,14 +2,9 @@
 use mathlib.Core.Path.{sym, _∙_}
 use borrow.Author.Needs.{needs}
 use borrow.Author.Tests.{not-true, not-false}
-use Rattle.run.proofs.Sound.{too-many-rows, clock-too-late, too-many-pending, rows-unsound, jobs-unsound, serials-alike, serials-decide}
+use Rattle.run.proofs.Sound.{too-many-rows, clock-too-late, too-many-pending, rows-unsound, jobs-unsound, serials-alike, bound-settles}
 use Rattle.run.proofs.Run.sound.Statement.{statement}
 use Rattle.run.proofs.Run.sound.Tie as tie
-use Rattle.run.proofs.Run.sound.Reads as reads
-use Rattle.run.proofs.Run.sound.Lts as lts
-use Rattle.jobs.proofs.Pending.distinct.Reads as distinct-reads
-use Rattle.run.proofs.jobs_sound.Reads as jobs-sound-reads
-use Rattle.run.proofs.rows_sound.Reads as rows-sound-reads
 
 returns : tie.Need-returns
 returns c = too-many-rows _ (c .if1 .taken)
@@ -42,14 +37,19 @@ add-result : tie.Need-add-result
 add-result c = search needs
 
 returns-7 : tie.Need-returns-7
-returns-7 c = serials-decide _ record {
-  few-rows = c .before .before .before .before .before .before .before .before .before .before .before .before .if1 .left;
-  clock-in-time = c .before .before .before .before .before .before .before .before .before .before .if2 .left;
-  few-pending = c .before .before .before .before .before .before .before .before .if3 .left;
-  rows = sym (c .before .before .before .before .before .before .before .rows-sound .ensures) ∙ not-false _ (c .before .before .before .before .before .before .if4 .left);
-  jobs = sym (c .before .before .before .before .before .jobs-sound .ensures) ∙ not-false _ (c .before .before .before .before .if5 .left);
-  apart = sym (c .before .before .before .distinct .ensures) ∙ not-false _ (c .before .before .if6 .left);
-}
+returns-7 c =
+    let d = c .before .before .before in
+    let j = d .before .before in
+    let r = j .before .before in
+    let p = r .before in
+    bound-settles _ record {
+      few-rows = p .before .before .before .before .if1 .left;
+      clock-in-time = p .before .before .if2 .left;
+      few-pending = p .if3 .left;
+      rows = sym (r .rows-sound .ensures) ∙ not-false _ (j .before .if4 .left);
+      jobs = sym (j .jobs-sound .ensures) ∙ not-false _ (d .before .if5 .left);
+      apart = sym (d .distinct .ensures) ∙ not-false _ (c .before .before .if6 .left);
+    }
 
 pub sound-spec : {M : Type 1} → statement M
 sound-spec =

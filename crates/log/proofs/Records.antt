@@ -1,0 +1,186 @@
+-- The numbers of a record, counted and then written one at a time; and what stands in a log from a place on. (docs/RULES.md, section 8.)
+use Prim.Native.Nat.{ℕ, suc, _+_, _-_, _*_, _≤_, _<_}
+use native.Mathlib.Nat.{zero-add}
+use native.Mathlib.Numerals.{add-one}
+use native.Mathlib.Omega.{arith}
+use mathlib.Core.Path.{_≡_, refl, sym, ap, _∙_}
+use mathlib.Core.Bool.{Bool, true, false, _&&_, and-eq-true-iff}
+use mathlib.Core.List.{List, [], _∷_, _++_, flatten, append-nil, append-assoc}
+use lib.Dec.{leb}
+use lib.ListN.{length, getD, take, drop, length-append, length-drop, drop-of-length-le}
+use lib.Seq.{sets, sets-eq, length-sets, drop-cons, drop-drop, drop-length, take-length}
+use borrow.Author.Tests.{le-leb, lt-leb}
+use borrow.Rule.Slice.PartMut.{midOf, putMid}
+use Rattle.kinds.specs.declared.Finish.{Finish}
+use Rattle.kinds.specs.declared.Refusal.{Refusal}
+use Rattle.kinds.specs.declared.Refusal.the-variants.{NumberTooBig, NoRoom}
+use Rattle.numbers.specs.declared.Written.{Written}
+use Rattle.numbers.specs.declared.Written.the-variants.{Length, Refused}
+use Rattle.numbers.specs.Spelling.{maxGroups, maxNumber, spelling}
+use Rattle.numbers.specs.Writing.{lengthOf, written, bufferAfter}
+use Rattle.numbers.proofs.Laws.{spelling-length, length-answered}
+use Rattle.log.specs.Log.{valuesOf, spelledNumbers, spelledFinish, allInRange, writtenRecord}
+
+-- ---- numbers spelled one after another
+
+-- Each takes one byte to six.
+pub spelled-length : (vs : List ℕ) → (length vs ≤ length (spelledNumbers vs)) × (length (spelledNumbers vs) ≤ maxGroups * length vs)
+unfolding flatten
+spelled-length [] = (omega arith, omega arith)
+spelled-length (v ∷ vs) =
+    let one = spelling-length v in
+    let more = spelled-length vs in
+    simp length-append (omega (arith, one, more), omega (arith, one, more))
+
+module _ (vs : List ℕ) (i : ℕ) (h : i < length vs) where
+  -- What is left from a number on is that number and what is left after it: in the spelling, ..
+  spelled-next : spelledNumbers (drop i vs) ≡ spelling (getD vs i 0) ++ spelledNumbers (drop (i + 1) vs)
+  unfolding flatten
+  spelled-next = rw (add-one, drop-cons vs i 0 h)
+
+  -- .. in its length, ..
+  takes-next : length (spelledNumbers (drop i vs)) ≡ length (spelling (getD vs i 0)) + length (spelledNumbers (drop (i + 1) vs))
+  takes-next = ap length spelled-next ∙ simp length-append
+
+  -- .. and in the test of the range.
+  range-next : allInRange (drop i vs) ≡ (leb (getD vs i 0) maxNumber && allInRange (drop (i + 1) vs))
+  range-next = rw (add-one, drop-cons vs i 0 h)
+
+-- ---- the record writer's answer, by its tests
+
+module _ (f : Finish) (room : ℕ) where
+  pub answers-too-big : allInRange (valuesOf f) ≡ false → writtenRecord f room ≡ Refused NumberTooBig
+  answers-too-big e = simp e
+
+  pub answers-no-room : allInRange (valuesOf f) ≡ true → room < length (spelledFinish f) → writtenRecord f room ≡ Refused NoRoom
+  answers-no-room e h = simp (e, lt-leb _ _ h)
+
+  pub answers-length : allInRange (valuesOf f) ≡ true → length (spelledFinish f) ≤ room → writtenRecord f room ≡ Length (length (spelledFinish f))
+  answers-length e h = simp (e, le-leb _ _ h)
+
+-- ---- the numbers are counted
+
+-- A number's length was answered: the number is in range, and this is the length of its spelling.
+length-told : (v : ℕ) (fits : Bool) → leb v maxNumber ≡ fits → (n : ℕ) → lengthOf v ≡ Length n → (leb v maxNumber ≡ true) × (n ≡ length (spelling v))
+length-told v true e n t = (e, cc)
+length-told v false e n t = (cc, cc)
+
+-- It was refused: the number is too big.
+length-refused : (v : ℕ) (fits : Bool) → leb v maxNumber ≡ fits → (r : Refusal) → lengthOf v ≡ Refused r → (leb v maxNumber ≡ false) × (r ≡ NumberTooBig)
+length-refused v true e r t = (cc, cc)
+length-refused v false e r t = (e, cc)
+
+-- The first i of the values are in range and take `room` bytes: with those still to come that makes the whole.
+pub record Counted (values : List ℕ) (room i : ℕ) : Type 0 where
+  pub not-past : i ≤ length values
+  pub in-range : allInRange (drop i values) ≡ allInRange values
+  pub takes : room + length (spelledNumbers (drop i values)) ≡ length (spelledNumbers values)
+
+-- At first none is counted.
+pub none-counted : (values : List ℕ) → Counted values 0 0
+none-counted values = record { not-past = omega arith; in-range = refl; takes = omega arith }
+
+module _ {values : List ℕ} {room i : ℕ} (p : Counted values room i) where
+  -- The next number has a length and is counted, ..
+  pub one-counted : i < length values → {n : ℕ} → lengthOf (getD values i 0) ≡ Length n → Counted values (room + n) (i + 1)
+  one-counted h {n} e =
+      let t = length-told (getD values i 0) _ refl n e in
+      record {
+        not-past = omega arith;
+        in-range = sym (range-next values i h ∙ simp (t .0)) ∙ p .in-range;
+        takes = omega (arith, p .takes, t .1, takes-next values i h);
+      }
+
+  -- .. or is too big, and then not all are in range.
+  pub one-too-big : i < length values → {r : Refusal} → lengthOf (getD values i 0) ≡ Refused r → (allInRange values ≡ false) × (r ≡ NumberTooBig)
+  one-too-big h {r} e =
+      let t = length-refused (getD values i 0) _ refl r e in
+      (sym (p .in-range) ∙ range-next values i h ∙ simp (t .0), t .1)
+
+  -- At last all are counted.
+  pub all-counted : length values ≤ i → (allInRange values ≡ true) × (room ≡ length (spelledNumbers values))
+  unfolding flatten
+  all-counted h =
+      let none : drop i values ≡ [] = drop-of-length-le values h in
+      (sym (p .in-range) ∙ rw none, omega (arith, rw none at (p .takes)))
+
+-- ---- a log from a place on
+
+module _ (log : List ℕ) (at : ℕ) where
+  -- What is lent from the place on, ..
+  pub rest-of : midOf at (length log - at) log ≡ drop at log
+  rest-of = rw (← length-drop, take-length)
+
+  -- .. the whole after something was put there, ..
+  pub rest-put : (rest : List ℕ) → putMid at (length log - at) log rest ≡ take at log ++ rest
+  rest-put rest = rw (← length-drop, drop-length, append-nil)
+
+  -- .. and after a number was written there: its groups are stored one after another.
+  number-put : (v n : ℕ) (rest : List ℕ) → n ≡ length (spelling v) → at + n ≤ length log
+      → rest ≡ bufferAfter (Length n) v (midOf at (length log - at) log) → putMid at (length log - at) log rest ≡ sets log at (spelling v)
+  number-put v n rest e h w = rw (rest-put rest, w, rest-of, drop-drop, e, ← append-assoc) (sym (sets-eq (spelling v) log at (omega arith)))
+
+-- ---- the numbers are written
+
+-- Two lists stored one behind the other are one list stored.
+sets-append : (s t l : List ℕ) (i : ℕ) → sets l i (s ++ t) ≡ sets (sets l i s) (i + length s) t
+sets-append [] t l i = ap (λ (k : ℕ). sets l k t) (omega arith)
+sets-append (v ∷ s) t l i = sets-append s t _ (suc i) ∙ ap (λ (k : ℕ). sets (sets l i (v ∷ s)) k t) (omega arith)
+
+-- There is room for the values, all in range, and the first k of them stand up to `at`: with those still to come that makes the whole.
+pub record Standing (values rest₀ rest : List ℕ) (at k : ℕ) : Type 0 where
+  pub not-past : k ≤ length values
+  pub in-range : allInRange (drop k values) ≡ true
+  pub takes : at + length (spelledNumbers (drop k values)) ≡ length (spelledNumbers values)
+  pub same-length : length rest ≡ length rest₀
+  pub has-room : length (spelledNumbers values) ≤ length rest₀
+  pub completes : sets rest at (spelledNumbers (drop k values)) ≡ sets rest₀ 0 (spelledNumbers values)
+
+-- At first none stands there.
+pub none-standing : (values rest : List ℕ) → allInRange values ≡ true → length (spelledNumbers values) ≤ length rest → Standing values rest rest 0 0
+none-standing values rest e h =
+    record { not-past = omega arith; in-range = e; takes = omega arith; same-length = refl; has-room = h; completes = refl }
+
+module _ {values rest₀ rest : List ℕ} {at k : ℕ} (p : Standing values rest₀ rest at k) (h : k < length values) where
+  -- The next number is in range, as are those after it, ..
+  next-in-range : (leb (getD values k 0) maxNumber ≡ true) × (allInRange (drop (k + 1) values) ≡ true)
+  next-in-range = and-eq-true-iff _ _ .0 (sym (range-next values k h) ∙ p .in-range)
+
+  -- .. there is room for it, ..
+  next-has-room : at + length (spelling (getD values k 0)) ≤ length rest
+  next-has-room = omega (arith, takes-next values k h, p .takes, p .same-length, p .has-room)
+
+  -- .. so it is written, ..
+  next-fits : written (getD values k 0) (length (midOf at (length rest - at) rest)) ≡ Length (length (spelling (getD values k 0)))
+  next-fits =
+      let room : length (spelling (getD values k 0)) ≤ length (midOf at (length rest - at) rest) = rw (rest-of, length-drop) (omega (arith, next-has-room)) in
+      simp (next-in-range .0, le-leb _ _ room)
+
+  module _ {answer : Written} (e : answer ≡ written (getD values k 0) (length (midOf at (length rest - at) rest))) where
+    -- .. never refused, ..
+    pub never-refused : {r : Refusal} → answer ≡ Refused r → ⊥
+    never-refused a = let f = next-fits in let z : _≡_ {A = ℕ} 0 1 = cc in omega arith
+
+    -- .. and stands there then.
+    pub one-standing : {n : ℕ} {after : List ℕ} → after ≡ bufferAfter answer (getD values k 0) (midOf at (length rest - at) rest) → answer ≡ Length n
+        → Standing values rest₀ (putMid at (length rest - at) rest after) (at + n) (k + 1)
+    one-standing {n} {after} w a =
+        let took = length-answered (getD values k 0) _ n (sym e ∙ a) .spelled in
+        rw (number-put rest at (getD values k 0) n after took (omega (arith, next-has-room)) (rw a at w)) record {
+          not-past = omega arith;
+          in-range = next-in-range .1;
+          takes = omega (arith, took, takes-next values k h, p .takes);
+          same-length = simp length-sets (p .same-length);
+          has-room = p .has-room;
+          completes = rw (took, ← sets-append, ← spelled-next values k h) (p .completes);
+        }
+
+-- At last all stand there, and what comes after them is as it was.
+pub all-standing : {values rest₀ rest : List ℕ} {at k : ℕ} → Standing values rest₀ rest at k → length values ≤ k
+    → (at ≡ length (spelledNumbers values)) × (rest ≡ spelledNumbers values ++ drop at rest₀)
+unfolding flatten
+all-standing {values} {rest₀} {rest} {at} {k} p h =
+    let none : drop k values ≡ [] = drop-of-length-le values h in
+    let start : at ≡ length (spelledNumbers values) = omega (arith, rw none at (p .takes)) in
+    let whole : rest ≡ sets rest₀ 0 (spelledNumbers values) = rw none at (p .completes) in
+    (start, whole ∙ sets-eq (spelledNumbers values) rest₀ 0 (omega (arith, p .has-room)) ∙ rw (zero-add, start))

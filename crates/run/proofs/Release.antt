@@ -1,0 +1,325 @@
+-- A release: each of its answers by the tests that lead to it, and what the run after it keeps. A refused one changes nothing; an accepted one adds a job that is
+-- sound, with a serial above all others, and keeps a due time that is not too late. (docs/RULES.md, sections 6.6 to 6.9 and 6.25.)
+use Prim.Native.Nat.{ℕ, _+_, _-_, _≤_, _<_}
+use mathlib.Core.Path.{_≡_, refl, sym, subst, _∙_}
+use mathlib.Core.Logic.{_≢_}
+use mathlib.Core.Bool.{true, false}
+use mathlib.Core.List.{List, [], _∷_, _++_}
+use native.Mathlib.Omega.{arith}
+use lib.ListN.{length, drop, getD, length-set, length-append, length-drop, List·getD-append, getD-replicate}
+use lib.Seq.{getD-drop, getD-append-seam, getD-set-same, getD-set-other, take-append-seam}
+use borrow.Author.Tests.{leb-true, le-leb, lt-leb, lt-ltb, le-ltb, eq-eqb, ne-eqb}
+use Rattle.kinds.specs.Numbering.{maxTime}
+use Rattle.kinds.specs.declared.Refusal.{Refusal}
+use Rattle.kinds.specs.declared.Refusal.the-variants.{RunNotSound, NoSuchRow, CostOutOfRange, PlacesFull}
+use Rattle.kinds.specs.declared.Tick.{Tick}
+use Rattle.theory.proofs.Cases.{by-lt, by-eq, by-test}
+use Rattle.table.specs.declared.Row.{Row}
+use Rattle.table.specs.Limits.{maxRows}
+use Rattle.table.specs.Rows.{rowInRange}
+use Rattle.table.proofs.Ranges.{both-true}
+use Rattle.due.specs.declared.Due.{Due}
+use Rattle.due.specs.declared.Due.the-variants as due
+use Rattle.due.specs.declared.Kept.{Kept}
+use Rattle.due.specs.Kept.{nothingKept, keptTimes, dueOf, keptWith}
+use Rattle.due.specs.Laws.{SoundKept, GivenDue, KeepsNewest}
+use Rattle.due.proofs.Lists.{last-ones-few}
+use Rattle.due.proofs.Keeping.{noTime, newestWith, kept-with}
+use Rattle.due.proofs.Laws.{given-means, starts-empty, keeps-on-keeping, due-is-the-papers}
+use Rattle.jobs.specs.declared.Job.{Job}
+use Rattle.jobs.specs.Places.{maxPlaces, jobsOf, put}
+use Rattle.jobs.specs.Serials.{distinctSerials}
+use Rattle.jobs.specs.Laws.{WellFormed}
+use Rattle.jobs.proofs.Serials.{one-more}
+use Rattle.jobs.proofs.Laws.{put-adds-one, put-keeps-form, put-keeps-serials, distinct-means}
+use Rattle.run.specs.declared.Run.{Run}
+use Rattle.run.specs.declared.ReleaseStep.{ReleaseStep}
+use Rattle.run.specs.declared.Released.the-variants as answer
+use Rattle.run.specs.Runs.{rowAt, costLimit, keptOf}
+use Rattle.run.specs.Sound.{serialBound, soundOf, SoundJob, Sound, Whole}
+use Rattle.run.specs.Release.{refusedRelease, newJob, withJob, atDue, released}
+use Rattle.run.specs.Laws.{KeepsHistory, GaveDue, ReleaseKeepsSound, SerialsGrow, RefusedReleaseChangesNothing, FreshHasNoHistory, DueByWholeHistory}
+use Rattle.run.proofs.Sound.{sound-means}
+
+-- ---- each answer, by the tests that lead to it
+
+module _ (run : Run) (row cost : ℕ) where
+  -- 11: the run is not sound.
+  pub not-sound : soundOf run ≡ false → refusedRelease run RunNotSound ≡ released run row cost
+  unfolding released
+  not-sound e = simp e
+
+  module _ (sound : soundOf run ≡ true) where
+    -- 6: the row number is not in use.
+    pub no-such-row : run .table .count ≤ row → refusedRelease run NoSuchRow ≡ released run row cost
+    unfolding released
+    no-such-row h = simp (sound, le-ltb row (run .table .count) h)
+
+    module _ (in-use : row < run .table .count) where
+      -- 7: the cost is 0 ..
+      pub no-cost : cost < 1 → refusedRelease run CostOutOfRange ≡ released run row cost
+      unfolding released
+      no-cost h = simp (sound, lt-ltb row (run .table .count) in-use, lt-leb 1 cost h)
+
+      -- .. or above what the row allows.
+      pub cost-too-high : costLimit (run .table) row < cost → refusedRelease run CostOutOfRange ≡ released run row cost
+      unfolding released
+      cost-too-high h =
+          simp (sound, lt-ltb row (run .table .count) in-use, le-leb 1 cost (omega arith), lt-leb cost (costLimit (run .table) row) h)
+
+      module _ (some-cost : 1 ≤ cost) (allowed : cost ≤ costLimit (run .table) row) where
+        -- 8: all places are in use.
+        pub places-full : maxPlaces ≤ run .pending .count → refusedRelease run PlacesFull ≡ released run row cost
+        unfolding released
+        places-full h = simp (
+          sound,
+          lt-ltb row (run .table .count) in-use,
+          le-leb 1 cost some-cost,
+          le-leb cost (costLimit (run .table) row) allowed,
+          le-ltb (run .pending .count) maxPlaces h,
+        )
+
+-- What holds of a release that no test refused.
+pub record Passed (run : Run) (row cost : ℕ) : Type 0 where
+  pub sound : soundOf run ≡ true
+  pub in-use : row < run .table .count
+  pub some-cost : 1 ≤ cost
+  pub allowed : cost ≤ costLimit (run .table) row
+  pub room : run .pending .count < maxPlaces
+
+-- The due time of the row's next job, released now.
+abbrev dueNow : Run → (row : ℕ) → Due
+dueNow run row = dueOf (keptOf run row) (rowAt (run .table) row) (run .clock .0)
+
+-- Its due time settles it, or the refusal of that (9).
+pub due-settles : (run : Run) (row cost : ℕ) → Passed run row cost → (d : Due) → dueNow run row ≡ d → atDue run row cost d ≡ released run row cost
+unfolding released
+due-settles run row cost p d e = simp (
+  p .sound,
+  lt-ltb row (run .table .count) (p .in-use),
+  le-leb 1 cost (p .some-cost),
+  le-leb cost (costLimit (run .table) row) (p .allowed),
+  lt-ltb (run .pending .count) maxPlaces (p .room),
+  e,
+)
+
+-- What holds of a refused release and of an accepted one holds of every release.
+module _ (run : Run) (row cost : ℕ) (P : ReleaseStep → Type 0)
+    (refused : (r : Refusal) → P (refusedRelease run r))
+    (accepted : (t : Tick) → Passed run row cost → dueNow run row ≡ due.At t → P (atDue run row cost (due.At t))) where
+  -- By what the due time is ..
+  by-due : Passed run row cost → (d : Due) → dueNow run row ≡ d → P (atDue run row cost d)
+  by-due p (due.At t) e = accepted t p e
+  by-due p (due.Refused r) e = refused r
+
+  -- .. it is accepted, or 9 ..
+  tests-passed : Passed run row cost → P (released run row cost)
+  tests-passed p = subst P (due-settles run row cost p _ refl) (by-due p _ refl)
+
+  -- .. or else 8 ..
+  cost-passed : soundOf run ≡ true → row < run .table .count → 1 ≤ cost → cost ≤ costLimit (run .table) row → P (released run row cost)
+  cost-passed sound in-use some-cost allowed =
+      by-lt (run .pending .count) maxPlaces
+      (λ room. tests-passed (record { sound = sound; in-use = in-use; some-cost = some-cost; allowed = allowed; room = room }))
+      (λ full. subst P (places-full run row cost sound in-use some-cost allowed full) (refused PlacesFull))
+
+  -- .. or 7 ..
+  row-passed : soundOf run ≡ true → row < run .table .count → P (released run row cost)
+  row-passed sound in-use =
+      by-lt cost 1
+      (λ none. subst P (no-cost run row cost sound in-use none) (refused CostOutOfRange))
+      (λ some-cost. by-lt (costLimit (run .table) row) cost
+      (λ high. subst P (cost-too-high run row cost sound in-use high) (refused CostOutOfRange))
+      (cost-passed sound in-use some-cost))
+
+  -- .. or 6, or 11.
+  pub each-release : P (released run row cost)
+  each-release =
+      by-test (soundOf run)
+      (λ sound. by-lt row (run .table .count) (row-passed sound) (λ unused. subst P (no-such-row run row cost sound unused) (refused NoSuchRow)))
+      (λ unsound. subst P (not-sound run row cost unsound) (refused RunNotSound))
+
+-- ---- the numbers of a sound run
+
+-- The bounds that a sound run keeps, whatever its arrays hold: its rows are few, and its next serial is far below the largest that a number may be.
+pub record Bounded (run : Run) : Type 0 where
+  pub few-rows : run .table .count ≤ maxRows
+  pub clock-in-time : run .clock .0 ≤ maxTime
+  pub few-pending : run .pending .count ≤ maxPlaces
+  pub serials : run .next .0 ≤ serialBound run
+
+pub bounded : (run : Run) → soundOf run ≡ true → Bounded run
+unfolding soundOf
+bounded run e =
+    let serials = both-true _ _ e in
+    let places = both-true _ _ (both-true _ _ (both-true _ _ (both-true _ _ (serials .0) .0) .0) .0) in
+    let clock = both-true _ _ (places .0) in
+    record {
+      few-rows = leb-true _ _ (clock .0);
+      clock-in-time = leb-true _ _ (clock .1);
+      few-pending = leb-true _ _ (places .1);
+      serials = leb-true _ _ (serials .1);
+    }
+
+-- ---- an accepted release keeps a run sound
+
+-- Times that are in time, and one more that is.
+one-more-in-time : (l : List Tick) (t : Tick) → ((i : ℕ) → i < length l → getD l i noTime .0 ≤ maxTime) → t .0 ≤ maxTime
+    → (i : ℕ) → i < length (l ++ (t ∷ [])) → getD (l ++ (t ∷ [])) i noTime .0 ≤ maxTime
+one-more-in-time l t each in-time i h =
+    by-lt i (length l)
+    (λ k. rw (List·getD-append l (t ∷ []) noTime i k) (each i k))
+    (λ k. let last : length l ≡ i = omega (arith, length-append l (t ∷ [])) in rw (← last, getD-append-seam l t [] noTime) in-time)
+
+-- Kept due times with one more that is in time: there are at most x still, and each is in time.
+kept-stays-sound : (k : Kept) (r : Row) (t : Tick) → rowInRange r ≡ true → t .0 ≤ maxTime → SoundKept k (r .x) → SoundKept (keptWith k r t) (r .x)
+kept-stays-sound k r t fine in-time sound =
+    let all : List Tick = keptTimes k ++ (t ∷ []) in
+    let from : ℕ = length all - r .x in
+    rw (kept-with k r t fine) (record {
+      few = last-ones-few (r .x) all;
+      in-time = rw (take-append-seam (newestWith k r t) (drop (length (newestWith k r t)) (k .times)))
+          (λ i h. rw (getD-drop from all i noTime)
+          (one-more-in-time (keptTimes k) t (sound .in-time) in-time (from + i) (omega (arith, length-drop from all))));
+    })
+
+-- A release that is accepted, with the due time that is given.
+module _ {run : Run} {row cost : ℕ} (t : Tick) (whole : Whole run) (p : Passed run row cost) (given : dueNow run row ≡ due.At t) where
+  -- Its row, its job, and the run after it.
+  abbrev its : Row
+  its = rowAt (run .table) row
+
+  abbrev job : Job
+  job = newJob run row cost t
+
+  abbrev next : Run
+  next = withJob run row cost t
+
+  -- The facts of the run before it, and of the due time.
+  sound-before : Sound run
+  sound-before = sound-means run whole .0 (p .sound)
+
+  given-due : GivenDue (keptOf run row) its (run .clock .0) t
+  given-due = given-means (keptOf run row) its (run .clock .0) t .0 given
+
+  -- The jobs stand in their places, so the new one comes last ..
+  well-formed : WellFormed (run .pending)
+  well-formed = record { all-places = whole .all-places; in-places = sound-before .few-pending }
+
+  jobs-after : jobsOf (next .pending) ≡ jobsOf (run .pending) ++ (job ∷ [])
+  jobs-after = put-adds-one (run .pending) job well-formed (p .room)
+
+  -- .. and is counted.
+  count-after : next .pending .count ≡ run .pending .count + 1
+  unfolding put
+  count-after = simp (lt-ltb (run .pending .count) maxPlaces (p .room))
+
+  -- It is sound, and the others stay so.
+  job-sound : SoundJob (run .table) (run .clock .0) (next .next .0) job
+  job-sound = record {
+    row-in-use = p .in-use;
+    released = omega arith;
+    some-cost = p .some-cost;
+    cost-allowed = p .allowed;
+    some-left = p .some-cost;
+    left-of-cost = omega arith;
+    due-in-time = given-due .in-time;
+    serial-given = omega arith;
+  }
+
+  still-sound : (j : Job) → SoundJob (run .table) (run .clock .0) (run .next .0) j → SoundJob (run .table) (run .clock .0) (next .next .0) j
+  still-sound j f = record {
+    row-in-use = f .row-in-use;
+    released = f .released;
+    some-cost = f .some-cost;
+    cost-allowed = f .cost-allowed;
+    some-left = f .some-left;
+    left-of-cost = f .left-of-cost;
+    due-in-time = f .due-in-time;
+    serial-given = omega arith;
+  }
+
+  -- Its serial is above theirs.
+  apart-after : distinctSerials (jobsOf (next .pending)) ≡ true
+  apart-after =
+      put-keeps-serials (run .pending) job well-formed (λ i h. sound-before .jobs i h .serial-given) .distinct
+      (distinct-means (jobsOf (run .pending)) .1 (sound-before .apart))
+
+  -- What is kept of its row has one due time more, and what is kept of the others is as it was.
+  kept-here : keptOf next row ≡ keptWith (keptOf run row) its t
+  kept-here = getD-set-same (run .kept) row _ _ (omega (arith, p .in-use, sound-before .few-rows, whole .all-kept))
+
+  kept-elsewhere : (i : ℕ) → i ≢ row → keptOf next i ≡ keptOf run i
+  kept-elsewhere i h = getD-set-other (run .kept) row i _ _ h
+
+  -- So what is kept stays sound.
+  kept-after : (i : ℕ) → i < run .table .count → SoundKept (keptOf next i) (rowAt (run .table) i .x)
+  kept-after i h =
+      by-eq i row
+      (λ e. rw (e, kept-here) (kept-stays-sound (keptOf run row) its t (given-due .row-in-range) (given-due .in-time) (sound-before .kept row (p .in-use))))
+      (λ n. rw (kept-elsewhere i n) (sound-before .kept i h))
+
+  -- So the run after it is whole and sound.
+  whole-after : Whole next
+  whole-after = record {
+    all-rows = whole .all-rows;
+    all-kept = length-set (run .kept) row _ ∙ whole .all-kept;
+    all-places = put-keeps-form (run .pending) job well-formed .all-places;
+  }
+
+  sound-after : soundOf next ≡ true
+  sound-after = sound-means next whole-after .1 record {
+    few-rows = sound-before .few-rows;
+    clock-in-time = sound-before .clock-in-time;
+    few-pending = put-keeps-form (run .pending) job well-formed .in-places;
+    rows = sound-before .rows;
+    kept = kept-after;
+    jobs = rw jobs-after
+        (one-more (SoundJob (run .table) (run .clock .0) (next .next .0)) (jobsOf (run .pending)) job (λ i h. still-sound _ (sound-before .jobs i h)) job-sound);
+    apart = distinct-means (jobsOf (next .pending)) .0 apart-after;
+    serials = omega (arith, count-after, sound-before .serials);
+  }
+
+  -- The due time is the rule's over the whole history, and the newest of the history with it are kept.
+  due-by-history : (history : ℕ → List ℕ) → KeepsHistory run history → GaveDue run history row (t .0) next
+  due-by-history history keeps = record {
+    by-rule =
+        sym (given-due .by-rule)
+        ∙ due-is-the-papers (keptOf run row) its (history row) (run .clock .0) (given-due .row-in-range) (keeps .newest row (p .in-use));
+    keeps-history = record {
+      newest = λ i h.
+          by-eq i row
+          (λ e. rw (eq-eqb i row e, e, kept-here)
+          (keeps-on-keeping (keptOf run row) its (history row) t (given-due .row-in-range) (keeps .newest row (p .in-use))))
+          (λ n. rw (ne-eqb i row n, kept-elsewhere i n) (keeps .newest i h));
+    };
+  }
+
+-- ---- the laws
+
+pub release-keeps-sound : ReleaseKeepsSound
+release-keeps-sound run row cost whole sound =
+    each-release run row cost (λ step. (soundOf (step .run) ≡ true) × Whole (step .run))
+    (λ r. (sound, whole))
+    (λ t p given. (sound-after t whole p given, whole-after t whole p given))
+
+pub serials-grow : SerialsGrow
+serials-grow run row cost = each-release run row cost (λ step. run .next .0 ≤ step .run .next .0) (λ r. omega arith) (λ t p given. omega arith)
+
+pub refused-release-changes-nothing : RefusedReleaseChangesNothing
+refused-release-changes-nothing run row cost r =
+    each-release run row cost (λ step. step .answer ≡ answer.Refused r → step .run ≡ run) (λ q e. refl)
+    (λ t p given e. absurd (let z : _≡_ {A = ℕ} 0 1 = cc in omega arith))
+
+pub fresh-has-no-history : FreshHasNoHistory
+fresh-has-no-history t few = record {
+  newest = λ i h. subst (λ k. KeepsNewest k (rowAt t i .x) []) (sym (getD-replicate maxRows i nothingKept _ (omega arith))) (starts-empty (rowAt t i .x));
+}
+
+pub due-by-whole-history : DueByWholeHistory
+due-by-whole-history run history row cost a whole keeps =
+    each-release run row cost (λ step. step .answer ≡ answer.Accepted a → GaveDue run history row (a .due .0) (step .run))
+    (λ r e. absurd (let z : _≡_ {A = ℕ} 0 1 = cc in omega arith))
+    (λ t p given e.
+    let same : record { serial = run .next; due = t } ≡ a = cc in
+    rw (← same) (due-by-history t whole p given history keeps))

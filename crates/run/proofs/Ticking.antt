@@ -1,0 +1,272 @@
+-- One tick: what each of its exits answers, that it is one turn of the pending jobs, and that a sound run stays sound. (docs/RULES.md, sections 6.10 to 6.17.)
+use Prim.Native.Nat.{ℕ, zero, suc, _+_, _-_, _≤_, _<_, suc-le-suc}
+use mathlib.Core.Path.{_≡_, refl}
+use mathlib.Core.Bool.{Bool, true, false, cond}
+use mathlib.Core.List.{List, [], _∷_, _++_}
+use native.Mathlib.Nat.{zero-add, not-suc-le-zero, le-of-suc-le-suc}
+use native.Mathlib.Decide.{decLe, decLt}
+use native.Mathlib.Omega.{arith}
+use lib.ListN.{length, set, getD, length-set}
+use lib.Seq.{length-take-le}
+use borrow.Author.Tests.{le-leb, lt-leb, lt-ltb, le-ltb, eq-eqb, ne-eqb}
+use Rattle.kinds.specs.Numbering.{maxTime}
+use Rattle.kinds.specs.declared.Finish.{Finish}
+use Rattle.kinds.specs.declared.Refusal.the-variants.{RunNotSound, TimeTooLate}
+use Rattle.jobs.specs.declared.Job.{Job}
+use Rattle.jobs.specs.declared.Pending.{Pending}
+use Rattle.jobs.specs.declared.Turn.{Turn}
+use Rattle.jobs.specs.declared.Turn.the-variants as turn
+use Rattle.jobs.specs.declared.Ticks.{Ticks}
+use Rattle.jobs.specs.Places.{noJob, jobsOf, used, without}
+use Rattle.jobs.specs.Choice.{firstPlace}
+use Rattle.jobs.specs.Units.{lastUnit, worked, ranOf, after}
+use Rattle.jobs.specs.Late.{lateCount}
+use Rattle.jobs.specs.Turns.{firstJob, oneTick, finishAt, turnsFrom, ticksFrom}
+use Rattle.jobs.specs.Serials.{distinctSerials}
+use Rattle.jobs.specs.Laws.{WellFormed, unitAt}
+use Rattle.jobs.proofs.Laws.{first-is-there, after-a-unit, after-keeps-form, after-keeps-serials, distinct-means, without-is-one-less}
+use Rattle.run.specs.declared.Run.{Run}
+use Rattle.run.specs.declared.Ticked.{Ticked}
+use Rattle.run.specs.declared.Ticked.the-variants as answer
+use Rattle.run.specs.declared.TickStep.{TickStep}
+use Rattle.run.specs.Sound.{soundOf, SoundJob, Sound, Whole}
+use Rattle.run.specs.Ticking.{refusedTick, runWith, idleTick, busyTick, ticked}
+use Rattle.run.specs.Laws as laws
+use Rattle.run.proofs.Sound.{sound-means}
+
+-- ---- the answers, one by one
+
+module _ (run : Run) where
+  pub tick-unsound : soundOf run ≡ false → ticked run ≡ refusedTick run RunNotSound
+  unfolding ticked
+  tick-unsound e = rw e
+
+  module _ (sound : soundOf run ≡ true) where
+    pub tick-too-late : maxTime ≤ run .clock .0 → ticked run ≡ refusedTick run TimeTooLate
+    unfolding ticked
+    tick-too-late h = rw (sound, le-ltb (run .clock .0) maxTime h)
+
+    module _ (in-time : run .clock .0 < maxTime) where
+      pub tick-idle : run .pending .count ≡ 0 → ticked run ≡ idleTick run
+      unfolding ticked
+      tick-idle e = rw (sound, lt-ltb (run .clock .0) maxTime in-time, eq-eqb (run .pending .count) 0 e)
+
+      pub tick-busy : 1 ≤ run .pending .count → ticked run ≡ busyTick run
+      unfolding ticked
+      tick-busy h = rw (sound, lt-ltb (run .clock .0) maxTime in-time, ne-eqb (run .pending .count) 0 (λ e. omega arith))
+
+-- ---- turns of the pending jobs
+
+module _ (n now : ℕ) (p : Pending) (last : Turn) (late : ℕ) (finished : List Finish) where
+  -- Where no job is pending the turns are over ..
+  pub turns-idle : used p ≡ 0 → turnsFrom n now p last late finished ≡ record { pending = p; clock = now; turn = last; late = late; finishes = finished }
+  unfolding turnsFrom
+  turns-idle e = by-number n
+    where
+      by-number : (k : ℕ) → turnsFrom k now p last late finished ≡ record { pending = p; clock = now; turn = last; late = late; finishes = finished }
+      by-number zero = refl
+      by-number (suc k) = rw (eq-eqb (used p) 0 e)
+
+  -- .. and else one is the tick of the job that goes first.
+  pub turns-busy : 1 ≤ used p
+      → turnsFrom (suc n) now p last late finished
+      ≡ turnsFrom n (now + 1) (oneTick p) (turn.Ran (ranOf (firstJob p))) (late + lateCount (now + 1) (jobsOf (oneTick p)))
+      (finished ++ cond (lastUnit (firstJob p)) (finishAt (now + 1) (firstJob p) ∷ []) [])
+  unfolding turnsFrom
+  turns-busy h = rw (ne-eqb (used p) 0 (λ e. omega arith))
+
+-- ---- what a unit makes of the jobs
+
+-- What each job has, and so each after it in another form, each of the jobs has where one is left out, or where another takes a place.
+module _ (P Q : Job → Type 0) (on : (j : Job) → P j → Q j) where
+  each-without : (js : List Job) (at : ℕ) → ((i : ℕ) → i < length js → P (getD js i noJob))
+      → (i : ℕ) → i < length (without js at) → Q (getD (without js at) i noJob)
+  each-without [] at f i h = absurd (not-suc-le-zero h)
+  each-without (j ∷ js) zero f i h = on _ (f (suc i) (suc-le-suc h))
+  each-without (j ∷ js) (suc at) f zero h = on j (f 0 (omega arith))
+  each-without (j ∷ js) (suc at) f (suc i) h = each-without js at (λ k l. f (suc k) (suc-le-suc l)) i (le-of-suc-le-suc h)
+
+  each-set : (js : List Job) (at : ℕ) (a : Job) → Q a → ((i : ℕ) → i < length js → P (getD js i noJob))
+      → (i : ℕ) → i < length (set js at a) → Q (getD (set js at a) i noJob)
+  each-set [] at a q f i h = absurd (not-suc-le-zero h)
+  each-set (j ∷ js) zero a q f zero h = q
+  each-set (j ∷ js) zero a q f (suc i) h = on _ (f (suc i) h)
+  each-set (j ∷ js) (suc at) a q f zero h = on j (f 0 (omega arith))
+  each-set (j ∷ js) (suc at) a q f (suc i) h = each-set js at a q (λ k l. f (suc k) (suc-le-suc l)) i (le-of-suc-le-suc h)
+
+-- ---- a sound run
+
+-- A run that a program can hold, and that is sound.
+abbrev pub Good : Run → Type 0
+Good run = (soundOf run ≡ true) × Whole run
+
+module _ (run : Run) (good : Good run) where
+  -- What is known of it.
+  pub facts : Sound run
+  facts = sound-means run (good .1) .0 (good .0)
+
+  -- As many jobs are pending as are counted.
+  pub counted : used (run .pending) ≡ run .pending .count
+  counted = length-take-le (run .pending .count) (run .pending .places) (omega (arith, facts .few-pending, good .1 .all-places))
+
+  -- The pending jobs are well formed.
+  formed : WellFormed (run .pending)
+  formed = record { all-places = good .1 .all-places; in-places = facts .few-pending }
+
+  -- A job that is sound at the clock.
+  abbrev SoundNow : Job → Type 0
+  SoundNow = SoundJob (run .table) (run .clock .0) (run .next .0)
+
+  -- .. and at the next clock.
+  abbrev SoundNext : Job → Type 0
+  SoundNext = SoundJob (run .table) (run .clock .0 + 1) (run .next .0)
+
+  -- A job is sound still where it keeps all but its units left, and some of those are.
+  still-sound : (j : Job) (left : ℕ) → 1 ≤ left → left ≤ j .left → SoundNow j
+      → SoundNext (record { serial = j .serial; row = j .row; release = j .release; due = j .due; cost = j .cost; left = left })
+  still-sound j left some few s = record {
+    row-in-use = s .row-in-use;
+    released = omega arith;
+    some-cost = s .some-cost;
+    cost-allowed = s .cost-allowed;
+    some-left = some;
+    left-of-cost = omega arith;
+    due-in-time = s .due-in-time;
+    serial-given = s .serial-given;
+  }
+
+  -- A job that gets no unit is sound still.
+  untouched : (j : Job) → SoundNow j → SoundNext j
+  untouched j s = still-sound j (j .left) (s .some-left) (omega arith) s
+
+  -- What the jobs that are pending after a tick have.
+  record Later (p : Pending) : Type 0 where
+    form : WellFormed p
+    jobs : (i : ℕ) → i < used p → SoundNext (getD (jobsOf p) i noJob)
+    apart : distinctSerials (jobsOf p) ≡ true
+    one-less : used (run .pending) ≤ used p + 1
+
+  -- With such jobs pending the run is sound at the next clock.
+  later-sound : run .clock .0 < maxTime → (p : Pending) → Later p → Good (runWith run (run .clock .0 + 1) p)
+  later-sound in-time p l =
+      let next : Run = runWith run (run .clock .0 + 1) p in
+      let whole : Whole next = record { all-rows = good .1 .all-rows; all-kept = good .1 .all-kept; all-places = l .form .all-places } in
+      let as-many : used p ≡ p .count = length-take-le (p .count) (p .places) (omega (arith, l .form .in-places, l .form .all-places)) in (
+        sound-means next whole .1 record {
+          few-rows = facts .few-rows;
+          clock-in-time = omega arith;
+          few-pending = l .form .in-places;
+          rows = facts .rows;
+          kept = facts .kept;
+          jobs = l .jobs;
+          apart = distinct-means (jobsOf p) .0 (l .apart);
+          serials = omega (arith, facts .serials, l .one-less, counted);
+        },
+        whole,
+      )
+
+  -- So are those that were, where a tick is idle ..
+  later-same : Later (run .pending)
+  later-same = record {
+    form = formed;
+    jobs = λ i h. untouched (getD (jobsOf (run .pending)) i noJob) (facts .jobs i h);
+    apart = distinct-means (jobsOf (run .pending)) .1 (facts .apart);
+    one-less = omega arith;
+  }
+
+  -- .. and where one of them got a unit.
+  module _ (at : ℕ) (h : at < used (run .pending)) where
+    abbrev js : List Job
+    js = jobsOf (run .pending)
+
+    -- Each is sound still: the one that got the unit is gone, or has some left.
+    each-later : (i : ℕ) → i < length (unitAt js at) → SoundNext (getD (unitAt js at) i noJob)
+    each-later = elim (decLe (getD js at noJob .left) 1) [
+      | yes l ↦ rw (le-leb (getD js at noJob .left) 1 l) (each-without SoundNow SoundNext untouched js at (facts .jobs))
+      | no l ↦
+          let j = getD js at noJob in
+          rw (lt-leb (j .left) 1 (omega arith))
+          (each-set SoundNow SoundNext untouched js at (worked j) (still-sound j (j .left - 1) (omega arith) (omega arith) (facts .jobs at h)) (facts .jobs))
+    ]
+
+    -- At most one less is pending.
+    one-less-at : length js ≤ length (unitAt js at) + 1
+    one-less-at = elim (decLe (getD js at noJob .left) 1) [
+      | yes l ↦ rw (le-leb (getD js at noJob .left) 1 l) (omega (arith, without-is-one-less js at h))
+      | no l ↦ rw (lt-leb (getD js at noJob .left) 1 (omega arith)) (omega (arith, length-set js at (worked (getD js at noJob))))
+    ]
+
+    later-after : Later (after (run .pending) at)
+    later-after =
+        let e = after-a-unit (run .pending) at h in
+        record {
+          form = after-keeps-form (run .pending) at formed;
+          jobs = rw e each-later;
+          apart = after-keeps-serials (run .pending) at h .distinct (distinct-means js .1 (facts .apart));
+          one-less = rw e one-less-at;
+        }
+
+  -- Some job is pending: the place of the one that goes first is in use.
+  first-there : 1 ≤ run .pending .count → firstPlace (jobsOf (run .pending)) < used (run .pending)
+  first-there h = first-is-there (run .pending) (omega (arith, counted))
+
+  module _ (in-time : run .clock .0 < maxTime) where
+    pub idle-keeps : Good (idleTick run .run)
+    idle-keeps = later-sound in-time (run .pending) later-same
+
+    pub busy-keeps : 1 ≤ run .pending .count → Good (busyTick run .run)
+    busy-keeps h = later-sound in-time (oneTick (run .pending)) (later-after (firstPlace (jobsOf (run .pending))) (first-there h))
+
+-- ---- the laws
+
+-- What holds of a tick's four answers holds of the tick.
+by-answer : (P : TickStep → Type 0) (run : Run) → P (refusedTick run RunNotSound) → P (refusedTick run TimeTooLate)
+    → (run .clock .0 < maxTime → P (idleTick run)) → (run .clock .0 < maxTime → 1 ≤ run .pending .count → P (busyTick run))
+    → P (ticked run)
+by-answer P run unsound late idle busy = by-sound (soundOf run) refl
+  where
+    by-sound : (b : Bool) → soundOf run ≡ b → P (ticked run)
+    by-sound false e = rw (tick-unsound run e) unsound
+    by-sound true e = elim (decLt (run .clock .0) maxTime) [
+      | no l ↦ rw (tick-too-late run e (omega arith)) late
+      | yes l ↦ elim (decLe 1 (run .pending .count)) [
+        | no m ↦ rw (tick-idle run e l (omega arith)) (idle l)
+        | yes m ↦ rw (tick-busy run e l m) (busy l m)
+      ]
+    ]
+
+pub tick-keeps-good : (run : Run) → Good run → Good (ticked run .run)
+tick-keeps-good run good = by-answer (λ t. Good (t .run)) run good good (λ l. idle-keeps run good l) (λ l m. busy-keeps run good l m)
+
+pub tick-keeps-sound : laws.TickKeepsSound
+tick-keeps-sound run whole sound = tick-keeps-good run (sound, whole)
+
+pub clock-grows : laws.ClockGrows
+clock-grows run = by-answer (λ t. run .clock .0 ≤ t .run .clock .0) run (omega arith) (omega arith) (λ l. omega arith) (λ l m. omega arith)
+
+pub tick-gives-one-unit : laws.TickGivesOneUnit
+tick-gives-one-unit run whole sound in-time h =
+    rw (tick-busy run sound in-time h) (after-a-unit (run .pending) (firstPlace (jobsOf (run .pending))) (first-there run (sound, whole) h))
+
+-- ---- a tick is one turn
+
+-- What a tick says of who had the turn.
+abbrev pub answerOf : Turn → Ticked
+answerOf turn.Idle = answer.Idle
+answerOf (turn.Ran r) = answer.Ran r
+
+-- What a tick makes of one turn of the pending jobs.
+abbrev pub stepOf : Run → Ticks → TickStep
+stepOf run t = record { run = runWith run (run .clock .0 + 1) (t .pending); answer = answerOf (t .turn); late = t .late }
+
+pub tick-is-a-turn : (run : Run) → Good run → run .clock .0 < maxTime
+    → stepOf run (ticksFrom (run .pending) (run .clock .0) (run .clock .0 + 1)) ≡ ticked run
+unfolding turnsFrom
+tick-is-a-turn run good in-time =
+    let one : run .clock .0 + 1 - run .clock .0 ≡ 1 = omega arith in
+    let p = run .pending in
+    let n = counted run good in
+    elim (decLe 1 (p .count)) [
+      | yes h ↦ rw (n, one, turns-busy 0 (run .clock .0) p turn.Idle 0 [] (omega arith), tick-busy run (good .0) in-time h, zero-add)
+      | no h ↦ rw (n, one, turns-idle 1 (run .clock .0) p turn.Idle 0 [] (omega arith), tick-idle run (good .0) in-time (omega arith))
+    ]

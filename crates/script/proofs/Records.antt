@@ -1,0 +1,204 @@
+-- A record of a script is read as its three numbers, and where a record is read its spelling stands. Each answer of the reader is a law; the spelling goes by
+-- a number, and then the next. (docs/RULES.md, section 7.)
+use Prim.Native.Nat.{ℕ, _+_, _≤_, _<_}
+use native.Mathlib.Omega.{arith}
+use mathlib.Core.Path.{_≡_, refl, sym, ap, _∙_}
+use mathlib.Core.Bool.{Bool, true, false, cond}
+use mathlib.Core.List.{List, _++_, append-assoc}
+use lib.ListN.{length, take, drop, length-append, length-drop, take-append-drop}
+use lib.Seq.{length-take-le, drop-drop, drop-append-seam}
+use lib.Dec.{ltb, eqb}
+use borrow.Author.Tests.{lt-ltb, le-ltb, eq-eqb, ne-eqb, eqb-true}
+use Rattle.kinds.specs.declared.RefusedAt.{RefusedAt}
+use Rattle.kinds.specs.declared.Refusal.the-variants.{ScriptMisspelled}
+use Rattle.numbers.specs.declared.Number.{Number}
+use Rattle.numbers.specs.declared.NumberRead.{NumberRead}
+use Rattle.numbers.specs.declared.NumberRead.the-variants as number
+use Rattle.numbers.specs.Spelling.{maxNumber, spelling}
+use Rattle.numbers.specs.Reading.{readAt}
+use Rattle.numbers.specs.Laws.{Bytes}
+use Rattle.numbers.proofs.Laws.{reads-back, one-spelling, spelling-length}
+use Rattle.script.specs.declared.Record.{Record}
+use Rattle.script.specs.declared.RecordAt.{RecordAt}
+use Rattle.script.specs.declared.RecordRead.{RecordRead}
+use Rattle.script.specs.declared.RecordRead.the-variants as read
+use Rattle.script.specs.Records.{asScripts, scriptNumber, afterNumber, recordAt}
+use Rattle.script.specs.Laws.{spelledRecord, CanBeSpelled, SpelledHere}
+
+-- ---- the answers of the reader
+
+-- A number of a script that can be read is the number there ..
+pub number-stands : {v : NumberRead} {n : Number} → v ≡ number.Number n → asScripts v ≡ number.Number n
+number-stands e = rw e
+
+-- .. and one that can't be is refused with 14, at the same place.
+pub number-misspelled : {v : NumberRead} {r : RefusedAt} → v ≡ number.Refused r
+    → asScripts v ≡ number.Refused (record { refusal = ScriptMisspelled; place = r .place })
+number-misspelled e = rw e
+
+-- A place past the end is refused at the script's length ..
+pub record-past-end : (s : List ℕ) (at : ℕ) → length s < at
+    → recordAt s at ≡ read.Refused (record { refusal = ScriptMisspelled; place = length s })
+record-past-end s at h = rw (lt-ltb (length s) at h)
+
+-- .. and at its length the script has ended.
+pub record-end : (s : List ℕ) (at : ℕ) → at ≡ length s → recordAt s at ≡ read.End
+record-end s at e = rw (le-ltb (length s) at (omega arith), eq-eqb at (length s) e)
+
+module _ (s : List ℕ) (at : ℕ) (inside : at < length s) where
+  -- Before its end neither of these is the answer.
+  before-end : (past then : RecordRead) → cond (ltb (length s) at) past (cond (eqb at (length s)) read.End then) ≡ then
+  before-end past then = rw (le-ltb (length s) at (omega arith), ne-eqb at (length s) (λ z. omega arith))
+
+  -- The gap can't be read, ..
+  pub gap-refused : (r : RefusedAt) → scriptNumber s at ≡ number.Refused r → recordAt s at ≡ read.Refused r
+  gap-refused r e = before-end _ _ ∙ rw e
+
+  module _ (gap : Number) (g : scriptNumber s at ≡ number.Number gap) where
+    -- .. or the row number after it, ..
+    pub row-refused : (r : RefusedAt) → scriptNumber s (gap .next) ≡ number.Refused r → recordAt s at ≡ read.Refused r
+    row-refused r e = before-end _ _ ∙ rw (g, e)
+
+    module _ (row : Number) (n : scriptNumber s (gap .next) ≡ number.Number row) where
+      -- .. or the cost after that, ..
+      pub cost-refused : (r : RefusedAt) → scriptNumber s (row .next) ≡ number.Refused r → recordAt s at ≡ read.Refused r
+      cost-refused r e = before-end _ _ ∙ rw (g, n, e)
+
+      -- .. or else the three are the record.
+      pub record-read : (cost : Number) → scriptNumber s (row .next) ≡ number.Number cost
+          → recordAt s at
+          ≡ read.Record (record { release = record { gap = gap .value; row = record { 0 = row .value }; cost = cost .value }; next = cost .next })
+      record-read cost e = before-end _ _ ∙ rw (g, n, e)
+
+-- ---- where a record was read
+
+-- A number of a script that was read is the number at its place.
+number-read : (v : NumberRead) (n : Number) → asScripts v ≡ number.Number n → v ≡ number.Number n
+number-read (number.Number m) n e = e
+number-read (number.Refused r) n e = absurd (let z : _≡_ {A = ℕ} 0 1 = cc in omega arith)
+
+-- Where a record was read, the number before it was.
+number-before : (v : NumberRead) (k : Number → RecordRead) (found : RecordAt) → afterNumber v k ≡ read.Record found
+    → (n : Number) × (v ≡ number.Number n) × (k n ≡ read.Record found)
+number-before (number.Number n) k found e = (n, refl, e)
+number-before (number.Refused r) k found e = absurd (let z : _≡_ {A = ℕ} 0 1 = cc in omega arith)
+
+-- Where a record was read, neither test of the place ended the script.
+not-ended : (t u : Bool) (r : RefusedAt) (then : RecordRead) (found : RecordAt) → cond t (read.Refused r) (cond u read.End then) ≡ read.Record found
+    → then ≡ read.Record found
+not-ended true u r then found e = absurd (let z : _≡_ {A = ℕ} 0 1 = cc in omega arith)
+not-ended false true r then found e = absurd (let z : _≡_ {A = ℕ} 0 1 = cc in omega arith)
+not-ended false false r then found e = e
+
+-- The three numbers of a record that was read, one after another.
+record ThreeNumbers (s : List ℕ) (at : ℕ) (found : RecordAt) : Type 0 where
+  gap : Number
+  row : Number
+  cost : Number
+  gap-read : readAt s at ≡ number.Number gap
+  row-read : readAt s (gap .next) ≡ number.Number row
+  cost-read : readAt s (row .next) ≡ number.Number cost
+  make-record : found ≡ record { release = record { gap = gap .value; row = record { 0 = row .value }; cost = cost .value }; next = cost .next }
+
+-- A record that was read has them.
+three-numbers : (s : List ℕ) (at : ℕ) (found : RecordAt) → recordAt s at ≡ read.Record found → ThreeNumbers s at found
+three-numbers s at found e =
+    let gap = number-before _ _ found (not-ended (ltb (length s) at) (eqb at (length s)) _ _ found e) in
+    let row = number-before _ _ found (gap .2) in
+    let cost = number-before _ _ found (row .2) in
+    record {
+      gap = gap .0;
+      row = row .0;
+      cost = cost .0;
+      gap-read = number-read _ _ (gap .1);
+      row-read = number-read _ _ (row .1);
+      cost-read = number-read _ _ (cost .1);
+      make-record = cc;
+    }
+
+-- Its spelling stands from the place on.
+pub record-stands : (s : List ℕ) (at : ℕ) (found : RecordAt) → Bytes s → recordAt s at ≡ read.Record found → SpelledHere s at found
+record-stands s at found b e =
+    let t = three-numbers s at found e in
+    let gap = one-spelling s at (t .gap) b (t .gap-read) in
+    let row = one-spelling s (t .gap .next) (t .row) b (t .row-read) in
+    let cost = one-spelling s (t .row .next) (t .cost) b (t .cost-read) in
+    rw (t .make-record) (record {
+      in-range = record { gap = gap .in-range; row = row .in-range; cost = cost .in-range };
+      stands-here = gap .stands-here ∙ rw (row .stands-here, cost .stands-here, append-assoc, append-assoc);
+      ends = rw (length-append, length-append) (omega (arith, gap .ends, row .ends, cost .ends));
+      forward = omega (arith, gap .forward, row .forward, cost .forward);
+      within = cost .within;
+    })
+
+-- ---- where a script has ended
+
+-- A record is no end, ..
+no-end : (found : RecordAt) → read.Record found ≡ read.End → ⊥
+no-end found e = let z : _≡_ {A = ℕ} 0 1 = cc in omega arith
+
+-- .. and neither is one with a number before it.
+no-end-after : (v : NumberRead) (k : Number → RecordRead) → ((n : Number) → k n ≡ read.End → ⊥) → afterNumber v k ≡ read.End → ⊥
+no-end-after (number.Number n) k h e = h n e
+no-end-after (number.Refused r) k h e = let z : _≡_ {A = ℕ} 0 1 = cc in omega arith
+
+-- So where the end is answered, it is the test of the length that holds, ..
+length-passed : (t u : Bool) (past : RefusedAt) (then : RecordRead) → (then ≡ read.End → ⊥)
+    → cond t (read.Refused past) (cond u read.End then) ≡ read.End → u ≡ true
+length-passed true u past then h e = absurd (let z : _≡_ {A = ℕ} 0 1 = cc in omega arith)
+length-passed false true past then h e = refl
+length-passed false false past then h e = absurd (h e)
+
+-- .. and the place is the script's length.
+pub end-is-length : (s : List ℕ) (at : ℕ) → recordAt s at ≡ read.End → at ≡ length s
+end-is-length s at e =
+    let three-numbers-are-none =
+    no-end-after (scriptNumber s at) _ λ gap.
+    no-end-after (scriptNumber s (gap .next)) _ λ row.
+    no-end-after (scriptNumber s (row .next)) _ λ cost. no-end _ in
+    eqb-true at (length s) (length-passed (ltb (length s) at) (eqb at (length s)) _ _ three-numbers-are-none e)
+
+-- ---- where a spelling stands
+
+-- From a place to the end stands `rest`.
+pub record From (s : List ℕ) (at : ℕ) (rest : List ℕ) : Type 0 where
+  pub stands-here : drop at s ≡ rest
+  pub within : at ≤ length s
+
+-- What stands behind a beginning.
+pub from-behind : (front rest : List ℕ) → From (front ++ rest) (length front) rest
+from-behind front rest = record { stands-here = drop-append-seam front rest; within = omega (arith, length-append front rest) }
+
+module _ {s : List ℕ} {at : ℕ} (part rest : List ℕ) (p : From s at (part ++ rest)) where
+  -- So long is what stands there ..
+  how-long : length s ≡ at + length part + length rest
+  how-long = omega (arith, p .within, simp (length-drop, length-append) at (ap length (p .stands-here)))
+
+  -- .. and behind a part of it stands the rest.
+  pub from-later : From s (at + length part) rest
+  from-later = record { stands-here = rw (← drop-drop, p .stands-here, drop-append-seam); within = omega (arith, how-long) }
+
+-- A number is read where its spelling stands ..
+number-here : {s : List ℕ} {at : ℕ} (v : ℕ) (rest : List ℕ) → v ≤ maxNumber → From s at (spelling v ++ rest)
+    → scriptNumber s at ≡ number.Number (record { value = v; next = at + length (spelling v) })
+number-here {s} {at} v rest h p =
+    let place : length (take at s) ≡ at = length-take-le at s (p .within) in
+    let whole : take at s ++ (spelling v ++ rest) ≡ s = rw (← p .stands-here) (take-append-drop at s) in
+    number-stands (rw (whole, place) at (reads-back (take at s) v rest h))
+
+-- .. and so is a record.
+pub record-here : {s : List ℕ} {at : ℕ} (r : Record) (rest : List ℕ) → CanBeSpelled r → From s at (spelledRecord r ++ rest)
+    → recordAt s at ≡ read.Record (record { release = r; next = at + length (spelledRecord r) })
+record-here {s} {at} r rest can p =
+    let gap = spelling (r .gap) in
+    let row = spelling (r .row .0) in
+    let cost = spelling (r .cost) in
+    let gap-stands : From s at (gap ++ (row ++ (cost ++ rest))) = rw (append-assoc, append-assoc) at p in
+    let row-stands = from-later gap (row ++ (cost ++ rest)) gap-stands in
+    let cost-stands = from-later row (cost ++ rest) row-stands in
+    let inside : at < length s = omega (arith, how-long gap (row ++ (cost ++ rest)) gap-stands, spelling-length (r .gap)) in
+    let gap-read = number-here (r .gap) (row ++ (cost ++ rest)) (can .gap) gap-stands in
+    let row-read = number-here (r .row .0) (cost ++ rest) (can .row) row-stands in
+    let cost-read = number-here (r .cost) rest (can .cost) cost-stands in
+    record-read s at inside _ gap-read _ row-read _ cost-read
+    ∙ ap (λ (n : ℕ). read.Record (record { release = r; next = n })) (omega (arith, length-append gap (row ++ cost), length-append row cost))
