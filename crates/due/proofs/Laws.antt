@@ -186,7 +186,7 @@ none-late-drop (suc n) [] e = e
 none-late-drop (suc n) (t ∷ l) e = none-late-drop n l (none-late-parts t l e .1)
 
 pub stays-sound : StaysSound
-stays-sound k r t fine whole in-time sound =
+stays-sound k r t fine in-time sound =
     let all = keptTimes k ++ (t ∷ []) in
     ap (λ m. keptSound m r) (kept-with k r t fine)
     ∙ sound-count (keptAs k (newestWith k r t)) r (last-ones-few (r .x) all)

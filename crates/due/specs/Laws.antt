@@ -69,5 +69,5 @@ EmptyIsSound = (r : Row) → keptSound nothingKept r ≡ true
 
 -- Keeping one more due time that is not too late stays sound.
 abbrev pub StaysSound : Type 0
-StaysSound = (k : Kept) (r : Row) (t : Tick) → rowInRange r ≡ true → length (k .times) ≡ maxKept → t .0 ≤ maxTime
+StaysSound = (k : Kept) (r : Row) (t : Tick) → rowInRange r ≡ true → t .0 ≤ maxTime
     → keptSound k r ≡ true → keptSound (keptWith k r t) r ≡ true

@@ -1,13 +1,11 @@
 -- One unit given to a pending job. (docs/RULES.md, section 6.)
 use Prim.Native.Nat.{ℕ, _-_}
-use mathlib.Core.Bool.{Bool, true, false, cond}
-use mathlib.Core.List.{List}
+use mathlib.Core.Bool.{Bool, cond}
 use lib.Dec.{leb, ltb}
 use lib.ListN.{set, getD}
 use Rattle.jobs.specs.declared.Job.{Job}
 use Rattle.jobs.specs.declared.Pending.{Pending}
 use Rattle.jobs.specs.declared.Given.{Given}
-use Rattle.jobs.specs.declared.Finished.{Finished}
 use Rattle.jobs.specs.declared.Finished.the-variants as finished
 use Rattle.jobs.specs.declared.Ran.{Ran}
 use Rattle.jobs.specs.declared.Turn.the-variants as turn

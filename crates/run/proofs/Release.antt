@@ -1,13 +1,13 @@
 -- A release: each of its answers by the tests that lead to it, and what the run after it keeps. A refused one changes nothing; an accepted one adds a job that is
 -- sound, with a serial above all others, and keeps a due time that is not too late. (docs/RULES.md, sections 6.6 to 6.9 and 6.25.)
-use Prim.Native.Nat.{ℕ, _+_, _-_, _≤_, _<_}
+use Prim.Native.Nat.{ℕ, _+_, _≤_, _<_}
 use mathlib.Core.Path.{_≡_, refl, sym, subst, _∙_}
 use mathlib.Core.Logic.{_≢_}
 use mathlib.Core.Bool.{true, false}
 use mathlib.Core.List.{List, [], _∷_, _++_}
 use native.Mathlib.Omega.{arith}
-use lib.ListN.{length, drop, getD, length-set, length-append, length-drop, List·getD-append, getD-replicate}
-use lib.Seq.{getD-drop, getD-append-seam, getD-set-same, getD-set-other, take-append-seam}
+use lib.ListN.{length-set, getD-replicate}
+use lib.Seq.{getD-set-same, getD-set-other}
 use borrow.Author.Tests.{leb-true, le-leb, lt-leb, lt-ltb, le-ltb, eq-eqb, ne-eqb}
 use Rattle.kinds.specs.Numbering.{maxTime}
 use Rattle.kinds.specs.declared.Refusal.{Refusal}
@@ -21,11 +21,9 @@ use Rattle.table.proofs.Ranges.{both-true}
 use Rattle.due.specs.declared.Due.{Due}
 use Rattle.due.specs.declared.Due.the-variants as due
 use Rattle.due.specs.declared.Kept.{Kept}
-use Rattle.due.specs.Kept.{nothingKept, keptTimes, dueOf, keptWith}
+use Rattle.due.specs.Kept.{nothingKept, dueOf, keptWith}
 use Rattle.due.specs.Laws.{SoundKept, GivenDue, KeepsNewest}
-use Rattle.due.proofs.Lists.{last-ones-few}
-use Rattle.due.proofs.Keeping.{noTime, newestWith, kept-with}
-use Rattle.due.proofs.Laws.{given-means, starts-empty, keeps-on-keeping, due-is-the-papers}
+use Rattle.due.proofs.Laws.{given-means, starts-empty, keeps-on-keeping, due-is-the-papers, stays-sound, sound-means as kept-means}
 use Rattle.jobs.specs.declared.Job.{Job}
 use Rattle.jobs.specs.Places.{maxPlaces, jobsOf, put}
 use Rattle.jobs.specs.Serials.{distinctSerials}
@@ -163,25 +161,10 @@ bounded run e =
 
 -- ---- an accepted release keeps a run sound
 
--- Times that are in time, and one more that is.
-one-more-in-time : (l : List Tick) (t : Tick) → ((i : ℕ) → i < length l → getD l i noTime .0 ≤ maxTime) → t .0 ≤ maxTime
-    → (i : ℕ) → i < length (l ++ (t ∷ [])) → getD (l ++ (t ∷ [])) i noTime .0 ≤ maxTime
-one-more-in-time l t each in-time i h =
-    by-lt i (length l)
-    (λ k. rw (List·getD-append l (t ∷ []) noTime i k) (each i k))
-    (λ k. let last : length l ≡ i = omega (arith, length-append l (t ∷ [])) in rw (← last, getD-append-seam l t [] noTime) in-time)
-
 -- Kept due times with one more that is in time: there are at most x still, and each is in time.
 kept-stays-sound : (k : Kept) (r : Row) (t : Tick) → rowInRange r ≡ true → t .0 ≤ maxTime → SoundKept k (r .x) → SoundKept (keptWith k r t) (r .x)
 kept-stays-sound k r t fine in-time sound =
-    let all : List Tick = keptTimes k ++ (t ∷ []) in
-    let from : ℕ = length all - r .x in
-    rw (kept-with k r t fine) (record {
-      few = last-ones-few (r .x) all;
-      in-time = rw (take-append-seam (newestWith k r t) (drop (length (newestWith k r t)) (k .times)))
-          (λ i h. rw (getD-drop from all i noTime)
-          (one-more-in-time (keptTimes k) t (sound .in-time) in-time (from + i) (omega (arith, length-drop from all))));
-    })
+    kept-means (keptWith k r t) r .0 (stays-sound k r t fine in-time (kept-means k r .1 sound))
 
 -- A release that is accepted, with the due time that is given.
 module _ {run : Run} {row cost : ℕ} (t : Tick) (whole : Whole run) (p : Passed run row cost) (given : dueNow run row ≡ due.At t) where

@@ -1,11 +1,11 @@
 -- The laws of scripts and of the chooser are proved: bytes are read as records exactly where these are spelled, and what comes next of two scripts is one
 -- record. (docs/RULES.md, section 7.)
-use Prim.Native.Nat.{ℕ, _≤_}
+use Prim.Native.Nat.{ℕ}
 use native.Mathlib.Omega.{arith}
-use mathlib.Core.Path.{_≡_, refl, sym, ap, _∙_}
+use mathlib.Core.Path.{_≡_, refl, ap, _∙_}
 use mathlib.Core.Logic.{⊎-elim}
-use mathlib.Core.List.{List, [], _∷_, _++_, flatten, map, List·Memᴰ·head, List·Memᴰ·tail, List·Memᴰ·cases-cons, List·Memᴰ·not-nil}
-use lib.ListN.{length, drop, length-drop}
+use mathlib.Core.List.{List, [], _∷_, _++_, flatten, List·Memᴰ·head, List·Memᴰ·tail, List·Memᴰ·cases-cons, List·Memᴰ·not-nil}
+use lib.ListN.{length, length-drop}
 use lib.Seq.{drop-length}
 use Rattle.numbers.specs.Laws.{Bytes}
 use Rattle.script.specs.declared.Record.{Record}
