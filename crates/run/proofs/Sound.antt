@@ -1,4 +1,4 @@
--- The test of a run: as the code goes, place by place and test by test; and that it means the facts of `Sound`, and nothing more.
+-- The test of a run means the facts of `Sound`, and nothing more; and the same test as the code goes, place by place.
 -- (docs/RULES.md, sections 6.20 to 6.24.)
 use Prim.Native.Nat.{ℕ, zero, suc, _+_, _≤_, _<_, suc-le-suc}
 use mathlib.Core.Path.{_≡_, refl, sym, _∙_}
@@ -32,156 +32,7 @@ use Rattle.run.specs.declared.Run.{Run}
 use Rattle.run.specs.Runs.{rowAt, costLimit, keptOf}
 use Rattle.run.specs.Sound.{fromOneTo, jobFits, jobSound, jobsSound, rowsSound, serialBound, soundOf, SoundJob, Sound, Whole, SoundMeans}
 
--- ---- the pending jobs, one place after another
-
-module _ (t : Table) (clock next : ℕ) (j : Job) where
-  -- A job whose row is not in use is not sound ..
-  row-unused : t .count ≤ j .row .0 → jobSound t clock next j ≡ false
-  unfolding jobSound
-  row-unused h = simp (le-ltb (j .row .0) (t .count) h)
-
-  -- .. and one whose row is in use is sound where it fits.
-  row-used : j .row .0 < t .count → jobSound t clock next j ≡ jobFits (costLimit t (j .row .0)) clock next j
-  unfolding jobSound
-  row-used h = simp (lt-ltb (j .row .0) (t .count) h)
-
--- The job at a place.
-abbrev jobAt : Pending → (i : ℕ) → Job
-jobAt p i = getD (p .places) i noJob
-
--- Whether all jobs are sound is settled by those from a place on.
-pub record JobsFrom (t : Table) (clock next : ℕ) (p : Pending) (i : ℕ) : Type 0 where
-  pub all-places : length (p .places) ≡ maxPlaces
-  pub few-pending : p .count ≤ maxPlaces
-  pub settled : jobsSound t clock next (drop i (jobsOf p)) ≡ jobsSound t clock next (jobsOf p)
-
-module _ {t : Table} {clock next : ℕ} {p : Pending} {i : ℕ} (from : JobsFrom t clock next p i) where
-  -- Where no job is left, they are.
-  pub no-job-left : p .count ≤ i → true ≡ jobsSound t clock next (jobsOf p)
-  no-job-left h =
-      let past : length (jobsOf p) ≤ i = omega (arith, length-take (p .count) (p .places)) in
-      (rw (drop-of-length-le (jobsOf p) past) at (from .settled))
-
-  module _ (here : i < p .count) where
-    -- Else it is settled by the job at the place and those after it.
-    job-and-later : (jobSound t clock next (jobAt p i) && jobsSound t clock next (drop (i + 1) (jobsOf p))) ≡ jobsSound t clock next (jobsOf p)
-    job-and-later =
-        let inside : i < length (jobsOf p) = omega (arith, length-take (p .count) (p .places)) in
-        (rw (rest-cons (p .count) (p .places) i noJob inside) at (from .settled))
-
-    -- If its row is not in use, not all are sound; ..
-    pub no-such-row : t .count ≤ jobAt p i .row .0 → false ≡ jobsSound t clock next (jobsOf p)
-    no-such-row h = rw (row-unused t clock next (jobAt p i) h) at job-and-later
-
-    module _ (in-use : jobAt p i .row .0 < t .count) where
-      -- .. nor are they if it does not fit; ..
-      pub job-does-not-fit : jobFits (costLimit t (jobAt p i .row .0)) clock next (jobAt p i) ≡ false → false ≡ jobsSound t clock next (jobsOf p)
-      job-does-not-fit h = rw (row-used t clock next (jobAt p i) in-use ∙ h) at job-and-later
-
-      -- .. and if it fits, it is settled by those after it.
-      pub job-fits : jobFits (costLimit t (jobAt p i .row .0)) clock next (jobAt p i) ≡ true → JobsFrom t clock next p (i + 1)
-      job-fits h = record {
-        all-places = from .all-places;
-        few-pending = from .few-pending;
-        settled = rw (row-used t clock next (jobAt p i) in-use ∙ h) at job-and-later;
-      }
-
--- ---- the rows with their kept due times, one after another
-
--- What is kept of no row.
-abbrev noKept : Kept
-noKept = record { times = []; count = 0 }
-
--- Whether all rows are sound, with what is kept of them, is settled by those from a place on.
-pub record RowsFrom (t : Table) (ks : List Kept) (i : ℕ) : Type 0 where
-  pub all-rows : length (t .rows) ≡ maxRows
-  pub all-kept : length ks ≡ maxRows
-  pub few-rows : t .count ≤ maxRows
-  pub settled : rowsSound (drop i (rowsOf t)) (drop i ks) ≡ rowsSound (rowsOf t) ks
-
-module _ {t : Table} {ks : List Kept} {i : ℕ} (from : RowsFrom t ks i) where
-  -- Where no row is left, they are.
-  pub no-row-left : t .count ≤ i → true ≡ rowsSound (rowsOf t) ks
-  no-row-left h =
-      let past : length (rowsOf t) ≤ i = omega (arith, length-take (t .count) (t .rows)) in
-      (rw (drop-of-length-le (rowsOf t) past) at (from .settled))
-
-  module _ (here : i < t .count) where
-    -- Else it is settled by the row at the place, what is kept of it, and those after it.
-    row-and-later : (rowInRange (rowAt t i) && keptSound (getD ks i noKept) (rowAt t i) && rowsSound (drop (i + 1) (rowsOf t)) (drop (i + 1) ks))
-        ≡ rowsSound (rowsOf t) ks
-    row-and-later =
-        let inside : i < length (rowsOf t) = omega (arith, length-take (t .count) (t .rows)) in
-        (rw (rest-cons (t .count) (t .rows) i noRow inside, drop-cons ks i noKept (omega arith), ← add-one i) at (from .settled))
-
-    -- If the row is out of range, not all are sound; ..
-    pub row-out-of-range : rowInRange (rowAt t i) ≡ false → false ≡ rowsSound (rowsOf t) ks
-    row-out-of-range r = simp r at row-and-later
-
-    module _ (r : rowInRange (rowAt t i) ≡ true) where
-      -- .. nor are they if what is kept cannot be its; ..
-      pub kept-unsound : keptSound (getD ks i noKept) (rowAt t i) ≡ false → false ≡ rowsSound (rowsOf t) ks
-      kept-unsound k = simp (r, k) at row-and-later
-
-      -- .. and if it can, it is settled by those after it.
-      pub row-sound : keptSound (getD ks i noKept) (rowAt t i) ≡ true → RowsFrom t ks (i + 1)
-      row-sound k = record {
-        all-rows = from .all-rows;
-        all-kept = from .all-kept;
-        few-rows = from .few-rows;
-        settled = simp (r, k) at row-and-later;
-      }
-
--- ---- the tests of a run, one after another
-
--- Each test that fails settles that the run is not sound.
-module _ (run : Run) where
-  pub too-many-rows : maxRows < run .table .count → false ≡ soundOf run
-  unfolding soundOf
-  too-many-rows h = simp (lt-leb (run .table .count) maxRows h)
-
-  pub clock-too-late : maxTime < run .clock .0 → false ≡ soundOf run
-  unfolding soundOf
-  clock-too-late h = simp (lt-leb (run .clock .0) maxTime h, and-false)
-
-  pub too-many-pending : maxPlaces < run .pending .count → false ≡ soundOf run
-  unfolding soundOf
-  too-many-pending h = simp (lt-leb (run .pending .count) maxPlaces h, and-false)
-
-  pub rows-unsound : rowsSound (rowsOf (run .table)) (run .kept) ≡ false → false ≡ soundOf run
-  unfolding soundOf
-  rows-unsound h = simp (h, and-false)
-
-  pub jobs-unsound : jobsSound (run .table) (run .clock .0) (run .next .0) (jobsOf (run .pending)) ≡ false → false ≡ soundOf run
-  unfolding soundOf
-  jobs-unsound h = simp (h, and-false)
-
-  pub serials-alike : distinctSerials (jobsOf (run .pending)) ≡ false → false ≡ soundOf run
-  unfolding soundOf
-  serials-alike h = simp (h, and-false)
-
--- All of these hold.
-pub record AllBefore (run : Run) : Type 0 where
-  pub few-rows : run .table .count ≤ maxRows
-  pub clock-in-time : run .clock .0 ≤ maxTime
-  pub few-pending : run .pending .count ≤ maxPlaces
-  pub rows : rowsSound (rowsOf (run .table)) (run .kept) ≡ true
-  pub jobs : jobsSound (run .table) (run .clock .0) (run .next .0) (jobsOf (run .pending)) ≡ true
-  pub apart : distinctSerials (jobsOf (run .pending)) ≡ true
-
--- Then the bound of the next serial settles it.
-pub bound-settles : (run : Run) → AllBefore run → leb (run .next .0) (serialBound run) ≡ soundOf run
-unfolding soundOf
-bound-settles run a = simp (
-  le-leb (run .table .count) maxRows (a .few-rows),
-  le-leb (run .clock .0) maxTime (a .clock-in-time),
-  le-leb (run .pending .count) maxPlaces (a .few-pending),
-  a .rows,
-  a .jobs,
-  a .apart,
-)
-
--- ---- what the tests mean
+-- ---- what the tests of jobs and rows mean
 
 -- The test of a number from 1 to a limit.
 within : (most n : ℕ) → fromOneTo most n ≡ true → (1 ≤ n) × (n ≤ most)
@@ -233,6 +84,10 @@ module _ (t : Table) (clock next : ℕ) where
   all-jobs [] f = refl
   all-jobs (j ∷ js) f = rw (f 0 (omega arith)) (all-jobs js (λ i h. f (suc i) (suc-le-suc h)))
 
+-- What is kept of no row.
+abbrev noKept : Kept
+noKept = record { times = []; count = 0 }
+
 -- A row is in range, and what is kept can be its.
 abbrev RowSound : Row → Kept → Type 0
 RowSound r k = (rowInRange r ≡ true) × (keptSound k r ≡ true)
@@ -251,6 +106,57 @@ all-rows : (rs : List Row) (ks : List Kept) → ((i : ℕ) → i < length rs →
 all-rows [] ks f = refl
 all-rows (r ∷ rs) [] f = refl
 all-rows (r ∷ rs) (k ∷ ks) f = let p = f 0 (omega arith) in rw (p .0, p .1) (all-rows rs ks (λ i h. f (suc i) (suc-le-suc h)))
+
+-- ---- the tests of a run, one after another
+
+-- Each test that fails settles that the run is not sound.
+module _ (run : Run) where
+  pub too-many-rows : maxRows < run .table .count → false ≡ soundOf run
+  unfolding soundOf
+  too-many-rows h = simp (lt-leb (run .table .count) maxRows h)
+
+  pub clock-too-late : maxTime < run .clock .0 → false ≡ soundOf run
+  unfolding soundOf
+  clock-too-late h = simp (lt-leb (run .clock .0) maxTime h, and-false)
+
+  pub too-many-pending : maxPlaces < run .pending .count → false ≡ soundOf run
+  unfolding soundOf
+  too-many-pending h = simp (lt-leb (run .pending .count) maxPlaces h, and-false)
+
+  pub rows-unsound : rowsSound (rowsOf (run .table)) (run .kept) ≡ false → false ≡ soundOf run
+  unfolding soundOf
+  rows-unsound h = simp (h, and-false)
+
+  pub jobs-unsound : jobsSound (run .table) (run .clock .0) (run .next .0) (jobsOf (run .pending)) ≡ false → false ≡ soundOf run
+  unfolding soundOf
+  jobs-unsound h = simp (h, and-false)
+
+  pub serials-alike : distinctSerials (jobsOf (run .pending)) ≡ false → false ≡ soundOf run
+  unfolding soundOf
+  serials-alike h = simp (h, and-false)
+
+-- All of these hold.
+pub record AllBefore (run : Run) : Type 0 where
+  pub few-rows : run .table .count ≤ maxRows
+  pub clock-in-time : run .clock .0 ≤ maxTime
+  pub few-pending : run .pending .count ≤ maxPlaces
+  pub rows : rowsSound (rowsOf (run .table)) (run .kept) ≡ true
+  pub jobs : jobsSound (run .table) (run .clock .0) (run .next .0) (jobsOf (run .pending)) ≡ true
+  pub apart : distinctSerials (jobsOf (run .pending)) ≡ true
+
+-- Then the bound of the next serial settles it.
+pub bound-settles : (run : Run) → AllBefore run → leb (run .next .0) (serialBound run) ≡ soundOf run
+unfolding soundOf
+bound-settles run a = simp (
+  le-leb (run .table .count) maxRows (a .few-rows),
+  le-leb (run .clock .0) maxTime (a .clock-in-time),
+  le-leb (run .pending .count) maxPlaces (a .few-pending),
+  a .rows,
+  a .jobs,
+  a .apart,
+)
+
+-- ---- what the test of a run means
 
 module _ (run : Run) (whole : Whole run) where
   abbrev table : Table
@@ -318,3 +224,99 @@ module _ (run : Run) (whole : Whole run) where
 
 pub sound-means : SoundMeans
 sound-means run whole = (sound-facts run whole, sound-tested run whole)
+
+-- ---- the pending jobs, one place after another
+
+module _ (t : Table) (clock next : ℕ) (j : Job) where
+  -- A job whose row is not in use is not sound ..
+  row-unused : t .count ≤ j .row .0 → jobSound t clock next j ≡ false
+  unfolding jobSound
+  row-unused h = simp (le-ltb (j .row .0) (t .count) h)
+
+  -- .. and one whose row is in use is sound where it fits.
+  row-used : j .row .0 < t .count → jobSound t clock next j ≡ jobFits (costLimit t (j .row .0)) clock next j
+  unfolding jobSound
+  row-used h = simp (lt-ltb (j .row .0) (t .count) h)
+
+-- The job at a place.
+abbrev jobAt : Pending → (i : ℕ) → Job
+jobAt p i = getD (p .places) i noJob
+
+-- Whether all jobs are sound is settled by those from a place on.
+pub record JobsFrom (t : Table) (clock next : ℕ) (p : Pending) (i : ℕ) : Type 0 where
+  pub all-places : length (p .places) ≡ maxPlaces
+  pub few-pending : p .count ≤ maxPlaces
+  pub settled : jobsSound t clock next (drop i (jobsOf p)) ≡ jobsSound t clock next (jobsOf p)
+
+module _ {t : Table} {clock next : ℕ} {p : Pending} {i : ℕ} (from : JobsFrom t clock next p i) where
+  -- Where no job is left, they are.
+  pub no-job-left : p .count ≤ i → true ≡ jobsSound t clock next (jobsOf p)
+  no-job-left h =
+      let past : length (jobsOf p) ≤ i = omega (arith, length-take (p .count) (p .places)) in
+      (rw (drop-of-length-le (jobsOf p) past) at (from .settled))
+
+  module _ (here : i < p .count) where
+    -- Else it is settled by the job at the place and those after it.
+    job-and-later : (jobSound t clock next (jobAt p i) && jobsSound t clock next (drop (i + 1) (jobsOf p))) ≡ jobsSound t clock next (jobsOf p)
+    job-and-later =
+        let inside : i < length (jobsOf p) = omega (arith, length-take (p .count) (p .places)) in
+        (rw (rest-cons (p .count) (p .places) i noJob inside) at (from .settled))
+
+    -- If its row is not in use, not all are sound; ..
+    pub no-such-row : t .count ≤ jobAt p i .row .0 → false ≡ jobsSound t clock next (jobsOf p)
+    no-such-row h = rw (row-unused t clock next (jobAt p i) h) at job-and-later
+
+    module _ (in-use : jobAt p i .row .0 < t .count) where
+      -- .. nor are they if it does not fit; ..
+      pub job-does-not-fit : jobFits (costLimit t (jobAt p i .row .0)) clock next (jobAt p i) ≡ false → false ≡ jobsSound t clock next (jobsOf p)
+      job-does-not-fit h = rw (row-used t clock next (jobAt p i) in-use ∙ h) at job-and-later
+
+      -- .. and if it fits, it is settled by those after it.
+      pub job-fits : jobFits (costLimit t (jobAt p i .row .0)) clock next (jobAt p i) ≡ true → JobsFrom t clock next p (i + 1)
+      job-fits h = record {
+        all-places = from .all-places;
+        few-pending = from .few-pending;
+        settled = rw (row-used t clock next (jobAt p i) in-use ∙ h) at job-and-later;
+      }
+
+-- ---- the rows with their kept due times, one after another
+
+-- Whether all rows are sound, with what is kept of them, is settled by those from a place on.
+pub record RowsFrom (t : Table) (ks : List Kept) (i : ℕ) : Type 0 where
+  pub all-rows : length (t .rows) ≡ maxRows
+  pub all-kept : length ks ≡ maxRows
+  pub few-rows : t .count ≤ maxRows
+  pub settled : rowsSound (drop i (rowsOf t)) (drop i ks) ≡ rowsSound (rowsOf t) ks
+
+module _ {t : Table} {ks : List Kept} {i : ℕ} (from : RowsFrom t ks i) where
+  -- Where no row is left, they are.
+  pub no-row-left : t .count ≤ i → true ≡ rowsSound (rowsOf t) ks
+  no-row-left h =
+      let past : length (rowsOf t) ≤ i = omega (arith, length-take (t .count) (t .rows)) in
+      (rw (drop-of-length-le (rowsOf t) past) at (from .settled))
+
+  module _ (here : i < t .count) where
+    -- Else it is settled by the row at the place, what is kept of it, and those after it.
+    row-and-later : (rowInRange (rowAt t i) && keptSound (getD ks i noKept) (rowAt t i) && rowsSound (drop (i + 1) (rowsOf t)) (drop (i + 1) ks))
+        ≡ rowsSound (rowsOf t) ks
+    row-and-later =
+        let inside : i < length (rowsOf t) = omega (arith, length-take (t .count) (t .rows)) in
+        (rw (rest-cons (t .count) (t .rows) i noRow inside, drop-cons ks i noKept (omega arith), ← add-one i) at (from .settled))
+
+    -- If the row is out of range, not all are sound; ..
+    pub row-out-of-range : rowInRange (rowAt t i) ≡ false → false ≡ rowsSound (rowsOf t) ks
+    row-out-of-range r = simp r at row-and-later
+
+    module _ (r : rowInRange (rowAt t i) ≡ true) where
+      -- .. nor are they if what is kept cannot be its; ..
+      pub kept-unsound : keptSound (getD ks i noKept) (rowAt t i) ≡ false → false ≡ rowsSound (rowsOf t) ks
+      kept-unsound k = simp (r, k) at row-and-later
+
+      -- .. and if it can, it is settled by those after it.
+      pub row-sound : keptSound (getD ks i noKept) (rowAt t i) ≡ true → RowsFrom t ks (i + 1)
+      row-sound k = record {
+        all-rows = from .all-rows;
+        all-kept = from .all-kept;
+        few-rows = from .few-rows;
+        settled = simp (r, k) at row-and-later;
+      }
