@@ -158,8 +158,8 @@ fn meets_again(places: [Job; Pending::PLACES], count: usize, at: usize) -> bool
     false
 }
 
-fn finish_of(job: Job, now: u64) -> Finish
-    ensures { λ r. ⌜ r ≡ finishAt now job ⌝ }
+fn finish_of(job: Job, finish: Tick) -> Finish
+    ensures { λ r. ⌜ r ≡ finishAt (finish .0) job ⌝ }
 {
     let serial = job.serial;
     let row = job.row;
@@ -170,14 +170,14 @@ fn finish_of(job: Job, now: u64) -> Finish
         row,
         release,
         due,
-        finish: Tick(now),
+        finish,
     }
 }
 
 fn no_finish() -> Finish
     ensures { λ r. ⌜ r ≡ noFinish ⌝ }
 {
-    finish_of(no_job(), 0)
+    finish_of(no_job(), Tick(0))
 }
 
 impl Finishes {
@@ -373,7 +373,7 @@ impl Pending {
             if best.left <= 1 {
                 // taken out, as in `take_out`
                 let done = finishes.count;
-                let finish = finish_of(best, now);
+                let finish = finish_of(best, Tick(now));
                 finishes.records[done] = finish;
                 finishes.count = done + 1;
                 count -= 1;
