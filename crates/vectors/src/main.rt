@@ -2,9 +2,11 @@
 // Each topic has a file, with one function that prints all of it.
 mod numbers_edges;
 mod print;
+mod runs_edges;
 mod verdicts_edges;
 
 fn main() {
     numbers_edges::all();
     verdicts_edges::all();
+    runs_edges::all();
 }
