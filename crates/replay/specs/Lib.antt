@@ -1,0 +1,5 @@
+pub mod Numbers
+pub mod Play
+pub mod Outcome
+pub mod Inside
+pub mod Laws
