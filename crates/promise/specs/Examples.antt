@@ -1,0 +1,64 @@
+-- The examples of the rules, V1 to V8 and D1 to D3, as one list under one claim. Where a table is feasible, the claim is that every length fits, however long; D1 to
+-- D3 are claimed for every cost c in range. (docs/RULES.md, sections 4 and 5.)
+use Prim.Native.Nat.{ℕ, _≤_}
+use mathlib.Core.Path.{_≡_}
+use mathlib.Core.List.{List, [], _∷_}
+use Rattle.theory.specs.Lists.{All}
+use Rattle.table.specs.declared.Row.{Row}
+use Rattle.table.specs.Limits.{maxC}
+use Rattle.table.specs.Tables.{tableRead}
+use Rattle.table.specs.Laws.{spelledTable}
+use Rattle.due.specs.declared.Kept.{Kept}
+use Rattle.due.specs.Kept.{nothingKept, dueOf, keptWith}
+use Rattle.verdict.specs.declared.Verdict.{Verdict}
+use Rattle.verdict.specs.declared.Verdict.the-variants.{Feasible, Overloaded}
+use Rattle.verdict.specs.Demand.{tableDemand}
+use Rattle.verdict.specs.Verdict.{Judged}
+use Rattle.promise.specs.NoOrder.{dueAt}
+
+-- An example: bytes and their verdict; a table's demand in a length; or releases of a row, and their due times.
+pub data Example : Type 0 where
+  verdict : (bytes : List ℕ) → Verdict → Example
+  demand : (bytes : List ℕ) (L units : ℕ) → Example
+  due-times : (x y d : ℕ) (releases due-times : List ℕ) → Example
+
+-- The due times of releases, one after another, by the definitions that a release goes by.
+abbrev pub dueTimesFrom : Kept → Row → (releases : List ℕ) → List ℕ
+dueTimesFrom k r [] = []
+dueTimesFrom k r (t ∷ ts) = let due = dueAt (dueOf k r t) in due .0 ∷ dueTimesFrom (keptWith k r due) r ts
+
+-- The claim.
+abbrev pub Holds : Example → Type 0
+Holds (verdict bytes v) = Judged bytes v
+Holds (demand bytes L units) = tableDemand (tableRead bytes .table) L ≡ units
+Holds (due-times x y d releases times) =
+    (c : ℕ) → 1 ≤ c → c ≤ maxC → dueTimesFrom nothingKept (record { x = x; y = y; d = d; c = c }) releases ≡ times
+
+abbrev row : (x y d c : ℕ) → Row
+row x y d c = record { x = x; y = y; d = d; c = c }
+
+abbrev overloaded : (length units : ℕ) → Verdict
+overloaded length units = Overloaded (record { length = length; demand = units })
+
+abbrev pub examples : List Example
+examples =
+    -- V1 and V2, by their bytes
+    verdict (0x00 ∷ []) Feasible
+    ∷ verdict (0x01 ∷ 0x01 ∷ 0x02 ∷ 0x06 ∷ 0x01 ∷ []) Feasible
+    -- V3, and its demand
+    ∷ verdict (spelledTable (row 1 4 4 2 ∷ row 1 6 6 3 ∷ [])) Feasible
+    ∷ demand (spelledTable (row 1 4 4 2 ∷ row 1 6 6 3 ∷ [])) 12 12
+    -- V4 to V8
+    ∷ verdict (spelledTable (row 1 4 3 2 ∷ row 1 6 5 3 ∷ [])) (overloaded 11 12)
+    ∷ verdict (spelledTable (row 3 6 6 2 ∷ [])) Feasible
+    ∷ verdict (spelledTable (row 3 6 5 2 ∷ [])) (overloaded 5 6)
+    ∷ verdict (spelledTable (row 2 1 1 1 ∷ [])) (overloaded 1 2)
+    ∷ verdict (spelledTable (row 1 2 10 3 ∷ [])) (overloaded 26 27)
+    -- D1 to D3
+    ∷ due-times 1 2 6 (0 ∷ 0 ∷ 0 ∷ 3 ∷ 3 ∷ 6 ∷ []) (6 ∷ 8 ∷ 10 ∷ 12 ∷ 14 ∷ 16 ∷ [])
+    ∷ due-times 3 6 6 (0 ∷ 0 ∷ 0 ∷ 3 ∷ 3 ∷ 6 ∷ []) (6 ∷ 6 ∷ 6 ∷ 12 ∷ 12 ∷ 12 ∷ [])
+    ∷ due-times 1 2 6 (0 ∷ 20 ∷ []) (6 ∷ 26 ∷ [])
+    ∷ []
+
+abbrev pub ExamplesHold : Type 0
+ExamplesHold = All Holds examples

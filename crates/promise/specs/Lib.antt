@@ -1,0 +1,10 @@
+pub mod Answers
+pub mod Traces
+pub mod InTime
+pub mod Choice
+pub mod Refusals
+pub mod Share
+pub mod NoOrder
+pub mod Paper
+pub mod Examples
+pub mod Spelling

@@ -1,0 +1,34 @@
+-- The paper. The verdict is its Theorem 4.2, with the demand of its Lemma 4.1, and due times are its recurrence (1). (Demand 2; docs/RULES.md, sections 4 and 5.)
+use Prim.Native.Nat.{ℕ, _≤_, _<_}
+use mathlib.Core.Path.{_≡_}
+use mathlib.Core.Logic.{_↔_}
+use mathlib.Core.List.{List}
+use lib.ListN.{length}
+use Rattle.numbers.specs.Laws.{Bytes}
+use Rattle.theory.specs.Lists.{total}
+use Rattle.theory.specs.Paper.{paperDemand}
+use Rattle.theory.specs.DueTimes.{RecurrenceOne, jth, releases, dues}
+use Rattle.theory.specs.Sources.{own}
+use Rattle.table.specs.declared.Row.{Row}
+use Rattle.table.specs.declared.Table.{Table}
+use Rattle.table.specs.declared.TableAnswer.the-variants as answer
+use Rattle.table.specs.Tables.{rowsOf, tableRead}
+use Rattle.verdict.specs.declared.Verdict.{Verdict}
+use Rattle.verdict.specs.Verdict.{Judged, verdictSays}
+use Rattle.run.specs.Runs.{rowAt}
+use Rattle.promise.specs.Traces.{Call, trace, jobsIn}
+
+-- The paper's condition: for every L above 0, the sum over the rows of f(floor((L − d + y)/y)) · x · c is at most L.
+abbrev pub Theorem42 : Table → Type 0
+Theorem42 t = (L : ℕ) → 0 < L → total (λ (r : Row). paperDemand (r .x) (r .y) (r .d) (r .c) L) (rowsOf t) ≤ L
+
+-- Of a table that is accepted, `judge` says feasible exactly when the condition holds.
+abbrev pub FeasibleIsTheorem42 : Type 0
+FeasibleIsTheorem42 = (bytes : List ℕ) → Bytes bytes → (h : ℕ) → tableRead bytes .answer ≡ answer.Accepted h → (v : Verdict) → Judged bytes v
+    → (verdictSays v .number ≡ 20) ↔ Theorem42 (tableRead bytes .table)
+
+-- The accepted jobs of a row, counted from 1 in the order of their release, are due as recurrence (1) says.
+abbrev pub DueTimesAreRecurrenceOne : Type 0
+DueTimesAreRecurrenceOne = (bytes : List ℕ) → Bytes bytes → (calls : List Call) (row : ℕ) → row < tableRead bytes .table .count
+    → let r = rowAt (tableRead bytes .table) row in let js = own row (jobsIn (trace bytes calls)) in
+    RecurrenceOne (r .x) (r .y) (r .d) (length js) (jth (releases js)) (jth (dues js))
