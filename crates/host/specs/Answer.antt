@@ -1,0 +1,41 @@
+-- What the host's calls return and write. (docs/RULES.md, section 9.)
+use Prim.Native.Nat.{ℕ, zero, suc, _/_, _%_}
+use mathlib.Core.Path.{_≡_}
+use mathlib.Core.Logic.{_≢_}
+use mathlib.Core.List.{List, [], _∷_, _++_}
+use lib.ListN.{length}
+use Rattle.kinds.specs.Numbering.{Said, refusalNumber}
+use Rattle.kinds.specs.declared.Refusal.the-variants.{AnswerSize}
+use Rattle.verdict.specs.declared.Verdict.{Verdict}
+use Rattle.verdict.specs.Verdict.{Judged, verdictSays}
+
+-- An answer buffer has so many bytes, and so has each of its two numbers.
+abbrev pub answerLength : ℕ
+answerLength = 16
+
+abbrev pub numberLength : ℕ
+numberLength = 8
+
+-- A number in so many bytes, lowest first. (9.4)
+unfoldable pub lowestFirst : (bytes n : ℕ) → List ℕ
+lowestFirst zero n = []
+lowestFirst (suc k) n = n % 256 ∷ lowestFirst k (n / 256)
+
+-- The answer buffer: the two numbers that are said. (9.5)
+abbrev pub answerBytes : Said → List ℕ
+answerBytes s = lowestFirst numberLength (s .first) ++ lowestFirst numberLength (s .second)
+
+-- ---- the verdict
+
+-- A status and the answer buffer after it are those of a verdict of the table: 13 comes first and writes nothing. (9.6)
+pub data VerdictAnswered (table answer : List ℕ) (status : ℕ) (after : List ℕ) : Type 0 where
+  wrong-size : length answer ≢ answerLength → status ≡ refusalNumber AnswerSize → after ≡ answer → VerdictAnswered table answer status after
+  said : length answer ≡ answerLength → (v : Verdict) → Judged table v → status ≡ verdictSays v .number → after ≡ answerBytes (verdictSays v)
+      → VerdictAnswered table answer status after
+
+-- ---- what is proved (proofs/Laws.antt)
+
+-- One status and one answer buffer only are right.
+abbrev pub OneVerdictAnswered : Type 0
+OneVerdictAnswered = (table answer : List ℕ) (status status′ : ℕ) (after after′ : List ℕ)
+    → VerdictAnswered table answer status after → VerdictAnswered table answer status′ after′ → (status ≡ status′) × (after ≡ after′)

@@ -1,0 +1,66 @@
+// The host's two calls: what a C program links. Each takes byte buffers, returns a status number that is never zero, and writes the two numbers of its answer into
+// the answer buffer. (docs/RULES.md, section 9; include/jyrmekko.h.)
+use kinds::Refusal;
+use kinds::RefusedAt;
+use verdict::Verdict;
+ghost use mathlib.Core.Path.{_≡_};
+ghost use Prim.Native.Nat.{_+_, _≤_};
+ghost use lib.ListN.{length, take, drop};
+ghost use mathlib.Core.List.{_++_};
+ghost use Rattle.host.specs.Answer.{numberLength, lowestFirst, answerBytes, VerdictAnswered, answerLength};
+ghost use Rattle.kinds.specs.Numbering.{refusedSays};
+
+// The length of an answer buffer.
+const ANSWER: usize = 16;
+
+// The statuses that are no refusal.
+const FEASIBLE: u32 = 20;
+
+const OVERLOADED: u32 = 21;
+
+// Writes a number into eight bytes of the answer, lowest first.
+fn write_number(answer: &mut [u8], at: usize, value: u64)
+    requires { ⌜ at + numberLength ≤ length (now answer) ⌝ }
+    ensures { λ r. ⌜ now (answer .exit) ≡ take at (now (answer .entry)) ++ (lowestFirst numberLength value ++ drop (at + numberLength) (now (answer .entry))) ⌝ }
+{
+    let mut rest = value;
+    let mut i: usize = 0;
+    while i < 8 {
+        answer[at + i] = (rest % 256) as u8;
+        rest = rest / 256;
+        i += 1;
+    }
+}
+
+// Writes the two numbers of an answer, and hands back its status.
+fn say(answer: &mut [u8], status: u32, first: u64, second: u64) -> u32
+    requires { ⌜ length (now answer) ≡ answerLength ⌝ }
+    ensures { λ r. ⌜ (r ≡ status) × (now (answer .exit) ≡ answerBytes (record { number = status; first = first; second = second })) ⌝ }
+{
+    write_number(answer, 0, first);
+    write_number(answer, 8, second);
+    status
+}
+
+fn refuse(answer: &mut [u8], at: RefusedAt) -> u32
+    requires { ⌜ length (now answer) ≡ answerLength ⌝ }
+    ensures { λ r. ⌜ (r ≡ refusedSays at .number) × (now (answer .exit) ≡ answerBytes (refusedSays at)) ⌝ }
+{
+    let refusal = at.refusal;
+    say(answer, refusal.number(), at.place as u64, 0)
+}
+
+// 20 feasible; 21 overloaded, with the smallest length and its demand; else the table's refusal, with its place. 13 first.
+#[no_mangle]
+pub extern "C" fn verdict(table: &[u8], answer: &mut [u8]) -> u32
+    ensures { λ r. ⌜ VerdictAnswered (now (table .entry)) (now (answer .entry)) r (now (answer .exit)) ⌝ }
+{
+    if answer.len() != ANSWER {
+        return Refusal::AnswerSize.number();
+    }
+    match verdict::judge(table) {
+        Verdict::Feasible => say(answer, FEASIBLE, 0, 0),
+        Verdict::Overloaded(w) => say(answer, OVERLOADED, w.length, w.demand),
+        Verdict::Refused(r) => refuse(answer, r),
+    }
+}
