@@ -1,0 +1,176 @@
+-- The examples hold. A table's verdict is settled by a look at finitely many lengths, which is made by computing; the theory's bound says that these are enough.
+use Prim.Native.Nat.{ℕ, zero, suc, _+_, _≤_, _<_}
+use mathlib.Core.Path.{_≡_, refl, sym, ap, _∙_}
+use mathlib.Core.Bool.{Bool, true, false, _&&_}
+use mathlib.Core.List.{List, [], _∷_, flatten}
+use native.Mathlib.Omega.{arith}
+use lib.Dec.{leb, ltb}
+use lib.ListN.{getD}
+use borrow.Author.Tests.{leb-true, ltb-true}
+use Rattle.kinds.specs.Numbering.{maxTime}
+use Rattle.numbers.specs.Laws.{Bytes}
+use Rattle.numbers.specs.Reading as reading
+use Rattle.numbers.specs.Spelling as spelling
+use Rattle.theory.specs.Lists.{total}
+use Rattle.theory.specs.Curves.{FitsUpTo, SmallestFailing}
+use Rattle.theory.specs.Demand.{rowJobs, rowDemand, rowGrowth}
+use Rattle.theory.specs.DueTimes.{dueTime}
+use Rattle.theory.proofs.Cases.{by-lt}
+use Rattle.theory.proofs.Curves.{settled-within-a-period}
+use Rattle.table.specs.declared.Row.{Row}
+use Rattle.table.specs.declared.Table.{Table}
+use Rattle.table.specs.declared.TableAnswer.{TableAnswer}
+use Rattle.table.specs.declared.TableAnswer.the-variants as answer
+use Rattle.table.specs.Limits.{maxX, maxY, maxD, maxC}
+use Rattle.table.specs.Rows.{rowInRange}
+use Rattle.table.proofs.Ranges.{both-true, in-range-of}
+use Rattle.table.specs.Tables.{tableRead, readRows}
+use Rattle.table.specs.Period.{firstMultiple, leastCommonMultiple}
+use Rattle.due.specs.declared.Kept.{Kept}
+use Rattle.due.specs.declared.Due.the-variants as due
+use Rattle.due.specs.Kept.{nothingKept, dueOf, keptWith}
+use Rattle.due.specs.Laws.{KeepsNewest}
+use Rattle.due.proofs.Laws.{given-means, keeps-on-keeping, due-is-the-papers, starts-empty}
+use Rattle.verdict.specs.declared.Verdict.{Verdict}
+use Rattle.verdict.specs.declared.Verdict.the-variants as verdict
+use Rattle.verdict.specs.Demand.{tableDemand, tableGrowth, largestD, largestOf}
+use Rattle.verdict.specs.Verdict.{RightOf, RightOfRead, Judged}
+use Rattle.verdict.proofs.Accepted.{Known, accepted-is-known}
+use Rattle.run.specs.Sound.{fromOneTo}
+use Rattle.promise.specs.Examples.{dueTimesFrom, ExamplesHold}
+
+-- ---- looks that can be made by computing
+
+-- Every element of a list is a byte.
+abbrev allBytes : List ℕ → Bool
+allBytes [] = true
+allBytes (b ∷ s) = ltb b 256 && allBytes s
+
+are-bytes : (s : List ℕ) → allBytes s ≡ true → Bytes s
+are-bytes [] h i = omega arith
+are-bytes (b ∷ s) h zero = ltb-true b 256 (both-true (ltb b 256) (allBytes s) h .0)
+are-bytes (b ∷ s) h (suc i) = are-bytes s (both-true (ltb b 256) (allBytes s) h .1) i
+
+-- Every length from 1 to n fits.
+abbrev looks : (ℕ → ℕ) → (n : ℕ) → Bool
+looks f zero = true
+looks f (suc n) = leb (f (suc n)) (suc n) && looks f n
+
+looked : (f : ℕ → ℕ) (n : ℕ) → looks f n ≡ true → FitsUpTo f n
+looked f zero h L some most = absurd (omega arith)
+looked f (suc n) h L some most =
+    let both = both-true (leb (f (suc n)) (suc n)) (looks f n) h in
+    by-lt L (suc n) (λ below. looked f n (both .1) L some (omega arith))
+    (λ above. let last : L ≡ suc n = omega arith in rw last (leb-true (f (suc n)) (suc n) (both .0)))
+
+-- ---- verdicts by a look
+
+-- What is right of a table that was accepted is right of the bytes.
+accepted-right : (t : Table) (a : TableAnswer) (period : ℕ) (v : Verdict) → a ≡ answer.Accepted period → RightOf t v → RightOfRead t a v
+accepted-right t a period v accepted right = rw accepted right
+
+module _ (s : List ℕ) (period : ℕ) (bytes : allBytes s ≡ true) (accepted : tableRead s .answer ≡ answer.Accepted period) where
+  -- Growth within the period, and every length up to period + largest d fits.
+  feasible-by-look : leb (tableGrowth (tableRead s .table) period) period ≡ true → looks (tableDemand (tableRead s .table)) (period + largestD (tableRead s .table)) ≡ true
+      → Judged s verdict.Feasible
+  feasible-by-look within fits =
+      let known = accepted-is-known s period (are-bytes s bytes) accepted in
+      accepted-right (tableRead s .table) (tableRead s .answer) period verdict.Feasible accepted
+      (settled-within-a-period (tableDemand (tableRead s .table)) (largestD (tableRead s .table)) period (tableGrowth (tableRead s .table) period) (known .curve)
+      (known .some-period) (leb-true (tableGrowth (tableRead s .table) period) period within) (looked _ _ fits))
+
+  overloaded-by-look : (shorter units : ℕ) → looks (tableDemand (tableRead s .table)) shorter ≡ true → tableDemand (tableRead s .table) (suc shorter) ≡ units
+      → ltb (suc shorter) units ≡ true → Judged s (verdict.Overloaded (record { length = suc shorter; demand = units }))
+  overloaded-by-look shorter units fits asks more =
+      accepted-right (tableRead s .table) (tableRead s .answer) period _ accepted
+      (record { some-length = omega arith; fails = rw asks (ltb-true (suc shorter) units more); smaller-fit = λ M some below. looked _ shorter fits M some (omega arith) }, sym asks)
+
+-- ---- due times by the paper's rule
+
+-- The due times of releases by the rule, over the whole history of those before, which is listed newest first.
+abbrev ruled : (x y d : ℕ) (history : List ℕ) (releases : List ℕ) → List ℕ
+ruled x y d history [] = []
+ruled x y d history (t ∷ ts) = dueTime x y d history t ∷ ruled x y d (dueTime x y d history t ∷ history) ts
+
+-- No one of them is too late.
+abbrev noneLate : List ℕ → Bool
+noneLate [] = true
+noneLate (t ∷ ts) = leb t maxTime && noneLate ts
+
+-- The definitions that a release goes by give those times.
+by-the-rule : (r : Row) → rowInRange r ≡ true → (k : Kept) (history ts : List ℕ) → KeepsNewest k (r .x) history
+    → noneLate (ruled (r .x) (r .y) (r .d) history ts) ≡ true → dueTimesFrom k r ts ≡ ruled (r .x) (r .y) (r .d) history ts
+by-the-rule r in-range k history [] keeps fits = refl
+by-the-rule r in-range k history (t ∷ ts) keeps fits =
+    let D : ℕ = dueTime (r .x) (r .y) (r .d) history t in
+    let both = both-true (leb D maxTime) (noneLate (ruled (r .x) (r .y) (r .d) (D ∷ history) ts)) fits in
+    let given : dueOf k r t ≡ due.At (record { 0 = D }) = given-means k r t (record { 0 = D }) .1 (record {
+      row-in-range = in-range;
+      by-rule = due-is-the-papers k r history t in-range keeps;
+      in-time = leb-true D maxTime (both .0);
+    }) in
+    rw given (ap (λ l. D ∷ l) (by-the-rule r in-range (keptWith k r (record { 0 = D })) (D ∷ history) ts (keeps-on-keeping k r history (record { 0 = D }) in-range keeps) (both .1)))
+
+some-of : (most n : ℕ) → fromOneTo most n ≡ true → 1 ≤ n
+some-of most n h = leb-true 1 n (both-true (leb 1 n) (leb n most) h .0)
+
+most-of : (most n : ℕ) → fromOneTo most n ≡ true → n ≤ most
+most-of most n h = leb-true n most (both-true (leb 1 n) (leb n most) h .1)
+
+-- A row of an example is in range for every cost in range.
+module _ (x y d : ℕ) (releases times : List ℕ) (xs : fromOneTo maxX x ≡ true) (ys : fromOneTo maxY y ≡ true) (ds : fromOneTo maxD d ≡ true) where
+  due-by-rule : ruled x y d [] releases ≡ times → noneLate times ≡ true → (c : ℕ) → 1 ≤ c → c ≤ maxC
+      → dueTimesFrom nothingKept (record { x = x; y = y; d = d; c = c }) releases ≡ times
+  due-by-rule same fits c some most =
+      let r : Row = record { x = x; y = y; d = d; c = c } in
+      by-the-rule r (in-range-of r (record {
+        some-x = some-of maxX x xs;
+        most-x = most-of maxX x xs;
+        some-y = some-of maxY y ys;
+        most-y = most-of maxY y ys;
+        some-d = some-of maxD d ds;
+        most-d = most-of maxD d ds;
+        some-c = some;
+        most-c = most;
+      })) nothingKept [] releases (starts-empty x) (rw same fits) ∙ same
+
+pub examples-hold : ExamplesHold
+unfolding
+    tableDemand tableGrowth largestOf total rowDemand rowJobs rowGrowth readRows leastCommonMultiple firstMultiple reading.spelt spelling.groupsOf flatten dueTime
+examples-hold = (
+  feasible-by-look _ 1 refl refl refl refl,
+  (
+    feasible-by-look _ 2 refl refl refl refl,
+    (
+      feasible-by-look _ 12 refl refl refl refl,
+      (
+        refl,
+        (
+          overloaded-by-look _ 12 refl refl 10 12 refl refl refl,
+          (
+            feasible-by-look _ 6 refl refl refl refl,
+            (
+              overloaded-by-look _ 6 refl refl 4 6 refl refl refl,
+              (
+                overloaded-by-look _ 1 refl refl 0 2 refl refl refl,
+                (
+                  overloaded-by-look _ 2 refl refl 25 27 refl refl refl,
+                  (
+                    due-by-rule 1 2 6 _ _ refl refl refl refl refl,
+                    (
+                      due-by-rule 3 6 6 _ _ refl refl refl refl refl,
+                      (
+                        due-by-rule 1 2 6 _ _ refl refl refl refl refl,
+                        tt,
+                      ),
+                    ),
+                  ),
+                ),
+              ),
+            ),
+          ),
+        ),
+      ),
+    ),
+  ),
+)
