@@ -37,7 +37,7 @@ use Rattle.verdict.specs.Demand.{tableDemand, tableGrowth, largestD, largestOf}
 use Rattle.verdict.specs.Verdict.{RightOf, RightOfRead, Judged}
 use Rattle.verdict.proofs.Accepted.{Known, accepted-is-known}
 use Rattle.run.specs.Sound.{fromOneTo}
-use Rattle.promise.specs.Examples.{dueTimesFrom, ExamplesHold}
+use Rattle.promise.specs.Examples.{dueTimesFrom, v1, v2, v3, v4, v5, v6, v7, v8, ExamplesHold}
 
 -- ---- looks that can be made by computing
 
@@ -134,43 +134,24 @@ module _ (x y d : ℕ) (releases times : List ℕ) (xs : fromOneTo maxX x ≡ tr
         most-c = most;
       })) nothingKept [] releases (starts-empty x) (rw same fits) ∙ same
 
+-- One example after another.
+then : {P Q : Type 0} → P → Q → P × Q
+then p q = (p, q)
+
 pub examples-hold : ExamplesHold
 unfolding
     tableDemand tableGrowth largestOf total rowDemand rowJobs rowGrowth readRows leastCommonMultiple firstMultiple reading.spelt spelling.groupsOf flatten dueTime
-examples-hold = (
-  feasible-by-look _ 1 refl refl refl refl,
-  (
-    feasible-by-look _ 2 refl refl refl refl,
-    (
-      feasible-by-look _ 12 refl refl refl refl,
-      (
-        refl,
-        (
-          overloaded-by-look _ 12 refl refl 10 12 refl refl refl,
-          (
-            feasible-by-look _ 6 refl refl refl refl,
-            (
-              overloaded-by-look _ 6 refl refl 4 6 refl refl refl,
-              (
-                overloaded-by-look _ 1 refl refl 0 2 refl refl refl,
-                (
-                  overloaded-by-look _ 2 refl refl 25 27 refl refl refl,
-                  (
-                    due-by-rule 1 2 6 _ _ refl refl refl refl refl,
-                    (
-                      due-by-rule 3 6 6 _ _ refl refl refl refl refl,
-                      (
-                        due-by-rule 1 2 6 _ _ refl refl refl refl refl,
-                        tt,
-                      ),
-                    ),
-                  ),
-                ),
-              ),
-            ),
-          ),
-        ),
-      ),
-    ),
-  ),
-)
+examples-hold =
+    then (feasible-by-look v1 1 refl refl refl refl)
+    (then (feasible-by-look v2 2 refl refl refl refl)
+    (then (feasible-by-look v3 12 refl refl refl refl)
+    (then refl
+    (then (overloaded-by-look v4 12 refl refl 10 12 refl refl refl)
+    (then (feasible-by-look v5 6 refl refl refl refl)
+    (then (overloaded-by-look v6 6 refl refl 4 6 refl refl refl)
+    (then (overloaded-by-look v7 1 refl refl 0 2 refl refl refl)
+    (then (overloaded-by-look v8 2 refl refl 25 27 refl refl refl)
+    (then (due-by-rule 1 2 6 (0 ∷ 0 ∷ 0 ∷ 3 ∷ 3 ∷ 6 ∷ []) _ refl refl refl refl refl)
+    (then (due-by-rule 3 6 6 (0 ∷ 0 ∷ 0 ∷ 3 ∷ 3 ∷ 6 ∷ []) _ refl refl refl refl refl)
+    (then (due-by-rule 1 2 6 (0 ∷ 20 ∷ []) _ refl refl refl refl refl)
+    tt)))))))))))

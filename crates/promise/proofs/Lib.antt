@@ -1,3 +1,5 @@
 pub mod Bridge
 pub mod Spelling
 pub mod Examples
+pub mod NoOrder
+pub mod Paper

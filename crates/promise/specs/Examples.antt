@@ -40,20 +40,42 @@ row x y d c = record { x = x; y = y; d = d; c = c }
 abbrev overloaded : (length units : ℕ) → Verdict
 overloaded length units = Overloaded (record { length = length; demand = units })
 
+-- V1 and V2 by their bytes, and the other tables by their rows.
+abbrev pub v1 : List ℕ
+v1 = 0x00 ∷ []
+
+abbrev pub v2 : List ℕ
+v2 = 0x01 ∷ 0x01 ∷ 0x02 ∷ 0x06 ∷ 0x01 ∷ []
+
+abbrev pub v3 : List ℕ
+v3 = spelledTable (row 1 4 4 2 ∷ row 1 6 6 3 ∷ [])
+
+abbrev pub v4 : List ℕ
+v4 = spelledTable (row 1 4 3 2 ∷ row 1 6 5 3 ∷ [])
+
+abbrev pub v5 : List ℕ
+v5 = spelledTable (row 3 6 6 2 ∷ [])
+
+abbrev pub v6 : List ℕ
+v6 = spelledTable (row 3 6 5 2 ∷ [])
+
+abbrev pub v7 : List ℕ
+v7 = spelledTable (row 2 1 1 1 ∷ [])
+
+abbrev pub v8 : List ℕ
+v8 = spelledTable (row 1 2 10 3 ∷ [])
+
 abbrev pub examples : List Example
 examples =
-    -- V1 and V2, by their bytes
-    verdict (0x00 ∷ []) Feasible
-    ∷ verdict (0x01 ∷ 0x01 ∷ 0x02 ∷ 0x06 ∷ 0x01 ∷ []) Feasible
-    -- V3, and its demand
-    ∷ verdict (spelledTable (row 1 4 4 2 ∷ row 1 6 6 3 ∷ [])) Feasible
-    ∷ demand (spelledTable (row 1 4 4 2 ∷ row 1 6 6 3 ∷ [])) 12 12
-    -- V4 to V8
-    ∷ verdict (spelledTable (row 1 4 3 2 ∷ row 1 6 5 3 ∷ [])) (overloaded 11 12)
-    ∷ verdict (spelledTable (row 3 6 6 2 ∷ [])) Feasible
-    ∷ verdict (spelledTable (row 3 6 5 2 ∷ [])) (overloaded 5 6)
-    ∷ verdict (spelledTable (row 2 1 1 1 ∷ [])) (overloaded 1 2)
-    ∷ verdict (spelledTable (row 1 2 10 3 ∷ [])) (overloaded 26 27)
+    verdict v1 Feasible
+    ∷ verdict v2 Feasible
+    ∷ verdict v3 Feasible
+    ∷ demand v3 12 12
+    ∷ verdict v4 (overloaded 11 12)
+    ∷ verdict v5 Feasible
+    ∷ verdict v6 (overloaded 5 6)
+    ∷ verdict v7 (overloaded 1 2)
+    ∷ verdict v8 (overloaded 26 27)
     -- D1 to D3
     ∷ due-times 1 2 6 (0 ∷ 0 ∷ 0 ∷ 3 ∷ 3 ∷ 6 ∷ []) (6 ∷ 8 ∷ 10 ∷ 12 ∷ 14 ∷ 16 ∷ [])
     ∷ due-times 3 6 6 (0 ∷ 0 ∷ 0 ∷ 3 ∷ 3 ∷ 6 ∷ []) (6 ∷ 6 ∷ 6 ∷ 12 ∷ 12 ∷ 12 ∷ [])

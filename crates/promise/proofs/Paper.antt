@@ -1,0 +1,48 @@
+-- The verdict is the paper's Theorem 4.2: the table's demand is the sum of the expressions of Lemma 4.1.
+use Prim.Native.Nat.{ℕ, _+_, _≤_, _<_}
+use mathlib.Core.Path.{_≡_, refl, sym, ap, ap₂, _∙_}
+use mathlib.Core.Logic.{_↔_}
+use mathlib.Core.List.{List, [], _∷_}
+use native.Mathlib.Omega.{arith}
+use Rattle.theory.specs.Lists.{All, total}
+use Rattle.theory.specs.Curves.{EveryLengthFits}
+use Rattle.theory.specs.Paper.{paperDemand}
+use Rattle.theory.proofs.Paper.{demand-is-lemma41}
+use Rattle.theory.proofs.Curves.{none-where-every-length-fits}
+use Rattle.table.specs.declared.Row.{Row}
+use Rattle.table.specs.declared.Table.{Table}
+use Rattle.table.specs.declared.TableAnswer.the-variants as answer
+use Rattle.table.specs.Tables.{rowsOf, tableRead}
+use Rattle.table.specs.Laws.{WithinLimits}
+use Rattle.verdict.specs.declared.Verdict.{Verdict}
+use Rattle.verdict.specs.declared.Verdict.the-variants as verdict
+use Rattle.verdict.specs.Demand.{rowDemandOf, tableDemand}
+use Rattle.verdict.specs.Verdict.{RightOf, RightOfRead, verdictSays}
+use Rattle.verdict.proofs.Accepted.{Known, accepted-is-known}
+use Rattle.verdict.proofs.Rows.{rows-within}
+use Rattle.promise.specs.Paper.{Theorem42, FeasibleIsTheorem42}
+
+-- The rows' demand is the sum of the paper's expressions.
+demand-is-the-papers : (rows : List Row) (L : ℕ) → All WithinLimits rows
+    → total (λ r. rowDemandOf r L) rows ≡ total (λ (r : Row). paperDemand (r .x) (r .y) (r .d) (r .c) L) rows
+unfolding total
+demand-is-the-papers [] L within = refl
+demand-is-the-papers (r ∷ rows) L within =
+    ap₂ _+_ (demand-is-lemma41 (r .x) (r .y) (r .d) (r .c) L (within .0 .some-y)) (demand-is-the-papers rows L (within .1))
+
+-- Of a right verdict of a table: it says feasible exactly when every length fits.
+feasible-means : (t : Table) (v : Verdict) → RightOf t v → (verdictSays v .number ≡ 20) ↔ EveryLengthFits (tableDemand t)
+feasible-means t verdict.Feasible right = (λ _. right, λ _. refl)
+feasible-means t (verdict.Overloaded w) right =
+    (λ said. absurd (omega arith), λ fits. absurd (none-where-every-length-fits (tableDemand t) (w .length) fits (right .0)))
+feasible-means t (verdict.Refused r) right = absurd right
+
+pub feasible-is-theorem42 : FeasibleIsTheorem42
+unfolding tableDemand
+feasible-is-theorem42 bytes b h accepted v judged =
+    let t = tableRead bytes .table in
+    let within : All WithinLimits (rowsOf t) = rows-within (accepted-is-known bytes h b accepted .in-range) (t .count) (omega arith) in
+    let means = feasible-means t v (rw accepted at judged) in (
+      (λ said L some. rw (← demand-is-the-papers (rowsOf t) L within) (means .0 said L some)),
+      (λ fits. means .1 (λ L some. rw (demand-is-the-papers (rowsOf t) L within) (fits L some))),
+    )
