@@ -46,7 +46,7 @@ abbrev allBytes : List ℕ → Bool
 allBytes [] = true
 allBytes (b ∷ s) = ltb b 256 && allBytes s
 
-are-bytes : (s : List ℕ) → allBytes s ≡ true → Bytes s
+pub are-bytes : (s : List ℕ) → allBytes s ≡ true → Bytes s
 are-bytes [] h i = omega arith
 are-bytes (b ∷ s) h zero = ltb-true b 256 (both-true (ltb b 256) (allBytes s) h .0)
 are-bytes (b ∷ s) h (suc i) = are-bytes s (both-true (ltb b 256) (allBytes s) h .1) i
@@ -155,3 +155,10 @@ examples-hold =
     (then (due-by-rule 3 6 6 (0 ∷ 0 ∷ 0 ∷ 3 ∷ 3 ∷ 6 ∷ []) _ refl refl refl refl refl)
     (then (due-by-rule 1 2 6 (0 ∷ 20 ∷ []) _ refl refl refl refl refl)
     tt)))))))))))
+
+-- Two of them by themselves.
+pub v3-is-feasible : Judged v3 verdict.Feasible
+v3-is-feasible = examples-hold .1 .1 .0
+
+pub v4-is-overloaded : Judged v4 (verdict.Overloaded (record { length = 11; demand = 12 }))
+v4-is-overloaded = examples-hold .1 .1 .1 .1 .0

@@ -6,3 +6,4 @@ pub mod NoOrder
 pub mod Paper
 pub mod Examples
 pub mod Spelling
+pub mod Instances
