@@ -184,7 +184,8 @@ module _ {M : Type 1} (𝓤 : URA M) (H : Heap 𝓤) (A : Atoms 𝓤) (W : Given
   told : (v : Val) → ent 𝓤 (Core 𝓤 H A at-mem runs .post to-core v) (Gives 𝓤 H A S.the-row step v)
   told v =
       qed W (later (some (λ (s : ReleaseStep). (‵ ftrue ⊛ ‵ (S.the-row .own s (v ∷ []))) ⊛ raw (Ensured s))) ∷ []) ∵
-      updating ! $ await ! tt $ at-once ! $ pick ! (λ s. split ! $ move ! (1 ∷ []) $ use1 W (raw (fact 𝓤 (s ≡ step))) (said s) $ move ! (1 ∷ []) $ split ! $ drop ! $
+      updating ! $ await ! tt $ at-once ! $ pick ! (λ s. split ! $
+      move ! (1 ∷ []) $ use1 W (raw (fact 𝓤 (s ≡ step))) (said s) $ move ! (1 ∷ []) $ split ! $ drop ! $
       show ! (λ (z : ReleaseStep). sep 𝓤 (sem 𝓤 H A (S.the-row .own z (v ∷ []))) (fact 𝓤 (z ≡ step))) s $ done !)
 
   exits : (s : ReleaseStep) (v : Val) → s ≡ step → Is S.the-row s (v ∷ []) → ent 𝓤 (⋆ 𝓤 H A (held 𝓤 H A T.the-row κ q b o γ (s .run))) (Post (answer-val s))

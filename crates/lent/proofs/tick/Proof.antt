@@ -169,7 +169,8 @@ module _ {M : Type 1} (𝓤 : URA M) (H : Heap 𝓤) (A : Atoms 𝓤) (W : Given
   told : (v : Val) → ent 𝓤 (Core 𝓤 H A at-mem runs .post to-core v) (Gives 𝓤 H A S.the-row (ticked h) v)
   told v =
       qed W (later (some (λ (s : TickStep). (‵ ftrue ⊛ ‵ (S.the-row .own s (v ∷ []))) ⊛ raw (Ensured s))) ∷ []) ∵
-      updating ! $ await ! tt $ at-once ! $ pick ! (λ s. split ! $ move ! (1 ∷ []) $ use1 W (raw (fact 𝓤 (s ≡ ticked h))) (said s) $ move ! (1 ∷ []) $ split ! $ drop ! $
+      updating ! $ await ! tt $ at-once ! $ pick ! (λ s. split ! $
+      move ! (1 ∷ []) $ use1 W (raw (fact 𝓤 (s ≡ ticked h))) (said s) $ move ! (1 ∷ []) $ split ! $ drop ! $
       show ! (λ (z : TickStep). sep 𝓤 (sem 𝓤 H A (S.the-row .own z (v ∷ []))) (fact 𝓤 (z ≡ ticked h))) s $ done !)
 
   exits : (s : TickStep) (v : Val) → s ≡ ticked h → Is S.the-row s (v ∷ []) → ent 𝓤 (⋆ 𝓤 H A (held 𝓤 H A T.the-row κ q b o γ (s .run))) (Post (answer-val s))
