@@ -1,2 +1,4 @@
 pub mod Bridge
 pub mod Units
+pub mod Ticks
+pub mod Share
