@@ -2,3 +2,4 @@ pub mod Bridge
 pub mod Units
 pub mod Ticks
 pub mod Share
+pub mod InTime

@@ -1,8 +1,8 @@
 -- Share is proved: the accepted jobs of each row come by the rule of due times, so that in any window they cost no more than the row's demand, whatever the other rows
 -- release; and no job is ever given more units than its cost. (docs/RULES.md, section 5.)
 use Prim.Native.Nat.{ℕ, _-_, _≤_, _<_}
-use mathlib.Core.Path.{_≡_}
-use mathlib.Core.List.{List, [], _∷_}
+use mathlib.Core.Path.{_≡_, refl}
+use mathlib.Core.List.{List, [], _∷_, List·Memᴰ, List·Memᴰ·head, List·Memᴰ·tail}
 use native.Mathlib.Nat.{le-trans}
 use native.Mathlib.Omega.{arith}
 use Rattle.numbers.specs.Laws.{Bytes}
@@ -34,6 +34,14 @@ all-own P i [] h = tt
 all-own P i (j ∷ js) h = by-eq (j .source) i
     (λ e. rw (own-of-it i j js e) (h .0, all-own P i js (h .1)))
     (λ e. rw (own-of-another i j js e) (all-own P i js (h .1)))
+
+-- A job is one of its own source's.
+pub own-member : (j : Job) {js : List Job} → List·Memᴰ j js → List·Memᴰ j (own (j .source) js)
+unfolding own
+own-member j (List·Memᴰ·head {xs = js} e) = rw (← e, own-of-it (j .source) j js refl) (List·Memᴰ·head refl)
+own-member j (List·Memᴰ·tail {x = i} {xs = js} m) = by-eq (i .source) (j .source)
+    (λ e. rw (own-of-it (j .source) i js e) (List·Memᴰ·tail (own-member j m)))
+    (λ e. rw (own-of-another (j .source) i js e) (own-member j m))
 
 module _ {t : Table} {run : Run} {es : List Event} (b : Bridge t run es) where
   -- In every window the accepted jobs of a row in use cost at most its demand.
