@@ -3,3 +3,5 @@ pub mod Units
 pub mod Ticks
 pub mod Share
 pub mod InTime
+pub mod Recurrence
+pub mod Refusals
