@@ -5,3 +5,4 @@ pub mod Share
 pub mod InTime
 pub mod Recurrence
 pub mod Refusals
+pub mod Choice
