@@ -1,5 +1,6 @@
--- Choice is proved. The run's choice is among its pending jobs, and these are the unfinished accepted ones; so what the choice says of the pending jobs it says of the
--- trace. The late count is over the jobs that are pending after the tick, and these are the ones that are unfinished then. (docs/RULES.md, sections 6.10 to 6.16.)
+-- Choice is proved. The run's choice is among its pending jobs, and these are the unfinished accepted ones; so what the choice says of the pending jobs it
+-- says of the trace. The late count is over the jobs that are pending after the tick, and these are the ones that are unfinished then. (docs/RULES.md,
+-- sections 6.10 to 6.16.)
 use Prim.Native.Nat.{ℕ, suc, _+_, _≤_, _<_}
 use mathlib.Core.Path.{_≡_, refl, sym, ap, subst, _∙_}
 use mathlib.Core.Logic.{_↔_}
@@ -11,7 +12,7 @@ use lib.ListN.{length, getD, take}
 use borrow.Author.Tests.{le-leb, lt-leb, lt-ltb, ne-eqb}
 use Rattle.kinds.specs.Numbering.{maxTime}
 use Rattle.numbers.specs.Laws.{Bytes}
-use Rattle.theory.specs.Lists.{All, total, weightIf}
+use Rattle.theory.specs.Lists.{total, weightIf}
 use Rattle.theory.specs.Jobs.{Job}
 use Rattle.theory.proofs.Cases.{by-lt, by-test}
 use Rattle.theory.proofs.Lists.{all-of, all-of-members, none-passes}
@@ -29,7 +30,7 @@ use Rattle.jobs.proofs.Laws.{choice-is-first, job-among-the-rest, place-holds-j
 use Rattle.run.specs.declared.Run.{Run}
 use Rattle.run.specs.Ticking.{ticked}
 use Rattle.run.proofs.Ticking.{counted}
-use Rattle.promise.specs.Answers.{TickSays, idle, ran, hasFinished, tickSays}
+use Rattle.promise.specs.Answers.{idle, ran, hasFinished, tickSays}
 use Rattle.promise.specs.Traces.{Call, Event, eventOf, runAt, trace, clockOf, jobsIn, unitsOf, unfinished}
 use Rattle.promise.specs.Choice.{IdleWhenAllHaveTheirCost, GoesFirst, RanFirst, EarliestDueFirst, lateAt, LateCountIsTheLate}
 use Rattle.promise.proofs.Bridge.{Bridge}
@@ -109,7 +110,8 @@ module _ {t : Table} {run : Run} {es : List Event} (b : Bridge t run es) where
           subst (λ (j : Job). first .due .0 ≤ j .due) (found .its-own) (after-none (found .place) (found .pending) .due);
       lowest = λ i m h.
           let found = unfinished-is-pending b i m h in
-          subst (λ (j : Job). j .due ≡ first .due .0 → first .serial .0 ≤ j .name) (found .its-own) (λ e. after-none (found .place) (found .pending) .serial (sym e));
+          subst (λ (j : Job). j .due ≡ first .due .0 → first .serial .0 ≤ j .name) (found .its-own)
+          (λ e. after-none (found .place) (found .pending) .serial (sym e));
     }
 
     -- It finishes exactly where this unit makes up its cost.

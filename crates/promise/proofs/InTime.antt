@@ -1,17 +1,17 @@
--- In time is proved. On a feasible table every length fits; the accepted jobs ask in no window for more than the table's demand, row by row; and the ticks so far are a
--- trace of the theory in which earliest due goes first and nothing idles in vain. So the theory's theorem applies. (docs/RULES.md, sections 5 and 6.)
+-- In time is proved. On a feasible table every length fits; the accepted jobs ask in no window for more than the table's demand, row by row; and the ticks so
+-- far are a trace of the theory in which earliest due goes first and nothing idles in vain. So the theory's theorem applies. (docs/RULES.md, sections 5 and
+-- 6.)
 use Prim.Native.Nat.{ℕ, suc, _+_, _≤_, _<_, min}
-use mathlib.Core.Path.{_≡_, refl, ap}
+use mathlib.Core.Path.{_≡_, refl}
 use mathlib.Core.Logic.{⊎-elim}
-use mathlib.Core.Option.{Option}
 use mathlib.Core.List.{List, [], _∷_, List·Memᴰ, List·Memᴰ·not-nil}
 use native.Mathlib.Omega.{arith}
-use lib.ListN.{length, getD}
+use lib.ListN.{length}
 use lib.Seq.{length-take-le, getD-take}
 use Rattle.kinds.specs.Numbering.{maxTime}
 use Rattle.kinds.proofs.Numbering.{never-an-answer}
 use Rattle.numbers.specs.Laws.{Bytes}
-use Rattle.theory.specs.Lists.{All, total}
+use Rattle.theory.specs.Lists.{All}
 use Rattle.theory.specs.Curves.{EveryLengthFits}
 use Rattle.theory.specs.Jobs.{Job, BoundedBy}
 use Rattle.theory.specs.Sources.{own}
@@ -76,8 +76,10 @@ module _ {t : Table} {run : Run} {es : List Event} (b : Bridge t run es) where
   -- .. which is nothing in no time.
   no-demand-at-zero : tableDemand t 0 ≡ 0
   unfolding tableDemand
-  no-demand-at-zero = total-zero (λ r. rowDemandOf r 0) (rowsOf t)
-      (all-imply (λ r limits. no-demand-below-d (r .x) (r .y) (r .d) (r .c) 0 (limits .some-d)) (rowsOf t) (rows-within (b .table-in-range) (t .count) (omega arith)))
+  no-demand-at-zero =
+      let limits = rows-within (b .table-in-range) (t .count) (omega arith) in
+      total-zero (λ r. rowDemandOf r 0) (rowsOf t)
+      (all-imply (λ r within. no-demand-below-d (r .x) (r .y) (r .d) (r .c) 0 (within .some-d)) (rowsOf t) limits)
 
   -- ---- in time
 

@@ -1,10 +1,10 @@
--- Refused exactly when. Each test of a release and of a tick looks at the run, and each asks of it what the trace says too: the table is the one that was started on,
--- as many jobs are pending as are unfinished, the next serial is the number of accepted jobs, and the due time over what is kept is the paper's over all accepted jobs
--- of the row. (docs/RULES.md, sections 6 and 10.)
+-- Refused exactly when. Each test of a release and of a tick looks at the run, and each asks of it what the trace says too: the table is the one that was
+-- started on, as many jobs are pending as are unfinished, the next serial is the number of accepted jobs, and the due time over what is kept is the paper's
+-- over all accepted jobs of the row. (docs/RULES.md, sections 6 and 10.)
 use Prim.Native.Nat.{ℕ, _≤_, _<_}
 use mathlib.Core.Path.{_≡_, refl, ap, _∙_}
 use mathlib.Core.Logic.{_↔_}
-use mathlib.Core.Bool.{Bool, true, false, cond}
+use mathlib.Core.Bool.{true, cond}
 use mathlib.Core.List.{List, [], _∷_}
 use native.Mathlib.Omega.{arith}
 use lib.Dec.{leb, ltb}
@@ -22,10 +22,9 @@ use Rattle.table.specs.Tables.{tableRead}
 use Rattle.table.proofs.Ranges.{in-range-of}
 use Rattle.due.specs.Kept.{earlier, dueOf}
 use Rattle.due.proofs.Laws.{due-is-the-papers}
-use Rattle.jobs.specs.declared.Job.{Job as PendingJob}
-use Rattle.jobs.specs.Places.{maxPlaces, jobsOf, used}
+use Rattle.jobs.specs.Places.{maxPlaces, jobsOf}
 use Rattle.run.specs.declared.Run.{Run}
-use Rattle.run.specs.Runs.{rowInUse, rowAt, costLimit, keptOf}
+use Rattle.run.specs.Runs.{rowAt, costLimit, keptOf}
 use Rattle.run.specs.Sound.{fromOneTo, soundOf}
 use Rattle.run.specs.Release.{released}
 use Rattle.run.specs.Ticking.{ticked}

@@ -1,12 +1,12 @@
--- Share is proved: the accepted jobs of each row come by the rule of due times, so that in any window they cost no more than the row's demand, whatever the other rows
--- release; and no job is ever given more units than its cost. (docs/RULES.md, section 5.)
-use Prim.Native.Nat.{ℕ, _-_, _≤_, _<_}
-use mathlib.Core.Path.{_≡_, refl}
+-- Share is proved: the accepted jobs of each row come by the rule of due times, so that in any window they cost no more than the row's demand, whatever the
+-- other rows release; and no job is ever given more units than its cost. (docs/RULES.md, section 5.)
+use Prim.Native.Nat.{ℕ, _≤_, _<_}
+use mathlib.Core.Path.{refl}
 use mathlib.Core.List.{List, [], _∷_, List·Memᴰ, List·Memᴰ·head, List·Memᴰ·tail}
 use native.Mathlib.Nat.{le-trans}
 use native.Mathlib.Omega.{arith}
 use Rattle.numbers.specs.Laws.{Bytes}
-use Rattle.theory.specs.Lists.{All, total, weightIf}
+use Rattle.theory.specs.Lists.{All, weightIf}
 use Rattle.theory.specs.Jobs.{Job, within, weighed, BoundedBy}
 use Rattle.theory.specs.Sources.{own}
 use Rattle.theory.proofs.Cases.{by-eq, by-test}

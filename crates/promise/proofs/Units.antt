@@ -1,17 +1,15 @@
--- Units. What the answers of the ticks tell of a job's units is what the theory counts; and an accepted job that has had fewer units than its cost is a pending one,
--- and conversely. So a sum over the unfinished accepted jobs is the same sum over the pending ones. (docs/RULES.md, sections 1.7, 6.1 and 6.26.)
-use Prim.Native.Nat.{ℕ, _+_, _≤_, _<_}
+-- Units. What the answers of the ticks tell of a job's units is what the theory counts; and an accepted job that has had fewer units than its cost is a
+-- pending one, and conversely. So a sum over the unfinished accepted jobs is the same sum over the pending ones. (docs/RULES.md, sections 1.7, 6.1 and 6.26.)
+use Prim.Native.Nat.{ℕ, _+_, _≤_}
 use mathlib.Core.Path.{_≡_, refl, sym, ap, subst, _∙_}
 use mathlib.Core.Logic.{_≢_}
 use mathlib.Core.Bool.{Bool, true, false, not}
 use mathlib.Core.List.{List, [], _∷_, List·Memᴰ, List·Memᴰ·not-nil, Memᴰ·map, Memᴰ·of-map}
 use native.Mathlib.Omega.{arith}
-use native.Mathlib.Nat.{zero-add}
 use lib.Dec.{eqb}
-use lib.ListN.{length}
 use borrow.Author.Tests.{ltb-true, ltb-false, lt-ltb, eq-eqb, ne-eqb, eqb-false, not-true}
 use Rattle.theory.specs.Lists.{All, total, weightIf}
-use Rattle.theory.specs.Jobs.{Job, DistinctNames, named, weighed}
+use Rattle.theory.specs.Jobs.{Job, named, weighed}
 use Rattle.theory.specs.Trace.{Waiting, units, Accounted, Fate, waits, over, served, ended}
 use Rattle.theory.proofs.Cases.{by-eq, by-test}
 use Rattle.theory.proofs.Lists.{all-of, all-of-members, all-at, total-plus, total-zero, weight-if, weight-unless, none-passes, the-only-one}
@@ -20,7 +18,7 @@ use Rattle.theory.proofs.Trace.{every-job-has-its-fate, waiting-are-accounted, 
 use Rattle.table.specs.declared.Table.{Table}
 use Rattle.table.proofs.Ranges.{both-true}
 use Rattle.jobs.specs.declared.Job.{Job as PendingJob}
-use Rattle.jobs.specs.Places.{jobsOf, used}
+use Rattle.jobs.specs.Places.{jobsOf}
 use Rattle.jobs.specs.Serials.{hasNot, distinctSerials}
 use Rattle.jobs.proofs.Laws.{distinct-means}
 use Rattle.run.specs.declared.Run.{Run}
