@@ -1,1 +1,4 @@
 pub mod Bridge
+pub mod Waiting
+pub mod Histories
+pub mod Bridged
