@@ -1,8 +1,11 @@
 pub mod Bridge
+pub mod Waiting
+pub mod Histories
+pub mod Bridged
 pub mod Units
 pub mod Ticks
 pub mod Share
 pub mod InTime
-pub mod Recurrence
-pub mod Refusals
 pub mod Choice
+pub mod Refusals
+pub mod Recurrence

@@ -1,0 +1,144 @@
+-- What waits: the pending jobs in the theory's terms, and the theory's trace one event longer. A job that is put in comes last; one that gets a unit leaves its
+-- place, or goes back to it with one unit less to get. (docs/RULES.md, sections 6.7 and 6.10 to 6.13.)
+use Prim.Native.Nat.{ℕ, zero, suc, _-_, _≤_, _<_, suc-le-suc}
+use mathlib.Core.Path.{_≡_, refl}
+use mathlib.Core.Bool.{Bool}
+use mathlib.Core.List.{List, [], _∷_, _++_, map, map-append}
+use native.Mathlib.Nat.{not-suc-le-zero, le-of-suc-le-suc}
+use native.Mathlib.Omega.{arith}
+use native.Mathlib.Decide.{decLe}
+use lib.ListN.{length, set, getD}
+use borrow.Author.Tests.{le-leb, lt-leb}
+use Rattle.theory.specs.Lists.{All, Insert, here, there}
+use Rattle.theory.specs.Jobs.{Job}
+use Rattle.theory.specs.Trace.{Waiting, Onward, done, on, accept, serve, EarliestDueFirst, NeverIdlesInVain}
+use Rattle.theory.specs.Trace as theory
+use Rattle.jobs.specs.declared.Job.{Job as PendingJob}
+use Rattle.jobs.specs.declared.Pending.{Pending}
+use Rattle.jobs.specs.Places.{noJob, jobsOf, without}
+use Rattle.jobs.specs.Units.{worked}
+use Rattle.jobs.specs.Laws.{IsFirst, unitAt}
+use Rattle.run.specs.declared.Run.{Run}
+use Rattle.run.specs.Ticking.{runWith}
+use Rattle.promise.specs.Answers.{accepted, idle, ran}
+use Rattle.promise.specs.Answers as says
+use Rattle.promise.specs.Traces.{Event, clockOf, jobsIn}
+use Rattle.promise.proofs.Bridge.{waitingOf, waitingIn, ticksOf, Follows}
+
+-- ---- an element and its place
+
+module _ {A : Type 0} where
+  -- What comes last is put in.
+  insert-last : (a : A) (l : List A) → Insert a l (l ++ (a ∷ []))
+  insert-last a [] = here
+  insert-last a (b ∷ l) = there (insert-last a l)
+
+  -- What stands at a place was put in there, ..
+  insert-at : (d : A) (l : List A) (i : ℕ) → i < length l → Insert (getD l i d) (without l i) l
+  insert-at d [] i h = absurd (not-suc-le-zero h)
+  insert-at d (a ∷ l) zero h = here
+  insert-at d (a ∷ l) (suc i) h = there (insert-at d l i (le-of-suc-le-suc h))
+
+  -- .. and so is what takes its place.
+  insert-set : (a : A) (l : List A) (i : ℕ) → i < length l → Insert a (without l i) (set l i a)
+  insert-set a [] i h = absurd (not-suc-le-zero h)
+  insert-set a (b ∷ l) zero h = here
+  insert-set a (b ∷ l) (suc i) h = there (insert-set a l i (le-of-suc-le-suc h))
+
+  -- What holds at every place holds of every element.
+  all-of-places : (P : A → Type 0) (d : A) (l : List A) → ((i : ℕ) → i < length l → P (getD l i d)) → All P l
+  all-of-places P d [] f = tt
+  all-of-places P d (a ∷ l) f = (f 0 (omega arith), all-of-places P d l (λ i h. f (suc i) (suc-le-suc h)))
+
+module _ {A B : Type 0} (f : A → B) where
+  -- An element that is put in is so in other terms.
+  insert-map : {a : A} {l m : List A} → Insert a l m → Insert (f a) (map f l) (map f m)
+  insert-map here = here
+  insert-map (there i) = there (insert-map i)
+
+  -- What every element has in other terms, every element in these terms has.
+  all-map : (P : B → Type 0) (l : List A) → All (λ a. P (f a)) l → All P (map f l)
+  all-map P [] h = tt
+  all-map P (a ∷ l) h = (h .0, all-map P l (h .1))
+
+-- ---- what waits
+
+-- A pending job that is put in comes last among what waits.
+waits-last : (js : List PendingJob) (j : PendingJob) → Insert (waitingOf j) (map waitingOf js) (map waitingOf (js ++ (j ∷ [])))
+waits-last js j = rw map-append (insert-last (waitingOf j) (map waitingOf js))
+
+-- A job that has units left after it got one waits on.
+waits-on : {j : Job} {rest after : List Waiting} (left : ℕ) → 1 ≤ left → Insert (record { job = j; left = left }) rest after → Onward j left rest after
+waits-on zero h put = absurd (not-suc-le-zero h)
+waits-on (suc left) h put = on put
+
+-- The job at a place gets a unit.
+module _ (js : List PendingJob) (at : ℕ) where
+  -- The job, and what it has left after that.
+  abbrev its : PendingJob
+  its = getD js at noJob
+
+  abbrev left : ℕ
+  left = its .left - 1
+
+  module _ (inside : at < length js) (some-left : 1 ≤ its .left) where
+    -- It waited, beside the rest, ..
+    waited : Insert (record { job = waitingOf its .job; left = suc left }) (map waitingOf (without js at)) (map waitingOf js)
+    waited = let q : suc left ≡ its .left = omega arith in rw q (insert-map waitingOf (insert-at noJob js at inside))
+
+    -- .. and is gone after its last unit, and else waits on.
+    onward : Onward (waitingOf its .job) left (map waitingOf (without js at)) (map waitingOf (unitAt js at))
+    onward = elim (decLe (its .left) 1) [
+      | yes l ↦ let q : left ≡ 0 = omega arith in rw (le-leb (its .left) 1 l, q) done
+      | no l ↦
+          rw (lt-leb (its .left) 1 (omega arith)) (waits-on left (omega arith) (insert-map waitingOf (insert-set (worked its) js at inside)))
+    ]
+
+  -- Where it comes after none of the others, it is due no later than any that waited.
+  due-first : IsFirst js at → All (λ w. its .due .0 ≤ w .job .due) (map waitingOf js)
+  due-first first =
+      all-map waitingOf (λ w. its .due .0 ≤ w .job .due) js (all-of-places (λ j. its .due .0 ≤ j .due .0) noJob js (λ i h. first .first i h .due))
+
+-- ---- the theory's trace, one event longer
+
+module _ {run : Run} {es : List Event} (f : Follows run es) where
+  -- A refused release is no event of it ..
+  pub follows-refused-release : (row cost number : ℕ) → Follows run (Event.release row cost (says.ReleaseSays.refused number) ∷ es)
+  unfolding clockOf jobsIn ticksOf
+  follows-refused-release row cost number = record { events = f .events; earliest-due = f .earliest-due; never-idle = f .never-idle }
+
+  -- .. and neither is a refused tick.
+  pub follows-refused-tick : (number late : ℕ) → Follows run (Event.tick (says.TickSays.refused number) late ∷ es)
+  unfolding clockOf jobsIn ticksOf
+  follows-refused-tick number late = record { events = f .events; earliest-due = f .earliest-due; never-idle = f .never-idle }
+
+  -- A job is accepted, at the end of what is pending: released now, with all of its cost left.
+  pub follows-accepted : (next : Run) (row cost serial due : ℕ) (j : PendingJob) → 1 ≤ cost
+      → waitingOf j ≡ record { job = record { name = serial; source = row; release = clockOf es; due = due; cost = cost }; left = cost }
+      → jobsOf (next .pending) ≡ jobsOf (run .pending) ++ (j ∷ []) → Follows next (Event.release row cost (accepted serial due) ∷ es)
+  unfolding clockOf jobsIn ticksOf EarliestDueFirst NeverIdlesInVain
+  follows-accepted next row cost serial due j some-cost its jobs =
+      let job : Job = record { name = serial; source = row; release = clockOf es; due = due; cost = cost } in
+      let put : Insert (record { job = job; left = cost }) (waitingIn run) (waitingIn next) = rw (jobs, ← its) (waits-last (jobsOf (run .pending)) j) in
+      record { events = accept (f .events) job refl some-cost put; earliest-due = f .earliest-due; never-idle = f .never-idle }
+
+  module _ (clock late : ℕ) where
+    -- A tick idles: nothing waits.
+    pub follows-idle : waitingIn run ≡ [] → Follows (runWith run clock (run .pending)) (Event.tick idle late ∷ es)
+    unfolding clockOf jobsIn ticksOf EarliestDueFirst NeverIdlesInVain
+    follows-idle none = record { events = theory.Trace.idle (f .events) refl; earliest-due = f .earliest-due; never-idle = (none, f .never-idle) }
+
+    -- A job has the tick: the one at a place that comes after none of the others.
+    pub follows-ran : (p : Pending) (at : ℕ) (finished : Bool) → IsFirst (jobsOf (run .pending)) at → 1 ≤ getD (jobsOf (run .pending)) at noJob .left
+        → jobsOf p ≡ unitAt (jobsOf (run .pending)) at
+        → Follows (runWith run clock p) (Event.tick (ran (getD (jobsOf (run .pending)) at noJob .serial .0) finished) late ∷ es)
+    unfolding clockOf jobsIn ticksOf EarliestDueFirst NeverIdlesInVain
+    follows-ran p at finished first some-left jobs =
+        let js = jobsOf (run .pending) in
+        let goes : Onward (waitingOf (its js at) .job) (left js at) (map waitingOf (without js at)) (map waitingOf (jobsOf p)) =
+        rw jobs (onward js at (first .inside) some-left) in
+        record {
+          events = serve (f .events) refl (waitingOf (its js at) .job) (left js at) (waited js at (first .inside) some-left) goes;
+          earliest-due = (due-first js at first, f .earliest-due);
+          never-idle = f .never-idle;
+        }
