@@ -1,6 +1,6 @@
--- Choice is proved. The run's choice is among its pending jobs, and these are the unfinished accepted ones; so what the choice says of the pending jobs it
--- says of the trace. The late count is over the jobs that are pending after the tick, and these are the ones that are unfinished then. (docs/RULES.md,
--- sections 6.10 to 6.16.)
+-- Choice is proved. The run chooses among its pending jobs, and these are the unfinished accepted ones; so what the choice says of the pending jobs it says of
+-- the trace. The late count is over the jobs that are pending after the tick, and these are the ones that are unfinished then.
+-- (docs/RULES.md, sections 6.10 to 6.16.)
 use Prim.Native.Nat.{ℕ, suc, _+_, _≤_, _<_}
 use mathlib.Core.Path.{_≡_, refl, sym, ap, subst, _∙_}
 use mathlib.Core.Logic.{_↔_}
@@ -11,13 +11,11 @@ use lib.Dec.{eqb}
 use lib.ListN.{length, getD, take}
 use borrow.Author.Tests.{le-leb, lt-leb, lt-ltb, ne-eqb}
 use Rattle.kinds.specs.Numbering.{maxTime}
-use Rattle.numbers.specs.Laws.{Bytes}
 use Rattle.theory.specs.Lists.{total, weightIf}
 use Rattle.theory.specs.Jobs.{Job}
 use Rattle.theory.proofs.Cases.{by-lt, by-test}
 use Rattle.theory.proofs.Lists.{all-of, all-of-members, none-passes}
 use Rattle.table.specs.declared.Table.{Table}
-use Rattle.table.specs.Tables.{tableRead}
 use Rattle.table.proofs.Each.{each-taken}
 use Rattle.jobs.specs.declared.Job.{Job as PendingJob}
 use Rattle.jobs.specs.Places.{noJob, jobsOf, used}
@@ -34,6 +32,7 @@ use Rattle.promise.specs.Answers.{idle, ran, hasFinished, tickSays}
 use Rattle.promise.specs.Traces.{Call, Event, eventOf, runAt, trace, clockOf, jobsIn, unitsOf, unfinished}
 use Rattle.promise.specs.Choice.{IdleWhenAllHaveTheirCost, GoesFirst, RanFirst, EarliestDueFirst, lateAt, LateCountIsTheLate}
 use Rattle.promise.proofs.Bridge.{Bridge}
+use Rattle.promise.proofs.Bridged.{bridge}
 use Rattle.promise.proofs.Units.{total-same, jobOf, sound-facts, pending-is-owed, pending-is-unfinished, unfinished-is-pending}
 use Rattle.promise.proofs.Units.{finished-had-its-cost, unfinished-weigh-as-pending}
 use Rattle.promise.proofs.Ticks.{each-tick}
@@ -52,6 +51,7 @@ late-count-is-total time [] = refl
 late-count-is-total time (p ∷ ps) = omega (arith, late-count-is-total time ps)
 
 module _ {t : Table} {run : Run} {es : List Event} (b : Bridge t run es) where
+  -- The pending jobs.
   abbrev pending : List PendingJob
   pending = jobsOf (run .pending)
 
@@ -85,6 +85,7 @@ module _ {t : Table} {run : Run} {es : List Event} (b : Bridge t run es) where
     place : IsFirst pending (firstPlace pending)
     place = choice-is-first pending (omega (arith, many))
 
+    -- .. which is its place in the run's array too, ..
     abbrev first : PendingJob
     first = getD pending (firstPlace pending) noJob
 
@@ -122,6 +123,7 @@ module _ {t : Table} {run : Run} {es : List Event} (b : Bridge t run es) where
         (λ more. rw (lt-leb (first .left) 1 more) (λ e. absurd (let z : _≡_ {A = ℕ} 0 1 = cc in omega arith), λ e. absurd (omega arith)))
         (λ last. rw (le-leb (first .left) 1 last) (λ e. omega arith, λ e. refl))
 
+    -- So this is what a tick that runs it says.
     first-ran : RanFirst es (first .serial .0) (hasFinished (ranOf first .finished))
     first-ran = record { job = jobOf first; its-serial = refl; first = first-goes-first; finishes = first-finishes }
 
@@ -187,13 +189,15 @@ late-of-the-trace b next = rw (← b .same-clock) (late-after-the-tick b ∙ lat
 
 -- ---- the promises
 
-module _ (bridge : (bytes : List ℕ) → Bytes bytes → (calls : List Call) → Bridge (tableRead bytes .table) (runAt bytes calls) (trace bytes calls)) where
-  pub idle-when-all-have-their-cost : IdleWhenAllHaveTheirCost
-  idle-when-all-have-their-cost bytes ok calls = idle-when-done (bridge bytes ok calls)
+-- Idle exactly when every accepted job has had its cost; ..
+pub idle-when-all-have-their-cost : IdleWhenAllHaveTheirCost
+idle-when-all-have-their-cost bytes ok calls = idle-when-done (bridge bytes ok calls)
 
-  pub earliest-due-first : EarliestDueFirst
-  earliest-due-first bytes ok calls = ran-the-first (bridge bytes ok calls)
+-- .. else the unit goes to the unfinished job that is due first; ..
+pub earliest-due-first : EarliestDueFirst
+earliest-due-first bytes ok calls = ran-the-first (bridge bytes ok calls)
 
-  pub late-count-is-the-late : LateCountIsTheLate
-  unfolding runAt trace
-  late-count-is-the-late bytes ok calls in-time = late-of-the-trace (bridge bytes ok calls) (bridge bytes ok (Call.tick ∷ calls))
+-- .. and the late count is the number of accepted jobs that are late then.
+pub late-count-is-the-late : LateCountIsTheLate
+unfolding runAt trace
+late-count-is-the-late bytes ok calls in-time = late-of-the-trace (bridge bytes ok calls) (bridge bytes ok (Call.tick ∷ calls))

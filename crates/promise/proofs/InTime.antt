@@ -1,6 +1,6 @@
--- In time is proved. On a feasible table every length fits; the accepted jobs ask in no window for more than the table's demand, row by row; and the ticks so
--- far are a trace of the theory in which earliest due goes first and nothing idles in vain. So the theory's theorem applies. (docs/RULES.md, sections 5 and
--- 6.)
+-- In time is proved. On a feasible table every length fits; in no window do the accepted jobs ask for more than the table's demand, row by row; and the ticks
+-- so far are a trace of the theory in which earliest due goes first and nothing idles in vain. So the theory's theorem applies. Beside it stand the clock,
+-- which comes to every due time, and the due times, which are all within reach. (docs/RULES.md, sections 5 and 6.)
 use Prim.Native.Nat.{ℕ, suc, _+_, _≤_, _<_, min}
 use mathlib.Core.Path.{_≡_, refl}
 use mathlib.Core.Logic.{⊎-elim}
@@ -32,14 +32,15 @@ use Rattle.verdict.specs.declared.Verdict.the-variants as verdict
 use Rattle.verdict.specs.Demand.{rowDemandOf, tableDemand}
 use Rattle.verdict.specs.Verdict.{RightOfRead, verdictSays}
 use Rattle.verdict.proofs.Rows.{row-within, rows-within}
-use Rattle.run.specs.declared.Run.{Run}
 use Rattle.due.proofs.Laws.{given-means}
+use Rattle.run.specs.declared.Run.{Run}
 use Rattle.run.specs.Runs.{rowAt, keptOf}
 use Rattle.run.proofs.Release.{each-release}
 use Rattle.promise.specs.Answers.{releaseSays, tickSays}
 use Rattle.promise.specs.Traces.{Call, Event, runAt, eventOf, trace, clockOf, jobsIn, unitsOf}
 use Rattle.promise.specs.InTime.{SaidFeasible, InTime, NeverMore, OneJobASerial, ticksIn, ClockCountsTicks, DueTimesCome}
 use Rattle.promise.proofs.Bridge.{ticksOf, Bridge}
+use Rattle.promise.proofs.Bridged.{bridge}
 use Rattle.promise.proofs.Units.{units-counted, sound-facts, never-more-units}
 use Rattle.promise.proofs.Ticks.{each-tick}
 use Rattle.promise.proofs.Share.{own-member, row-share}
@@ -55,6 +56,7 @@ right-and-feasible t (answer.Refused r) v right says =
     let refused = rw right at says in
     ⊎-elim (λ h. absurd (omega arith)) (λ h. absurd (omega arith)) (never-an-answer (r .refusal))
 
+-- So where `judge` says feasible, every length fits.
 pub feasible-fits : (bytes : List ℕ) → SaidFeasible bytes → EveryLengthFits (tableDemand (tableRead bytes .table))
 feasible-fits bytes said = right-and-feasible (tableRead bytes .table) (tableRead bytes .answer) (said .answer) (said .judged) (said .feasible)
 
@@ -135,25 +137,30 @@ due-after-release {t = t} {es = es} b j m =
 
 -- ---- the promises
 
-module _ (bridge : (bytes : List ℕ) → Bytes bytes → (calls : List Call) → Bridge (tableRead bytes .table) (runAt bytes calls) (trace bytes calls)) where
-  pub accepted-jobs-in-time : InTime
-  accepted-jobs-in-time bytes ok said calls = due-had-its-cost (bridge bytes ok calls) (feasible-fits bytes said)
+-- Every accepted job has its cost once it is due ..
+pub accepted-jobs-in-time : InTime
+accepted-jobs-in-time bytes ok said calls = due-had-its-cost (bridge bytes ok calls) (feasible-fits bytes said)
 
-  pub never-more : NeverMore
-  never-more bytes ok calls = never-more-units (bridge bytes ok calls)
+-- .. and never more.
+pub never-more : NeverMore
+never-more bytes ok calls = never-more-units (bridge bytes ok calls)
 
-  pub one-job-a-serial : OneJobASerial
-  one-job-a-serial bytes ok calls = bridge bytes ok calls .distinct
+-- No two accepted jobs have one serial.
+pub one-job-a-serial : OneJobASerial
+one-job-a-serial bytes ok calls = bridge bytes ok calls .distinct
 
-  clock-counts : (bytes : List ℕ) → Bytes bytes → (calls : List Call) → clockOf (trace bytes calls) ≡ min (ticksIn calls) maxTime
-  unfolding trace clockOf ticksIn
-  clock-counts bytes ok [] = refl
-  clock-counts bytes ok (Call.release row cost ∷ calls) = clock-counts bytes ok calls
-  clock-counts bytes ok (Call.tick ∷ calls) = omega (arith, clock-after-a-tick (bridge bytes ok calls), clock-counts bytes ok calls)
+-- The clock is the number of ticks that were called, up to the last time.
+clock-counts : (bytes : List ℕ) → Bytes bytes → (calls : List Call) → clockOf (trace bytes calls) ≡ min (ticksIn calls) maxTime
+unfolding trace clockOf ticksIn
+clock-counts bytes ok [] = refl
+clock-counts bytes ok (Call.release row cost ∷ calls) = clock-counts bytes ok calls
+clock-counts bytes ok (Call.tick ∷ calls) = omega (arith, clock-after-a-tick (bridge bytes ok calls), clock-counts bytes ok calls)
 
-  pub clock-counts-ticks : ClockCountsTicks
-  clock-counts-ticks bytes ok calls = (clock-counts bytes ok calls, bridge bytes ok calls .same-clock)
+-- The run's own clock says the same.
+pub clock-counts-ticks : ClockCountsTicks
+clock-counts-ticks bytes ok calls = (clock-counts bytes ok calls, bridge bytes ok calls .same-clock)
 
-  pub due-times-come : DueTimesCome
-  due-times-come bytes ok calls j m =
-      (due-after-release (bridge bytes ok calls) j m, all-at (λ (i : Job). i .due ≤ maxTime) (dues-in-time bytes calls) m)
+-- Every accepted job is due after its release, and by the last time.
+pub due-times-come : DueTimesCome
+due-times-come bytes ok calls j m =
+    (due-after-release (bridge bytes ok calls) j m, all-at (λ (i : Job). i .due ≤ maxTime) (dues-in-time bytes calls) m)

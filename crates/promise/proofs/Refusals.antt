@@ -11,14 +11,12 @@ use lib.Dec.{leb, ltb}
 use lib.ListN.{length}
 use borrow.Author.Tests.{lt-ltb, le-ltb}
 use Rattle.kinds.specs.Numbering.{maxTime}
-use Rattle.numbers.specs.Laws.{Bytes}
 use Rattle.theory.specs.Lists.{total}
 use Rattle.theory.specs.DueTimes.{dueTime, dues}
 use Rattle.theory.specs.Sources.{own}
 use Rattle.theory.proofs.Cases.{by-lt, by-test}
 use Rattle.table.specs.declared.Table.{Table}
 use Rattle.table.specs.Rows.{rowInRange}
-use Rattle.table.specs.Tables.{tableRead}
 use Rattle.table.proofs.Ranges.{in-range-of}
 use Rattle.due.specs.Kept.{earlier, dueOf}
 use Rattle.due.proofs.Laws.{due-is-the-papers}
@@ -32,9 +30,10 @@ use Rattle.run.proofs.Release.{each-release}
 use Rattle.run.proofs.Ticking.{counted}
 use Rattle.promise.specs.Answers.{ReleaseSays, accepted, releaseSays, tickSays}
 use Rattle.promise.specs.Answers as says
-use Rattle.promise.specs.Traces.{Call, Event, runAfter, eventOf, runAt, trace, clockOf, jobsIn, unfinishedIn}
+use Rattle.promise.specs.Traces.{Call, Event, runAfter, eventOf, runAt, clockOf, jobsIn, unfinishedIn}
 use Rattle.promise.specs.Refusals.{nextDue, releaseAnswer, ReleasesByTheTrace, TicksByTheTrace, PlacesAreEnough, Refused, RefusedChangesNothing}
 use Rattle.promise.proofs.Bridge.{Bridge}
+use Rattle.promise.proofs.Bridged.{bridge}
 use Rattle.promise.proofs.Units.{sound-facts, unfinished-weigh-as-pending}
 use Rattle.promise.proofs.Ticks.{each-tick}
 
@@ -122,16 +121,19 @@ refused-leaves-the-run run sound Call.tick =
 
 -- ---- the promises
 
-module _ (bridge : (bytes : List ℕ) → Bytes bytes → (calls : List Call) → Bridge (tableRead bytes .table) (runAt bytes calls) (trace bytes calls)) where
-  pub releases-by-the-trace : ReleasesByTheTrace
-  releases-by-the-trace bytes ok calls = release-by-the-trace (bridge bytes ok calls)
+-- Every release is answered as the trace says, ..
+pub releases-by-the-trace : ReleasesByTheTrace
+releases-by-the-trace bytes ok calls = release-by-the-trace (bridge bytes ok calls)
 
-  pub ticks-by-the-trace : TicksByTheTrace
-  ticks-by-the-trace bytes ok calls = tick-by-the-trace (bridge bytes ok calls)
+-- .. a tick is refused after the last time only, ..
+pub ticks-by-the-trace : TicksByTheTrace
+ticks-by-the-trace bytes ok calls = tick-by-the-trace (bridge bytes ok calls)
 
-  pub places-are-enough : PlacesAreEnough
-  places-are-enough bytes ok calls = let b = bridge bytes ok calls in omega (arith, pending-count b, sound-facts b .few-pending)
+-- .. there is a place for every unfinished job, ..
+pub places-are-enough : PlacesAreEnough
+places-are-enough bytes ok calls = let b = bridge bytes ok calls in omega (arith, pending-count b, sound-facts b .few-pending)
 
-  pub refused-changes-nothing : RefusedChangesNothing
-  unfolding runAt
-  refused-changes-nothing bytes ok calls = refused-leaves-the-run (runAt bytes calls) (bridge bytes ok calls .sound)
+-- .. and a refused call changes nothing.
+pub refused-changes-nothing : RefusedChangesNothing
+unfolding runAt
+refused-changes-nothing bytes ok calls = refused-leaves-the-run (runAt bytes calls) (bridge bytes ok calls .sound)

@@ -5,7 +5,6 @@ use mathlib.Core.Path.{refl}
 use mathlib.Core.List.{List, [], _∷_, List·Memᴰ, List·Memᴰ·head, List·Memᴰ·tail}
 use native.Mathlib.Nat.{le-trans}
 use native.Mathlib.Omega.{arith}
-use Rattle.numbers.specs.Laws.{Bytes}
 use Rattle.theory.specs.Lists.{All, weightIf}
 use Rattle.theory.specs.Jobs.{Job, within, weighed, BoundedBy}
 use Rattle.theory.specs.Sources.{own}
@@ -19,16 +18,15 @@ use Rattle.table.specs.Tables.{tableRead}
 use Rattle.verdict.specs.Demand.{rowDemandOf}
 use Rattle.verdict.proofs.Rows.{row-within}
 use Rattle.run.specs.declared.Run.{Run}
-use Rattle.run.specs.Runs.{rowAt, started}
-use Rattle.run.proofs.Fresh.{started-is-sound}
-use Rattle.run.proofs.Ticking.{facts}
-use Rattle.promise.specs.Traces.{Call, Event, runAt, trace, jobsIn, unitsOf}
+use Rattle.run.specs.Runs.{rowAt}
+use Rattle.promise.specs.Traces.{Event, jobsIn, unitsOf}
 use Rattle.promise.specs.Share.{costsIn, consumedIn, Share, NoDemandInNoTime}
 use Rattle.promise.proofs.Bridge.{Bridge}
+use Rattle.promise.proofs.Bridged.{bridge}
 use Rattle.promise.proofs.Units.{never-more-units}
 
 -- What every job of a list has, every job of a source has.
-pub all-own : (P : Job → Type 0) (i : ℕ) (js : List Job) → All P js → All P (own i js)
+all-own : (P : Job → Type 0) (i : ℕ) (js : List Job) → All P js → All P (own i js)
 unfolding own
 all-own P i [] h = tt
 all-own P i (j ∷ js) h = by-eq (j .source) i
@@ -66,15 +64,15 @@ module _ {t : Table} {run : Run} {es : List Event} (b : Bridge t run es) where
       (own row (jobsIn es))
       few)
 
-module _ (bridge : (bytes : List ℕ) → Bytes bytes → (calls : List Call) → Bridge (tableRead bytes .table) (runAt bytes calls) (trace bytes calls)) where
-  pub share : Share
-  share bytes ok calls row in-use from to h =
-      let b = bridge bytes ok calls in
-      let costs-fit = row-share b row in-use from to h in
-      (costs-fit, le-trans (consumed-at-most-costs b from to row) costs-fit)
+-- In any window a row's jobs cost at most its demand, and are given no more units than that.
+pub share : Share
+share bytes ok calls row in-use from to h =
+    let b = bridge bytes ok calls in
+    let costs-fit = row-share b row in-use from to h in
+    (costs-fit, le-trans (consumed-at-most-costs b from to row) costs-fit)
 
+-- In no time no row has any demand.
 pub no-demand-in-no-time : NoDemandInNoTime
 no-demand-in-no-time bytes ok row in-use =
-    let good = started-is-sound bytes ok in
     let r = rowAt (tableRead bytes .table) row in
-    no-demand-below-d (r .x) (r .y) (r .d) (r .c) 0 (facts (started bytes .run) good .rows row in-use .some-d)
+    no-demand-below-d (r .x) (r .y) (r .d) (r .c) 0 (row-within (bridge bytes ok [] .table-in-range) row in-use .some-d)
