@@ -1,0 +1,117 @@
+-- A record's numbers tested, its step, and the jobs that finished written into a log. (docs/RULES.md, sections 8.5 and 8.8 to 8.13.)
+use Prim.Native.Nat.{ℕ, _+_, _-_, _≤_, _<_}
+use native.Mathlib.Numerals.{add-one}
+use native.Mathlib.Omega.{arith}
+use mathlib.Core.Path.{_≡_, refl, sym, ap, _∙_}
+use mathlib.Core.Bool.{Bool, true, false}
+use mathlib.Core.List.{List, []}
+use lib.ListN.{length, getD, take, drop, length-append, length-drop, drop-of-length-le}
+use lib.Seq.{drop-cons, length-take-le}
+use borrow.Author.Tests.{le-leb, lt-leb, lt-ltb, le-ltb}
+use Rattle.kinds.specs.Numbering.{maxTime}
+use Rattle.kinds.specs.declared.Finish.{Finish}
+use Rattle.kinds.specs.declared.RefusedAt.{RefusedAt}
+use Rattle.kinds.specs.declared.Refusal.{Refusal}
+use Rattle.kinds.specs.declared.Refusal.the-variants.{NoSuchRow, CostOutOfRange, TimeTooLate}
+use Rattle.numbers.specs.declared.Number.{Number}
+use Rattle.numbers.specs.declared.NumberRead.the-variants as number
+use Rattle.numbers.specs.declared.Written.{Written}
+use Rattle.numbers.specs.declared.Written.the-variants as written
+use Rattle.table.specs.declared.Table.{Table}
+use Rattle.run.specs.Runs.{costLimit}
+use Rattle.replay.specs.declared.Placed.{Placed}
+use Rattle.replay.specs.declared.Numbers.{Numbers}
+use Rattle.replay.specs.declared.Ready.{Ready}
+use Rattle.replay.specs.declared.Tested.the-variants as tested
+use Rattle.replay.specs.Numbers.{placedAt, placeAfter, numbersAt, refusedAt, testedNumbers}
+
+-- ---- the numbers of a record
+
+-- Three numbers, each read at the place after the one before, are the record's.
+pub numbers-of : (s : List ℕ) (at : ℕ) (gap row cost : Placed) (second third : ℕ) → gap ≡ placedAt s at → second ≡ placeAfter (gap .read) (gap .place)
+    → row ≡ placedAt s second → third ≡ placeAfter (row .read) (row .place) → cost ≡ placedAt s third
+    → _≡_ {A = Numbers} (record { gap = gap; row = row; cost = cost }) (numbersAt s at)
+numbers-of s at gap row cost second third first a b d e = rw (e, d, b, a, first)
+
+-- ---- the tests of the numbers, each answer by those that lead to it
+
+-- The gap was read, and the record's time is no later than any may be.
+pub record GapFits (t : Table) (time : ℕ) (n : Numbers) (gap : Number) : Type 0 where
+  pub gap-read : n .gap .read ≡ number.Number gap
+  pub in-time : time + gap .value ≤ maxTime
+
+-- The row number was read too, and is in use.
+pub record RowFits (t : Table) (time : ℕ) (n : Numbers) (gap row : Number) : Type 0 where
+  pub gap-fits : GapFits t time n gap
+  pub row-read : n .row .read ≡ number.Number row
+  pub in-use : row .value < t .count
+
+module _ (t : Table) (time : ℕ) (n : Numbers) where
+  -- 14: the gap can't be read.
+  pub gap-unread : {r : RefusedAt} → n .gap .read ≡ number.Refused r → tested.Refused r ≡ testedNumbers t time n
+  gap-unread e = rw e
+
+  -- 10: the record's time is above 2^40.
+  pub time-too-late : {gap : Number} → n .gap .read ≡ number.Number gap → maxTime < time + gap .value
+      → refusedAt TimeTooLate (n .gap .place) ≡ testedNumbers t time n
+  time-too-late {gap} e h = simp (e, lt-leb (time + gap .value) maxTime h)
+
+module _ {t : Table} {time : ℕ} {n : Numbers} {gap : Number} (p : GapFits t time n gap) where
+  -- 14: the row number can't be read.
+  pub row-unread : {r : RefusedAt} → n .row .read ≡ number.Refused r → tested.Refused r ≡ testedNumbers t time n
+  row-unread e = simp (p .gap-read, le-leb (time + gap .value) maxTime (p .in-time), e)
+
+  -- 6: there is no such row.
+  pub no-such-row : {row : Number} → n .row .read ≡ number.Number row → t .count ≤ row .value
+      → refusedAt NoSuchRow (n .row .place) ≡ testedNumbers t time n
+  no-such-row {row} e h = simp (p .gap-read, le-leb (time + gap .value) maxTime (p .in-time), e, le-ltb (row .value) (t .count) h)
+
+module _ {t : Table} {time : ℕ} {n : Numbers} {gap row : Number} (p : RowFits t time n gap row) where
+  -- 14: the cost can't be read.
+  pub cost-unread : {r : RefusedAt} → n .cost .read ≡ number.Refused r → tested.Refused r ≡ testedNumbers t time n
+  cost-unread e = simp (
+    p .gap-fits .gap-read,
+    le-leb (time + gap .value) maxTime (p .gap-fits .in-time),
+    p .row-read,
+    lt-ltb (row .value) (t .count) (p .in-use),
+    e,
+  )
+
+  module _ {cost : Number} (e : n .cost .read ≡ number.Number cost) where
+    -- 7: the cost is 0 ..
+    pub no-cost : cost .value < 1 → refusedAt CostOutOfRange (n .cost .place) ≡ testedNumbers t time n
+    no-cost h = simp (
+      p .gap-fits .gap-read,
+      le-leb (time + gap .value) maxTime (p .gap-fits .in-time),
+      p .row-read,
+      lt-ltb (row .value) (t .count) (p .in-use),
+      e,
+      lt-leb 1 (cost .value) h,
+    )
+
+    module _ (some : 1 ≤ cost .value) where
+      -- .. or above what the row allows.
+      pub cost-too-high : costLimit t (row .value) < cost .value → refusedAt CostOutOfRange (n .cost .place) ≡ testedNumbers t time n
+      cost-too-high h = simp (
+        p .gap-fits .gap-read,
+        le-leb (time + gap .value) maxTime (p .gap-fits .in-time),
+        p .row-read,
+        lt-ltb (row .value) (t .count) (p .in-use),
+        e,
+        le-leb 1 (cost .value) some,
+        lt-leb (cost .value) (costLimit t (row .value)) h,
+      )
+
+      -- No test refuses: the record asks for its release.
+      pub ready : cost .value ≤ costLimit t (row .value)
+          → tested.Ready (record { time = record { 0 = time + gap .value }; row = record { 0 = row .value }; cost = cost .value; next = cost .next })
+          ≡ testedNumbers t time n
+      ready h = simp (
+        p .gap-fits .gap-read,
+        le-leb (time + gap .value) maxTime (p .gap-fits .in-time),
+        p .row-read,
+        lt-ltb (row .value) (t .count) (p .in-use),
+        e,
+        le-leb 1 (cost .value) some,
+        le-leb (cost .value) (costLimit t (row .value)) h,
+      )
