@@ -18,12 +18,19 @@ use Rattle.numbers.specs.declared.NumberRead.the-variants as number
 use Rattle.numbers.specs.declared.Written.{Written}
 use Rattle.numbers.specs.declared.Written.the-variants as written
 use Rattle.table.specs.declared.Table.{Table}
+use Rattle.jobs.specs.Turns.{finishesOf}
+use Rattle.run.specs.declared.Run.{Run}
+use Rattle.run.specs.declared.Advanced.{Advanced}
+use Rattle.run.specs.declared.ReleaseStep.{ReleaseStep}
 use Rattle.run.specs.Runs.{costLimit}
+use Rattle.run.specs.Release.{released}
+use Rattle.run.specs.Advance.{advanced}
 use Rattle.replay.specs.declared.Placed.{Placed}
 use Rattle.replay.specs.declared.Numbers.{Numbers}
 use Rattle.replay.specs.declared.Ready.{Ready}
 use Rattle.replay.specs.declared.Tested.the-variants as tested
 use Rattle.replay.specs.Numbers.{placedAt, placeAfter, numbersAt, refusedAt, testedNumbers}
+use Rattle.replay.specs.Inside.{stoppedStep, afterReleased, stepOf}
 
 -- ---- the numbers of a record
 
@@ -115,3 +122,16 @@ module _ {t : Table} {time : ℕ} {n : Numbers} {gap row : Number} (p : RowFits 
         le-leb 1 (cost .value) some,
         le-leb (cost .value) (costLimit t (row .value)) h,
       )
+
+-- ---- one record
+
+module _ (run : Run) (n : Numbers) where
+  -- A test refused it: nothing has happened.
+  pub step-refused : {r : RefusedAt} → testedNumbers (run .table) (run .clock .0) n ≡ tested.Refused r → stoppedStep run (finishesOf []) r ≡ stepOf run n
+  step-refused e = rw e
+
+  -- Else the time is crossed and the job released, and the answer to that settles it.
+  pub step-released : {r : Ready} {a : Advanced} {s : ReleaseStep} → testedNumbers (run .table) (run .clock .0) n ≡ tested.Ready r
+      → a ≡ advanced run (r .time .0) → s ≡ released (a .run) (r .row .0) (r .cost)
+      → afterReleased (n .gap .place) (r .next) (a .finishes) (s .run) (s .answer) ≡ stepOf run n
+  step-released e f g = rw (e, ← f, ← g)
