@@ -3,9 +3,9 @@ use Prim.Native.Nat.{ℕ, _+_, _-_, _≤_, _<_}
 use native.Mathlib.Numerals.{add-one}
 use native.Mathlib.Omega.{arith}
 use mathlib.Core.Path.{_≡_, refl, sym, ap, _∙_}
-use mathlib.Core.Bool.{Bool, true, false}
+use mathlib.Core.Bool.{true, false}
 use mathlib.Core.List.{List, [], _∷_}
-use lib.ListN.{length, getD, take, drop, length-append, length-drop, drop-of-length-le}
+use lib.ListN.{length, getD, drop, length-append, length-drop, drop-of-length-le}
 use lib.Seq.{drop-cons, length-take-le}
 use borrow.Author.Tests.{le-leb, lt-leb, lt-ltb, le-ltb}
 use Rattle.theory.proofs.Cases.{by-test}
@@ -18,10 +18,10 @@ use Rattle.numbers.specs.declared.Number.{Number}
 use Rattle.numbers.specs.declared.NumberRead.the-variants as number
 use Rattle.numbers.specs.declared.Written.{Written}
 use Rattle.numbers.specs.declared.Written.the-variants as written
-use Rattle.table.specs.declared.Table.{Table}
 use Rattle.log.specs.Log.{writtenRecord}
 use Rattle.log.specs.Laws.{RecordBehind}
 use Rattle.log.proofs.Laws.{record-written, log-kept}
+use Rattle.table.specs.declared.Table.{Table}
 use Rattle.jobs.specs.Turns.{noFinish, finishesOf}
 use Rattle.run.specs.declared.Run.{Run}
 use Rattle.run.specs.declared.Advanced.{Advanced}
@@ -33,10 +33,10 @@ use Rattle.replay.specs.declared.Placed.{Placed}
 use Rattle.replay.specs.declared.Numbers.{Numbers}
 use Rattle.replay.specs.declared.Ready.{Ready}
 use Rattle.replay.specs.declared.Tested.the-variants as tested
-use Rattle.replay.specs.Numbers.{placedAt, placeAfter, numbersAt, refusedAt, testedNumbers}
 use Rattle.replay.specs.declared.Logged.{Logged}
-use Rattle.replay.specs.Inside.{stoppedStep, afterReleased, stepOf, lateOr, oneLogged, loggedAfter, oneWritten, logWith}
+use Rattle.replay.specs.Numbers.{placedAt, placeAfter, numbersAt, refusedAt, testedNumbers}
 use Rattle.replay.specs.Outcome.{finishedLate}
+use Rattle.replay.specs.Inside.{stoppedStep, afterReleased, stepOf, lateOr, oneLogged, loggedAfter, oneWritten, logWith}
 
 -- ---- the numbers of a record
 
@@ -145,17 +145,17 @@ module _ (run : Run) (n : Numbers) where
 -- ---- the jobs that finished are written into a log
 
 -- The first i of the jobs are logged: with those still to come the log says and holds what it is to in the end.
-pub record SoFar (all : List Finish) (logged : Logged) (log₀ : List ℕ) (now : Logged) (log : List ℕ) (i : ℕ) : Type 0 where
+pub record SoFar (all : List Finish) (l₀ : Logged) (log₀ : List ℕ) (l : Logged) (log : List ℕ) (i : ℕ) : Type 0 where
   pub not-past : i ≤ length all
   pub same-length : length log ≡ length log₀
-  pub within : now .length ≤ length log
-  pub few-late : now .late ≤ logged .late + i
-  pub says : loggedAfter (length log₀) now (drop i all) ≡ loggedAfter (length log₀) logged all
-  pub holds : logWith now (drop i all) log ≡ logWith logged all log₀
+  pub within : l .length ≤ length log
+  pub few-late : l .late ≤ l₀ .late + i
+  pub says : loggedAfter (length log₀) l (drop i all) ≡ loggedAfter (length log₀) l₀ all
+  pub holds : logWith l (drop i all) log ≡ logWith l₀ all log₀
 
 -- At first none is.
-pub none-logged : (all : List Finish) (logged : Logged) (log : List ℕ) → logged .length ≤ length log → SoFar all logged log logged log 0
-none-logged all logged log h = record { not-past = omega arith; same-length = refl; within = h; few-late = omega arith; says = refl; holds = refl }
+pub none-logged : (all : List Finish) (l : Logged) (log : List ℕ) → l .length ≤ length log → SoFar all l log l log 0
+none-logged all l log h = record { not-past = omega arith; same-length = refl; within = h; few-late = omega arith; says = refl; holds = refl }
 
 -- A job counts as late where it finished after its due time, and else not.
 pub counted-late : (l : Logged) (f : Finish) → f .due .0 < f .finish .0 → l .late + 1 ≡ lateOr l f
@@ -168,11 +168,11 @@ counted-in-time l f h = simp (le-ltb _ _ h) (omega arith)
 late-at-most : (l : Logged) (f : Finish) → lateOr l f ≤ l .late + 1
 late-at-most l f = by-test (finishedLate f) (λ e. simp e (omega arith)) (λ e. simp e (omega arith))
 
-module _ {all : List Finish} {logged : Logged} {log₀ : List ℕ} {l : Logged} {log : List ℕ} {i : ℕ} (p : SoFar all logged log₀ l log i)
+module _ {all : List Finish} {l₀ : Logged} {log₀ : List ℕ} {l : Logged} {log : List ℕ} {i : ℕ} (p : SoFar all l₀ log₀ l log i)
     {f : Finish} (h : i < length all) (e : getD all i noFinish ≡ f) where
   -- One job more is logged, ..
   one-more : {m : Logged} {after : List ℕ} → m ≡ oneLogged (length log) l f → after ≡ oneWritten l f log → length after ≡ length log
-      → m .length ≤ length log → m .late ≤ l .late + 1 → SoFar all logged log₀ m after (i + 1)
+      → m .length ≤ length log → m .late ≤ l .late + 1 → SoFar all l₀ log₀ m after (i + 1)
   unfolding loggedAfter logWith
   one-more {m} {after} is-one writes keeps within late =
       let next : drop i all ≡ f ∷ drop (i + 1) all = rw (add-one, drop-cons all i noFinish h, e) in
@@ -187,35 +187,36 @@ module _ {all : List Finish} {logged : Logged} {log₀ : List ℕ} {l : Logged} 
 
   module _ {late : ℕ} (counted : late ≡ lateOr l f) where
     -- .. but not written where the log is full, ..
-    pub one-dropped : l .full ≡ true → SoFar all logged log₀ (record { length = l .length; late = late; full = l .full }) log (i + 1)
+    pub one-dropped : l .full ≡ true → SoFar all l₀ log₀ (record { length = l .length; late = late; full = l .full }) log (i + 1)
     one-dropped full = one-more (simp (counted, full)) (simp full) refl (p .within) (omega (arith, late-at-most l f))
 
     module _ (room-left : l .full ≡ false) {answer : Written} {after : List ℕ} (b : RecordBehind log (l .length) f answer after) where
-      -- What the writer was answered and left is what is meant.
-      says-it : writtenRecord f (length log - l .length) ≡ answer
-      says-it = sym (b .answered)
+      -- (What the writer answered and left is what the log is to hold.)
+      answers : writtenRecord f (length log - l .length) ≡ answer
+      answers = sym (b .answered)
 
-      leaves-it : after ≡ oneWritten l f log
-      leaves-it = b .whole ∙ rw (room-left, says-it)
+      leaves : after ≡ oneWritten l f log
+      leaves = b .whole ∙ rw (room-left, answers)
 
       -- .. written where it fits, ..
       pub one-written : {took : ℕ} → answer ≡ written.Length took
-          → SoFar all logged log₀ (record { length = l .length + took; late = late; full = l .full }) after (i + 1)
+          → SoFar all l₀ log₀ (record { length = l .length + took; late = late; full = l .full }) after (i + 1)
       one-written {took} a =
-          let w = record-written f (length log - l .length) took (says-it ∙ a) in
-          let keeps : length after ≡ length log = rw (b .whole, a, length-append, length-take-le (l .length) log (p .within), length-append, length-drop, length-drop)
+          let w = record-written f (length log - l .length) took (answers ∙ a) in
+          let before = length-take-le (l .length) log (p .within) in
+          let keeps : length after ≡ length log = rw (b .whole, a, length-append, before, length-append, length-drop, length-drop)
           (omega (arith, w .spelled, w .had-room, p .within)) in
-          one-more (simp (counted, room-left, says-it ∙ a)) leaves-it keeps (omega (arith, w .had-room, p .within)) (omega (arith, late-at-most l f))
+          one-more (simp (counted, room-left, answers ∙ a)) leaves keeps (omega (arith, w .had-room, p .within)) (omega (arith, late-at-most l f))
 
       -- .. and else the log is full from now on.
       pub one-without-room : {r : Refusal} → answer ≡ written.Refused r
-          → SoFar all logged log₀ (record { length = l .length; late = late; full = true }) after (i + 1)
+          → SoFar all l₀ log₀ (record { length = l .length; late = late; full = true }) after (i + 1)
       one-without-room {r} a =
           let kept : after ≡ log = log-kept log (l .length) f r after (rw a at b) in
-          one-more (simp (counted, room-left, says-it ∙ a)) leaves-it (ap length kept) (p .within) (omega (arith, late-at-most l f))
+          one-more (simp (counted, room-left, answers ∙ a)) leaves (ap length kept) (p .within) (omega (arith, late-at-most l f))
 
 -- At last all are.
-pub all-logged : {all : List Finish} {logged : Logged} {log₀ : List ℕ} {now : Logged} {log : List ℕ} {i : ℕ} → SoFar all logged log₀ now log i → length all ≤ i
-    → (now ≡ loggedAfter (length log₀) logged all) × (log ≡ logWith logged all log₀)
+pub all-logged : {all : List Finish} {l₀ : Logged} {log₀ : List ℕ} {l : Logged} {log : List ℕ} {i : ℕ} → SoFar all l₀ log₀ l log i → length all ≤ i
+    → (l ≡ loggedAfter (length log₀) l₀ all) × (log ≡ logWith l₀ all log₀)
 unfolding loggedAfter logWith
 all-logged {all} {i = i} p h = let none : drop i all ≡ [] = drop-of-length-le all h in (rw none at (p .says), rw none at (p .holds))

@@ -105,18 +105,22 @@ loop-less c = omega arith
 
 loop-again : tie.Need-loop-again Inv-loop μ-loop
 loop-again c =
-    let l = c .before .before .before .before .before .loop in
-    let below : l .i < length (finishesIn (c .before .before .before .before .before .before .before .args .t3)) = omega (arith, all-count (c .before .before .before .before .before .before .before)) in
-    let next = next-job (c .before .before .before .before) in
+    let in-loop = c .before .before .before .before in
+    let start = in-loop .before .before .before in
+    let l = in-loop .before .loop in
+    let below : l .i < length (finishesIn (start .args .t3)) = omega (arith, all-count start) in
+    let next = next-job in-loop in
     let now-late = counted (c .before) in
     ⊎-elim
     (λ w. rw (w .8, w .9, w .10)
     (one-written (l .inv) below next now-late (not-true _ (w .0 .taken))
-    (behind (record { before = record { before = record { before = c .before; if2 = w .0 }; write-record-arg = w .1 }; write-record = w .2 })) (w .6 .given .1)))
+    (behind (record { before = record { before = record { before = c .before; if2 = w .0 }; write-record-arg = w .1 }; write-record = w .2 }))
+    (w .6 .given .1)))
     (⊎-elim
     (λ w. rw (w .7, w .8, w .9)
     (one-without-room (l .inv) below next now-late (not-true _ (w .0 .taken))
-    (behind (record { before = record { before = record { before = c .before; if2 = w .0 }; write-record-arg = w .1 }; write-record = w .2 })) (w .6 .given .1)))
+    (behind (record { before = record { before = record { before = c .before; if2 = w .0 }; write-record-arg = w .1 }; write-record = w .2 }))
+    (w .6 .given .1)))
     (λ w. rw (w .1, w .2, w .3) (one-dropped (l .inv) below next now-late (not-false _ (w .0 .left)))))
     (c .if2 .came)
 

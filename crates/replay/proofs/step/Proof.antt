@@ -14,7 +14,9 @@ settled : (c : tie.After-release)
     → (let tested = c .before .before .before .before .before .before .before in
     let a = tested .before .before .before .before .before .before .args in
     let r = tested .tested2 .given .0 .0 in
-    afterReleased (a .numbers .gap .place) (r .next) (c .before .before .before .advance .result .finishes) (c .release .result .run) (c .release .result .answer)
+    let advanced = c .before .before .before .advance .result in
+    let released = c .release .result in
+    afterReleased (a .numbers .gap .place) (r .next) (advanced .finishes) (released .run) (released .answer)
     ≡ stepOf (a .run) (a .numbers))
 settled c =
     let tested = c .before .before .before .before .before .before .before in

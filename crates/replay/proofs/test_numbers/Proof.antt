@@ -39,7 +39,10 @@ refused-at-requires : tie.Need-refused-at-requires
 refused-at-requires c κs = search needs
 
 returns-2 : tie.Need-returns-2
-returns-2 c = let a = c .before .before .before .before .before .before .before .before .before .before .args in c .refused-at .ensures ∙ time-too-late (a .t2) (a .time .0) (a .numbers) (c .before .before .before .before .before .gap-read .given .1) (omega arith)
+returns-2 c =
+    let read = c .before .before .before .before .before in
+    let a = read .before .before .before .before .before .args in
+    c .refused-at .ensures ∙ time-too-late (a .t2) (a .time .0) (a .numbers) (read .gap-read .given .1) (omega arith)
 
 enum-known-row-read : tie.Need-enum-known-row-read
 enum-known-row-read c = search needs
@@ -54,7 +57,9 @@ refused-at-requires-2 : tie.Need-refused-at-requires-2
 refused-at-requires-2 c κs = search needs
 
 returns-4 : tie.Need-returns-4
-returns-4 c = c .refused-at2 .ensures ∙ no-such-row (gap-fits (c .before .before .before .before .before .before)) (c .before .before .before .before .row-read .given .1) (c .before .if2 .taken)
+returns-4 c =
+    let read = c .before .before .before .before in
+    c .refused-at2 .ensures ∙ no-such-row (gap-fits (read .before .before)) (read .row-read .given .1) (c .before .if2 .taken)
 
 mul-its : tie.Need-mul-its
 mul-its c = search needs
@@ -75,19 +80,28 @@ refused-at-requires-3 : tie.Need-refused-at-requires-3
 refused-at-requires-3 c κs = search needs
 
 returns-6 : tie.Need-returns-6
-returns-6 c = c .refused-at3 .ensures ∙ no-cost (row-fits (c .before .before .before .before .before .before .before)) (c .before .before .before .before .cost-read .given .1) (c .before .if3 .taken)
+returns-6 c =
+    let read = c .before .before .before .before in
+    c .refused-at3 .ensures ∙ no-cost (row-fits (read .before .before .before)) (read .cost-read .given .1) (c .before .if3 .taken)
 
 refused-at-requires-4 : tie.Need-refused-at-requires-4
 refused-at-requires-4 c κs = search needs
 
 returns-7 : tie.Need-returns-7
-returns-7 c = c .refused-at4 .ensures ∙ cost-too-high (row-fits (c .before .before .before .before .before .before .before .before .before .before)) (c .before .before .before .before .before .before .before .cost-read .given .1) (c .before .before .before .before .if3 .left) (c .before .if4 .taken)
+returns-7 c =
+    let some-cost = c .before .before .before .before in
+    let read = some-cost .before .before .before in
+    c .refused-at4 .ensures
+    ∙ cost-too-high (row-fits (read .before .before .before)) (read .cost-read .given .1) (some-cost .if3 .left) (c .before .if4 .taken)
 
 add-t24 : tie.Need-add-t24
 add-t24 c = search needs
 
 returns-8 : tie.Need-returns-8
-returns-8 c = ready (row-fits (c .before .before .before .before .before .before .before .before .before .before .before)) (c .before .before .before .before .before .before .before .before .cost-read .given .1) (c .before .before .before .before .before .if3 .left) (c .before .before .if4 .left)
+returns-8 c =
+    let some-cost = c .before .before .before .before .before in
+    let read = some-cost .before .before .before in
+    ready (row-fits (read .before .before .before)) (read .cost-read .given .1) (some-cost .if3 .left) (c .before .before .if4 .left)
 
 pub test-numbers-spec : {M : Type 1} → statement M
 test-numbers-spec =
