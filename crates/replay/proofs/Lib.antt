@@ -6,3 +6,4 @@ pub mod Conservation
 pub mod InOrder
 pub mod Asked
 pub mod Laws
+pub mod Writing
