@@ -200,4 +200,4 @@ earliest-due-first bytes ok calls = ran-the-first (bridge bytes ok calls)
 -- .. and the late count is the number of accepted jobs that are late then.
 pub late-count-is-the-late : LateCountIsTheLate
 unfolding runAt trace
-late-count-is-the-late bytes ok calls in-time = late-of-the-trace (bridge bytes ok calls) (bridge bytes ok (Call.tick ∷ calls))
+late-count-is-the-late bytes ok calls = late-of-the-trace (bridge bytes ok calls) (bridge bytes ok (Call.tick ∷ calls))
