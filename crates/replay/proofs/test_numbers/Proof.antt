@@ -82,26 +82,23 @@ refused-at-requires-3 c κs = search needs
 returns-6 : tie.Need-returns-6
 returns-6 c =
     let read = c .before .before .before .before in
-    c .refused-at3 .ensures ∙ no-cost (row-fits (read .before .before .before)) (read .cost-read .given .1) (c .before .if3 .taken)
+    c .refused-at3 .ensures ∙ no-cost (row-fits (read .before .before .before)) (read .cost-read .given .1) (omega arith)
 
 refused-at-requires-4 : tie.Need-refused-at-requires-4
 refused-at-requires-4 c κs = search needs
 
 returns-7 : tie.Need-returns-7
 returns-7 c =
-    let some-cost = c .before .before .before .before in
-    let read = some-cost .before .before .before in
-    c .refused-at4 .ensures
-    ∙ cost-too-high (row-fits (read .before .before .before)) (read .cost-read .given .1) (some-cost .if3 .left) (c .before .if4 .taken)
+    let read = c .before .before .before .before .before .before .before in
+    c .refused-at4 .ensures ∙ cost-too-high (row-fits (read .before .before .before)) (read .cost-read .given .1) (omega arith) (c .before .if4 .taken)
 
 add-t24 : tie.Need-add-t24
 add-t24 c = search needs
 
 returns-8 : tie.Need-returns-8
 returns-8 c =
-    let some-cost = c .before .before .before .before .before in
-    let read = some-cost .before .before .before in
-    ready (row-fits (read .before .before .before)) (read .cost-read .given .1) (some-cost .if3 .left) (c .before .before .if4 .left)
+    let read = c .before .before .before .before .before .before .before .before in
+    ready (row-fits (read .before .before .before)) (read .cost-read .given .1) (omega arith) (c .before .before .if4 .left)
 
 pub test-numbers-spec : {M : Type 1} → statement M
 test-numbers-spec =
