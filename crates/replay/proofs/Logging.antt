@@ -39,6 +39,14 @@ logs-none log = record {
   no-room = λ e. absurd (let z : _≡_ {A = ℕ} 0 1 = cc in omega arith);
 }
 
+-- No more are late than have finished.
+pub late-are-few : (fs : List Finish) → lateFinishes fs ≤ length fs
+unfolding lateFinishes
+late-are-few [] = omega arith
+late-are-few (f ∷ fs) =
+    let one : cond (finishedLate f) 1 0 ≤ 1 = by-test (finishedLate f) (λ late. rw late (omega arith)) (λ not-late. rw not-late (omega arith)) in
+    omega (arith, late-are-few fs)
+
 -- ---- one more
 
 -- One job more may be late ..
