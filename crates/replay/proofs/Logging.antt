@@ -120,27 +120,33 @@ logs-more {fs} {log₀} {log} {l} (g ∷ gs) w r =
 
 -- ---- the answer, once all have finished
 
-module _ {fs : List Finish} {log₀ log : List ℕ} {l : Logged} (w : Logs fs log₀ log l) (end : ℕ) (p : Progress) (all : p .since .finishes ≡ fs) where
+module _ {log₀ log : List ℕ} {l : Logged} (p : Progress) (w : Logs (p .since .finishes) log₀ log l) (end : ℕ) where
+  abbrev all : List Finish
+  all = p .since .finishes
+
   -- The log had no room for them: 12.
   pub answers-full : l .full ≡ true → answerOf (length log₀) end (whole p) ≡ replayed.Refused (record { refusal = NoRoom; place = end })
-  answers-full full = rw (all, lt-leb (length (spelledLog fs)) (length log₀) (w .no-room full))
+  answers-full full = rw (lt-leb (length (spelledLog all)) (length log₀) (w .no-room full))
 
+  -- It had ..
   module _ (not-full : l .full ≡ false) where
-    it-fits : length (spelledLog fs) ≤ length log₀
-    it-fits = let known = w .holds not-full in omega (arith, known .up-to, known .within, known .same-length)
+    abbrev held : Holds all log₀ log (l .length)
+    held = w .holds not-full
 
-    -- All were in time ..
+    it-fits : length (spelledLog all) ≤ length log₀
+    it-fits = omega (arith, held .up-to, held .within, held .same-length)
+
+    -- .. and all were in time ..
     pub answers-in-time : l .late ≡ 0 → answerOf (length log₀) end (whole p) ≡ replayed.InTime (l .length)
     answers-in-time none =
-        rw (all, le-leb (length (spelledLog fs)) (length log₀) it-fits, eq-eqb (lateFinishes fs) 0 (sym (w .late) ∙ none), w .holds not-full .up-to)
+        rw (le-leb (length (spelledLog all)) (length log₀) it-fits, eq-eqb (lateFinishes all) 0 (sym (w .late) ∙ none), held .up-to)
 
     -- .. or some were late.
     pub answers-late : (l .late ≡ 0 → ⊥) → answerOf (length log₀) end (whole p) ≡ replayed.Late (record { length = l .length; late = l .late })
     answers-late some =
         rw (
-          all,
-          le-leb (length (spelledLog fs)) (length log₀) it-fits,
-          ne-eqb (lateFinishes fs) 0 (λ e. some (w .late ∙ e)),
-          w .holds not-full .up-to,
+          le-leb (length (spelledLog all)) (length log₀) it-fits,
+          ne-eqb (lateFinishes all) 0 (λ e. some (w .late ∙ e)),
+          held .up-to,
           w .late,
         )

@@ -15,7 +15,7 @@ use Rattle.theory.proofs.Cases.{by-lt, by-eq, by-test}
 use Rattle.kinds.specs.Numbering.{maxTime}
 use Rattle.kinds.specs.declared.Finish.{Finish}
 use Rattle.kinds.specs.declared.Refusal.{Refusal}
-use Rattle.kinds.specs.declared.Refusal.the-variants.{TimeTooLate}
+use Rattle.kinds.specs.declared.Refusal.the-variants.{TimeTooLate, NoRoom}
 use Rattle.kinds.specs.declared.RefusedAt.{RefusedAt}
 use Rattle.numbers.specs.Spelling.{maxNumber}
 use Rattle.numbers.specs.Laws.{Bytes}
@@ -56,14 +56,17 @@ use Rattle.replay.specs.declared.Ready.{Ready}
 use Rattle.replay.specs.declared.Tested.{Tested}
 use Rattle.replay.specs.declared.Tested.the-variants as tested
 use Rattle.replay.specs.declared.Logged.{Logged}
+use Rattle.replay.specs.declared.Replayed.{Replayed}
+use Rattle.replay.specs.declared.Replayed.the-variants as replayed
 use Rattle.replay.specs.declared.Stepped.{Stepped}
 use Rattle.replay.specs.declared.StepAnswer.{StepAnswer}
 use Rattle.replay.specs.declared.StepAnswer.the-variants as answer
 use Rattle.replay.specs.Numbers.{numbersAt, onNumber, refusedAt, testedNumbers}
 use Rattle.replay.specs.Play.{Progress, begun, goes-on, stops, afterRelease, tickedTo, releasedAt, stepped}
 use Rattle.replay.specs.Play.{whole, stopped, endedAt, finalTicks, andThen, playedFrom, playedOn}
-use Rattle.replay.specs.Inside.{afterReleased, stepOf, finishesIn, loggedAfter, logWith}
-use Rattle.replay.proofs.Logging.{Logs, logs-none, late-are-few, logs-more}
+use Rattle.replay.specs.Outcome.{finishedIn, answerOf}
+use Rattle.replay.specs.Inside.{afterReleased, stepOf, finishesIn, loggedAfter, logWith, LeftIn}
+use Rattle.replay.proofs.Logging.{Logs, logs-none, late-are-few, logs-more, answers-full, answers-in-time, answers-late}
 
 -- ---- ticks from any point on
 
@@ -659,3 +662,28 @@ module _ {s : List ℕ} {run₀ : Run} {log₀ log : List ℕ} {run : Run} {at :
             ends = the-end ∙ it-ends .by-ticks;
             logs = rw (it-ends .handed, ← same-finishes, e, f) (logs-more (finishesIn (x .finishes)) (w .logs) (rw same-finishes (it-ends .in-range)));
           }
+
+-- ---- the answer of a play
+
+-- What a play answers and leaves of the log is what it is to.
+abbrev pub Ends : (s : List ℕ) (run₀ : Run) (log₀ log : List ℕ) → Replayed → Type 0
+Ends s run₀ log₀ log r = (r ≡ answerOf (length log₀) (length s) (playedOn s run₀)) × LeftIn r (finishedIn (playedOn s run₀)) log₀ log
+
+-- A play that was stopped answers the refusal ..
+pub stopped-ends : {s : List ℕ} {run₀ : Run} {log₀ log : List ℕ} {run : Run} {at : ℕ} {l : Logged} → Plays s run₀ log₀ log run at l → (r : RefusedAt)
+    → playedOn s run₀ ≡ stopped r → Ends s run₀ log₀ log (replayed.Refused r)
+stopped-ends w r e = (rw e, w .logs .same-length)
+
+module _ {s : List ℕ} {run₀ : Run} {log₀ log : List ℕ} {l : Logged} (w : PlaysWhole s run₀ log₀ log l) where
+  -- .. and one that came to its end 12 ..
+  pub full-ends : l .full ≡ true → Ends s run₀ log₀ log (replayed.Refused (record { refusal = NoRoom; place = length s }))
+  full-ends full = rw (w .ends) (sym (answers-full (w .progress) (w .logs) (length s) full), w .logs .same-length)
+
+  module _ (not-full : l .full ≡ false) where
+    -- .. or else 22 ..
+    pub in-time-ends : l .late ≡ 0 → Ends s run₀ log₀ log (replayed.InTime (l .length))
+    in-time-ends none = rw (w .ends) (sym (answers-in-time (w .progress) (w .logs) (length s) not-full none), w .logs .holds not-full .stands)
+
+    -- .. or 23.
+    pub late-ends : (l .late ≡ 0 → ⊥) → Ends s run₀ log₀ log (replayed.Late (record { length = l .length; late = l .late }))
+    late-ends some = rw (w .ends) (sym (answers-late (w .progress) (w .logs) (length s) not-full some), w .logs .holds not-full .stands)
