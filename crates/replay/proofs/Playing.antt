@@ -8,7 +8,7 @@ use mathlib.Core.List.{List, [], _∷_, _++_, append-nil, append-assoc, List·Me
 use native.Mathlib.Nat.{zero-add, add-zero, add-assoc}
 use native.Mathlib.Omega.{arith}
 use lib.Dec.{leb, ltb, eqb}
-use lib.ListN.{length, getD, length-append, length-set}
+use lib.ListN.{length, getD, replicate, length-append, length-set}
 use lib.Seq.{take-append-seam}
 use borrow.Author.Tests.{leb-true, le-leb, lt-leb, lt-ltb, le-ltb, eq-eqb, ne-eqb}
 use Rattle.theory.proofs.Cases.{by-lt, by-eq, by-test}
@@ -31,6 +31,8 @@ use Rattle.jobs.specs.Turns.{firstJob, finishAt, finishesOf}
 use Rattle.jobs.specs.Laws.{unitAt}
 use Rattle.jobs.proofs.Laws.{first-is-there, place-holds-job, without-is-one-less}
 use Rattle.run.specs.declared.Run.{Run}
+use Rattle.run.specs.declared.Started.{Started}
+use Rattle.run.specs.declared.StartAnswer.the-variants as start
 use Rattle.run.specs.declared.Accepted.{Accepted}
 use Rattle.run.specs.declared.Released.{Released}
 use Rattle.run.specs.declared.ReleaseStep.{ReleaseStep}
@@ -38,11 +40,12 @@ use Rattle.run.specs.declared.Advanced.{Advanced}
 use Rattle.run.specs.declared.AdvanceAnswer.{AdvanceAnswer}
 use Rattle.run.specs.declared.AdvanceAnswer.the-variants as advance
 use Rattle.run.specs.declared.Released.the-variants as release
-use Rattle.run.specs.Runs.{rowInUse, costLimit}
-use Rattle.run.specs.Sound.{fromOneTo, soundOf, SoundJob}
+use Rattle.run.specs.Runs.{rowInUse, costLimit, started}
+use Rattle.run.specs.Sound.{fromOneTo, soundOf, SoundJob, Whole}
 use Rattle.run.specs.Ticking.{ticked}
 use Rattle.run.specs.Release.{newJob, released}
 use Rattle.run.specs.Advance.{finishedBy, Since, oneMore, ticks, ticksWhilePending, sinceNow, done, refused, advanced, drainedTo, drained}
+use Rattle.run.proofs.Fresh.{started-is-sound}
 use Rattle.run.proofs.Release.{each-release, release-keeps-sound}
 use Rattle.run.proofs.Ticking.{Good, facts, counted, tick-idle, tick-busy, tick-keeps-good, tick-gives-one-unit}
 use Rattle.log.specs.Log.{valuesOf, allInRange}
@@ -56,6 +59,7 @@ use Rattle.replay.specs.declared.Ready.{Ready}
 use Rattle.replay.specs.declared.Tested.{Tested}
 use Rattle.replay.specs.declared.Tested.the-variants as tested
 use Rattle.replay.specs.declared.Logged.{Logged}
+use Rattle.replay.specs.declared.LateJobs.{LateJobs}
 use Rattle.replay.specs.declared.Replayed.{Replayed}
 use Rattle.replay.specs.declared.Replayed.the-variants as replayed
 use Rattle.replay.specs.declared.Stepped.{Stepped}
@@ -63,8 +67,8 @@ use Rattle.replay.specs.declared.StepAnswer.{StepAnswer}
 use Rattle.replay.specs.declared.StepAnswer.the-variants as answer
 use Rattle.replay.specs.Numbers.{numbersAt, onNumber, refusedAt, testedNumbers}
 use Rattle.replay.specs.Play.{Progress, begun, goes-on, stops, afterRelease, tickedTo, releasedAt, stepped}
-use Rattle.replay.specs.Play.{whole, stopped, endedAt, finalTicks, andThen, playedFrom, playedOn}
-use Rattle.replay.specs.Outcome.{finishedIn, answerOf}
+use Rattle.replay.specs.Play.{whole, stopped, endedAt, finalTicks, andThen, playedFrom, playedOn, onceStarted, played}
+use Rattle.replay.specs.Outcome.{finishedIn, answerOf, replayOf, logAfter}
 use Rattle.replay.specs.Inside.{afterReleased, stepOf, finishesIn, loggedAfter, logWith, LeftIn}
 use Rattle.replay.proofs.Logging.{Logs, logs-none, late-are-few, logs-more, answers-full, answers-in-time, answers-late}
 
@@ -687,3 +691,38 @@ module _ {s : List ℕ} {run₀ : Run} {log₀ log : List ℕ} {l : Logged} (w :
     -- .. or 23.
     pub late-ends : (l .late ≡ 0 → ⊥) → Ends s run₀ log₀ log (replayed.Late (record { length = l .length; late = l .late }))
     late-ends some = rw (w .ends) (sym (answers-late (w .progress) (w .logs) (length s) not-full some), w .logs .holds not-full .stands)
+
+-- ---- the answer of a replay
+
+-- What a replay answers and leaves of the log is what it is to.
+abbrev pub Replays : (t s log₀ log : List ℕ) → Replayed → Type 0
+Replays t s log₀ log r = (r ≡ replayOf t s (length log₀)) × (log ≡ logAfter r (finishedIn (played t s)) log₀)
+
+module _ (t s log₀ : List ℕ) {x : Started} (starts : x ≡ started t) where
+  -- The run that is started can be played on.
+  pub started-ready : Bytes t → Whole (x .run) × (soundOf (x .run) ≡ true) × (x .run .next .0 ≡ 0) × (x .run .pending .count ≡ 0)
+  started-ready bytes = let good = started-is-sound t bytes in rw starts (good .1, good .0, refl, refl)
+
+  by-start : played t s ≡ onceStarted s (x .run) (x .answer)
+  unfolding played
+  by-start = ap (λ (y : Started). onceStarted s (y .run) (y .answer)) (sym starts)
+
+  -- A table that is refused stops the replay at once ..
+  pub table-refused : {r : RefusedAt} {log : List ℕ} → x .answer ≡ start.Refused r → log ≡ replicate (length log₀) 0
+      → Replays t s log₀ log (replayed.Refused r)
+  table-refused {r} e zeros = let so : played t s ≡ stopped r = by-start ∙ rw e in (rw so, zeros)
+
+  -- .. and on any other the script is played, and after a refusal the log cleared.
+  module _ (ready : x .answer ≡ start.Ready) (log : List ℕ) {out : Replayed} (ends : Ends s (x .run) log₀ log out) where
+    played-so : played t s ≡ playedOn s (x .run)
+    played-so = by-start ∙ rw ready
+
+    pub replay-in-time : {n : ℕ} → out ≡ replayed.InTime n → Replays t s log₀ log (replayed.InTime n)
+    replay-in-time e = rw played-so (rw e at ends)
+
+    pub replay-late : {l : LateJobs} → out ≡ replayed.Late l → Replays t s log₀ log (replayed.Late l)
+    replay-late e = rw played-so (rw e at ends)
+
+    pub replay-refused : {r : RefusedAt} {cleared : List ℕ} → out ≡ replayed.Refused r → cleared ≡ replicate (length log) 0
+        → Replays t s log₀ cleared (replayed.Refused r)
+    replay-refused e zeros = let stops-so = rw e at ends in (rw played-so (stops-so .0), rw (← stops-so .1) zeros)
