@@ -1,3 +1,5 @@
+pub mod Writing
+pub mod Logging
 pub mod Playing
 pub mod Through
 pub mod Moves
@@ -6,4 +8,3 @@ pub mod Conservation
 pub mod InOrder
 pub mod Asked
 pub mod Laws
-pub mod Writing
