@@ -1,5 +1,5 @@
 -- What the host's calls return and write. (docs/RULES.md, section 9.)
-use Prim.Native.Nat.{ℕ, zero, suc, _/_, _%_}
+use Prim.Native.Nat.{ℕ, zero, suc, _/_, _%_, _^_, _<_, _≤_}
 use mathlib.Core.Path.{_≡_}
 use mathlib.Core.Logic.{_≢_}
 use mathlib.Core.List.{List, [], _∷_, _++_}
@@ -33,9 +33,22 @@ pub data VerdictAnswered (table answer : List ℕ) (status : ℕ) (after : List 
   said : length answer ≡ answerLength → (v : Verdict) → Judged table v → status ≡ verdictSays v .number → after ≡ answerBytes (verdictSays v)
       → VerdictAnswered table answer status after
 
--- ---- what is proved (proofs/Laws.antt)
+-- ---- what is proved (proofs/Laws.antt and Bytes.antt)
 
 -- One status and one answer buffer only are right.
 abbrev pub OneVerdictAnswered : Type 0
 OneVerdictAnswered = (table answer : List ℕ) (status status′ : ℕ) (after after′ : List ℕ)
     → VerdictAnswered table answer status after → VerdictAnswered table answer status′ after′ → (status ≡ status′) × (after ≡ after′)
+
+-- No status is 0.
+abbrev pub StatusNeverZero : Type 0
+StatusNeverZero = (table answer : List ℕ) (status : ℕ) (after : List ℕ) → VerdictAnswered table answer status after → 1 ≤ status
+
+-- Eight bytes say one number of 64 bits only ..
+abbrev pub BytesSayTheNumber : Type 0
+BytesSayTheNumber = (n m : ℕ) → n < 2 ^ 64 → m < 2 ^ 64 → lowestFirst numberLength n ≡ lowestFirst numberLength m → n ≡ m
+
+-- .. so an answer buffer settles its two numbers.
+abbrev pub AnswerSaysItsNumbers : Type 0
+AnswerSaysItsNumbers = (s t : Said) → (s .first < 2 ^ 64) × (s .second < 2 ^ 64) → (t .first < 2 ^ 64) × (t .second < 2 ^ 64)
+    → answerBytes s ≡ answerBytes t → (s .first ≡ t .first) × (s .second ≡ t .second)
