@@ -2,7 +2,7 @@
 use mathlib.Core.Path.{sym, _∙_}
 use native.Mathlib.Omega.{arith}
 use Rattle.verdict.proofs.Verdicts.{one-verdict, never-says-zero}
-use Rattle.host.specs.Answer.{wrong-size, said, OneVerdictAnswered, StatusNeverZero}
+use Rattle.host.specs.Answer.{wrong-size, said, OneVerdictAnswered, VerdictNeverZero}
 
 pub one-verdict-answered : OneVerdictAnswered
 one-verdict-answered table answer status status′ after after′ (wrong-size l s a) (wrong-size l′ s′ a′) = (cc, cc)
@@ -12,6 +12,6 @@ one-verdict-answered table answer status status′ after after′ (said l v j s 
     let same = one-verdict table v v′ j j′ in
     (s ∙ rw same (sym s′), a ∙ rw same (sym a′))
 
-pub status-never-zero : StatusNeverZero
-status-never-zero table answer status after (wrong-size l s a) = omega arith
-status-never-zero table answer status after (said l v j s a) = omega (arith, never-says-zero v)
+pub verdict-never-zero : VerdictNeverZero
+verdict-never-zero table answer status after (wrong-size l s a) = omega arith
+verdict-never-zero table answer status after (said l v j s a) = omega (arith, never-says-zero v)

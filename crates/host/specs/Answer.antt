@@ -41,8 +41,8 @@ OneVerdictAnswered = (table answer : List ℕ) (status status′ : ℕ) (after a
     → VerdictAnswered table answer status after → VerdictAnswered table answer status′ after′ → (status ≡ status′) × (after ≡ after′)
 
 -- No status is 0.
-abbrev pub StatusNeverZero : Type 0
-StatusNeverZero = (table answer : List ℕ) (status : ℕ) (after : List ℕ) → VerdictAnswered table answer status after → 1 ≤ status
+abbrev pub VerdictNeverZero : Type 0
+VerdictNeverZero = (table answer : List ℕ) (status : ℕ) (after : List ℕ) → VerdictAnswered table answer status after → 1 ≤ status
 
 -- Eight bytes say one number of 64 bits only ..
 abbrev pub BytesSayTheNumber : Type 0

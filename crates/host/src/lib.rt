@@ -56,6 +56,7 @@ pub extern "C" fn verdict(table: &[u8], answer: &mut [u8]) -> u32
     ensures { λ r. ⌜ VerdictAnswered (now (table .entry)) (now (answer .entry)) r (now (answer .exit)) ⌝ }
 {
     if answer.len() != ANSWER {
+        // Nothing is written.
         return Refusal::AnswerSize.number();
     }
     match verdict::judge(table) {
