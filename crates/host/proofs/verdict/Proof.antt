@@ -47,19 +47,25 @@ same-length : tie.Need-same-length
 same-length c = search needs
 
 returns-2 : tie.Need-returns-2
-returns-2 c = answered (c .before .before .before .before .before .before) _ _ _ (c .before .before .before .before .enum-told .given .1) (c .before .before .say .ensures)
+returns-2 c =
+    let at = c .before .before .before .before in
+    answered (at .before .before) _ _ _ (at .enum-told .given .1) (c .before .before .say .ensures)
 
 same-length-2 : tie.Need-same-length-2
 same-length-2 c = search needs
 
 returns-3 : tie.Need-returns-3
-returns-3 c = answered (c .before .before .before .before .before .before .before) _ _ _ (c .before .before .before .before .before .w .given .1) (c .before .before .say2 .ensures)
+returns-3 c =
+    let at = c .before .before .before .before .before in
+    answered (at .before .before) _ _ _ (at .w .given .1) (c .before .before .say2 .ensures)
 
 same-length-3 : tie.Need-same-length-3
 same-length-3 c = search needs
 
 returns-4 : tie.Need-returns-4
-returns-4 c = answered (c .before .before .before .before .before .before .before) _ _ _ (c .before .before .before .before .before .r .given .1) (c .before .before .refuse .ensures)
+returns-4 c =
+    let at = c .before .before .before .before .before in
+    answered (at .before .before) _ _ _ (at .r .given .1) (c .before .before .refuse .ensures)
 
 pub verdict-spec : {M : Type 1} → statement M
 verdict-spec =
