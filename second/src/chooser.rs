@@ -65,10 +65,7 @@ mod tests {
         let misspelled = |which, place| Err((which, Reason::ScriptMisspelled.at(place)));
         assert_eq!(choose(&cut, &cut, LAST_TICK + 1, LAST_TICK + 1), too_late(Which::First));
         assert_eq!(choose(&cut, &cut, LAST_TICK, LAST_TICK + 1), too_late(Which::Second));
-        assert_eq!(
-            choose(&cut, &[0x80, 0x00], LAST_TICK, LAST_TICK),
-            misspelled(Which::First, 2)
-        );
+        assert_eq!(choose(&cut, &[0x80, 0x00], LAST_TICK, LAST_TICK), misspelled(Which::First, 2));
         assert_eq!(choose(&EARLY, &[0x80, 0x00], 0, 0), misspelled(Which::Second, 0));
         assert_eq!(choose(&[], &cut, 0, 0), misspelled(Which::Second, 2));
     }

@@ -27,16 +27,15 @@ pub fn replay(table: &[u8], script: &[u8], log: &mut [u8], answer: &mut [u8]) ->
     };
     let outcome = table::read(table).and_then(|table| {
         let replayed = replay::replay(&table, script)?;
-        let start = log
-            .get_mut(..replayed.log.len())
-            .ok_or(Reason::NoRoom.at(script.len()))?;
-        start.copy_from_slice(&replayed.log);
-        Ok(replayed)
+        let whole = replayed.log();
+        let start = log.get_mut(..whole.len()).ok_or(Reason::NoRoom.at(script.len()))?;
+        start.copy_from_slice(&whole);
+        Ok((whole.len(), replayed.late))
     });
     match outcome {
-        Ok(replayed) => {
-            let status = if replayed.late == 0 { IN_TIME } else { LATE };
-            say(answer, status, replayed.log.len() as u64, replayed.late)
+        Ok((length, late)) => {
+            let status = if late == 0 { IN_TIME } else { LATE };
+            say(answer, status, length as u64, late)
         }
         Err(refusal) => {
             log.fill(0);
@@ -129,10 +128,7 @@ mod tests {
 
     #[test]
     fn late_jobs_are_counted() {
-        assert_eq!(
-            replayed(&[1, 2, 1, 1, 1], &[0, 0, 1, 0, 0, 1], &mut [0; 10]),
-            (23, 10, 1)
-        );
+        assert_eq!(replayed(&[1, 2, 1, 1, 1], &[0, 0, 1, 0, 0, 1], &mut [0; 10]), (23, 10, 1));
     }
 
     #[test]

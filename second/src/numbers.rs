@@ -9,18 +9,11 @@ pub const LARGEST: u64 = (1 << (7 * MOST_GROUPS)) - 1;
 pub fn read(bytes: &[u8], place: usize) -> Result<(u64, usize), Refusal> {
     let misspelled = Reason::NumberMisspelled.at(place);
     let rest = bytes.get(place..).ok_or(misspelled)?;
-    let last = rest
-        .iter()
-        .take(MOST_GROUPS)
-        .position(|byte| byte & 0x80 == 0)
-        .ok_or(misspelled)?;
+    let last = rest.iter().take(MOST_GROUPS).position(|byte| byte & 0x80 == 0).ok_or(misspelled)?;
     if last > 0 && rest[last] == 0 {
         return Err(misspelled);
     }
-    let number = rest[..=last]
-        .iter()
-        .rev()
-        .fold(0, |higher, byte| higher << 7 | u64::from(byte & 0x7f));
+    let number = rest[..=last].iter().rev().fold(0, |higher, byte| higher << 7 | u64::from(byte & 0x7f));
     Ok((number, place + last + 1))
 }
 

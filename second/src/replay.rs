@@ -6,23 +6,24 @@ use crate::run::{Given, Job, Run, LAST_TICK};
 use crate::script;
 use crate::table::Table;
 
-#[derive(Clone, Debug, PartialEq, Eq)]
+#[derive(Clone, Debug, Default, PartialEq, Eq)]
 pub struct Replayed {
-    /// Per job: serial, row, release, due, finish.
-    pub log: Vec<u8>,
+    /// Per job in order of finishing, the bytes of serial, row, release, due, finish.
+    pub records: Vec<Vec<u8>>,
     /// Jobs that finished after their due time.
     pub late: u64,
 }
 
-/// Plays a whole script and writes the log last, however long. Whether it fits a buffer is its caller's question:
-/// that refusal comes after all the others.
+impl Replayed {
+    pub fn log(&self) -> Vec<u8> {
+        self.records.concat()
+    }
+}
+
+/// Plays a whole script and spells the whole log, however long. Whether it fits a buffer is the caller's question:
+/// that refusal comes after all others.
 pub fn replay(table: &Table, script: &[u8]) -> Result<Replayed, Refusal> {
-    let mut player = Player {
-        run: Run::fresh(table.clone()),
-        jobs: vec![],
-        finished: vec![],
-        became_late: 0,
-    };
+    let mut player = Player { run: Run::fresh(table.clone()), jobs: vec![], replayed: Replayed::default() };
     let mut time = 0;
     let mut place = 0;
     while place < script.len() {
@@ -45,24 +46,28 @@ pub fn replay(table: &Table, script: &[u8]) -> Result<Replayed, Refusal> {
     while !player.run.pending().is_empty() {
         player.tick().map_err(|reason| reason.at(script.len()))?;
     }
-    Ok(player.replayed())
+    Ok(player.replayed)
 }
 
 struct Player {
     run: Run,
     /// All jobs, by serial.
     jobs: Vec<Job>,
-    /// Serial and time of each finish, in order.
-    finished: Vec<(u64, u64)>,
-    became_late: u64,
+    replayed: Replayed,
 }
 
 impl Player {
     fn tick(&mut self) -> Result<(), Reason> {
         let ticked = self.run.tick()?;
-        self.became_late += ticked.late;
         if let Given::Ran { serial, finished: true } = ticked.given {
-            self.finished.push((serial, self.run.clock()));
+            let job = &self.jobs[serial as usize];
+            let finish = self.run.clock();
+            let numbers = [serial, job.row, job.release, job.due, finish];
+            let spelled = numbers.map(|number| numbers::spell(number).expect("serials and times are in range"));
+            self.replayed.records.push(spelled.concat());
+            if finish > job.due {
+                self.replayed.late += 1;
+            }
         }
         Ok(())
     }
@@ -75,22 +80,6 @@ impl Player {
                 self.tick().expect("a script's time is at most the last tick");
             }
         }
-    }
-
-    fn replayed(self) -> Replayed {
-        let mut log = vec![];
-        let mut late = 0;
-        for (serial, finish) in self.finished {
-            let job = &self.jobs[serial as usize];
-            for number in [serial, job.row, job.release, job.due, finish] {
-                log.extend(numbers::spell(number).expect("serials and times are far below the largest number"));
-            }
-            if finish > job.due {
-                late += 1;
-            }
-        }
-        debug_assert_eq!(late, self.became_late);
-        Replayed { log, late }
     }
 }
 
@@ -107,22 +96,18 @@ mod tests {
     }
 
     fn script(records: &[[u64; 3]]) -> Vec<u8> {
-        records
-            .iter()
-            .flatten()
-            .flat_map(|&number| numbers::spell(number).unwrap())
-            .collect()
+        records.iter().flatten().flat_map(|&number| numbers::spell(number).unwrap()).collect()
     }
 
     #[test]
     fn example_r1() {
-        let log = vec![0, 0, 0, 4, 2, 1, 1, 0, 6, 5, 2, 0, 4, 8, 7];
-        assert_eq!(play(&[[1, 4, 4, 2], [1, 6, 6, 3]], &R1), Ok(Replayed { log, late: 0 }));
+        let records = vec![vec![0, 0, 0, 4, 2], vec![1, 1, 0, 6, 5], vec![2, 0, 4, 8, 7]];
+        assert_eq!(play(&[[1, 4, 4, 2], [1, 6, 6, 3]], &R1), Ok(Replayed { records, late: 0 }));
     }
 
     #[test]
     fn no_jobs_no_log() {
-        assert_eq!(play(&[], &[]), Ok(Replayed { log: vec![], late: 0 }));
+        assert_eq!(play(&[], &[]), Ok(Replayed::default()));
     }
 
     #[test]
@@ -130,6 +115,25 @@ mod tests {
         let v7 = [[2, 1, 1, 1]];
         assert_eq!(play(&v7, &[0, 0, 1]).unwrap().late, 0);
         assert_eq!(play(&v7, &[0, 0, 1, 0, 0, 1]).unwrap().late, 1);
+    }
+
+    #[test]
+    fn late_jobs_are_those_that_the_ticks_counted() {
+        let rows = [[4, 1, 4, 3], [4, 1, 2, 2]];
+        let records: Vec<[u64; 3]> = (0..60).map(|index| [index % 3, index % 2, 1 + index % 2]).collect();
+        let replayed = play(&rows, &script(&records)).unwrap();
+
+        let (mut run, _) = Run::start(&spell(&rows));
+        let mut late = 0;
+        for [gap, row, cost] in records {
+            late += (0..gap).map(|_| run.tick().unwrap().late).sum::<u64>();
+            run.release(row, cost).unwrap();
+        }
+        while !run.pending().is_empty() {
+            late += run.tick().unwrap().late;
+        }
+        assert!(late > 0);
+        assert_eq!(replayed.late, late);
     }
 
     #[test]
@@ -190,9 +194,6 @@ mod tests {
         let hopeless = [[1, 1, 2, 3]];
         let records = script(&[[LAST_TICK - 2, 0, 3]]);
         assert_eq!(play(&hopeless, &records), Err((10, records.len())));
-        assert_eq!(
-            play(&hopeless, &script(&[[LAST_TICK - 2, 0, 2]])).map(|replayed| replayed.late),
-            Ok(0)
-        );
+        assert_eq!(play(&hopeless, &script(&[[LAST_TICK - 2, 0, 2]])).map(|replayed| replayed.late), Ok(0));
     }
 }

@@ -43,13 +43,7 @@ pub struct Ticked {
 impl Run {
     pub fn fresh(table: Table) -> Run {
         let dues = vec![vec![]; table.rows.len()];
-        Run {
-            table,
-            clock: 0,
-            pending: vec![],
-            next_serial: 0,
-            dues,
-        }
+        Run { table, clock: 0, pending: vec![], next_serial: 0, dues }
     }
 
     /// A fresh run on the bytes of a table; of the empty table, with the refusal, where they are none.
@@ -83,14 +77,7 @@ impl Run {
             return Err(Reason::DueTooLate);
         }
         earlier.push(due);
-        let job = Job {
-            serial: self.next_serial,
-            row,
-            release: self.clock,
-            due,
-            cost,
-            left: cost,
-        };
+        let job = Job { serial: self.next_serial, row, release: self.clock, due, cost, left: cost };
         self.next_serial += 1;
         self.pending.push(job.clone());
         Ok(job)
@@ -105,10 +92,7 @@ impl Run {
             None => Given::Idle,
             Some(job) => {
                 job.left -= 1;
-                Given::Ran {
-                    serial: job.serial,
-                    finished: job.left == 0,
-                }
+                Given::Ran { serial: job.serial, finished: job.left == 0 }
             }
         };
         self.pending.retain(|job| job.left > 0);
@@ -141,17 +125,11 @@ mod tests {
     }
 
     fn idle(late: u64) -> Result<Ticked, Reason> {
-        Ok(Ticked {
-            given: Given::Idle,
-            late,
-        })
+        Ok(Ticked { given: Given::Idle, late })
     }
 
     fn ran(serial: u64, finished: bool, late: u64) -> Result<Ticked, Reason> {
-        Ok(Ticked {
-            given: Given::Ran { serial, finished },
-            late,
-        })
+        Ok(Ticked { given: Given::Ran { serial, finished }, late })
     }
 
     #[test]

@@ -38,24 +38,8 @@ mod tests {
     #[test]
     fn yields_one_record_at_a_time() {
         let script = [0, 0, 2, 0xac, 0x02, 1, 3];
-        assert_eq!(
-            record(&script, 0),
-            Ok(Some(Record {
-                gap: 0,
-                row: 0,
-                cost: 2,
-                after: 3
-            }))
-        );
-        assert_eq!(
-            record(&script, 3),
-            Ok(Some(Record {
-                gap: 300,
-                row: 1,
-                cost: 3,
-                after: 7
-            }))
-        );
+        assert_eq!(record(&script, 0), Ok(Some(Record { gap: 0, row: 0, cost: 2, after: 3 })));
+        assert_eq!(record(&script, 3), Ok(Some(Record { gap: 300, row: 1, cost: 3, after: 7 })));
         assert_eq!(record(&script, 7), Ok(None));
         assert_eq!(record(&[], 0), Ok(None));
     }

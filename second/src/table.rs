@@ -28,10 +28,7 @@ pub struct Table {
 
 impl Table {
     pub fn empty() -> Table {
-        Table {
-            rows: vec![],
-            period: 1,
-        }
+        Table { rows: vec![], period: 1 }
     }
 
     pub fn row(&self, number: u64) -> Option<&Row> {
@@ -58,12 +55,7 @@ pub fn read(bytes: &[u8]) -> Result<Table, Refusal> {
     };
     let mut rows = vec![];
     for _ in 0..count {
-        rows.push(Row {
-            x: value(MOST_X)?,
-            y: value(MOST_Y)?,
-            d: value(MOST_D)?,
-            c: value(MOST_C)?,
-        });
+        rows.push(Row { x: value(MOST_X)?, y: value(MOST_Y)?, d: value(MOST_D)?, c: value(MOST_C)? });
     }
     if place < bytes.len() {
         return Err(Reason::BytesAfterLastRow.at(place));
@@ -108,10 +100,7 @@ pub mod tests {
     #[test]
     fn reads_the_examples() {
         assert_eq!(read(&[0]), Ok(Table::empty()));
-        let v2 = Table {
-            rows: vec![Row { x: 1, y: 2, d: 6, c: 1 }],
-            period: 2,
-        };
+        let v2 = Table { rows: vec![Row { x: 1, y: 2, d: 6, c: 1 }], period: 2 };
         assert_eq!(read(&[1, 1, 2, 6, 1]), Ok(v2));
         assert_eq!(read(&spell(&[[1, 4, 4, 2], [1, 6, 6, 3]])).unwrap().period, 12);
     }
@@ -169,15 +158,10 @@ pub mod tests {
 
     #[test]
     fn the_longest_period() {
-        assert_eq!(
-            read(&spell(&[[1, 1_023, 1, 1], [1, 1_025, 1, 1]])).unwrap().period,
-            1_048_575
-        );
+        assert_eq!(read(&spell(&[[1, 1_023, 1, 1], [1, 1_025, 1, 1]])).unwrap().period, 1_048_575);
         let above = spell(&[[1, 1_141, 1, 1], [1, 919, 1, 1]]);
         assert_eq!(refused(&above), (5, above.len()));
-        let primes = [
-            4_093, 4_091, 4_079, 4_073, 4_057, 4_051, 4_049, 4_027, 4_021, 4_019, 4_013, 4_007, 4_003, 4_001,
-        ];
+        let primes = [4_093, 4_091, 4_079, 4_073, 4_057, 4_051, 4_049, 4_027, 4_021, 4_019, 4_013, 4_007, 4_003, 4_001];
         let far_above = spell(&primes.map(|y| [1, y, 1, 1]));
         assert_eq!(refused(&far_above), (5, far_above.len()));
     }

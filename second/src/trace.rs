@@ -39,15 +39,10 @@ pub fn trace(table: &[u8], calls: &[Call]) -> Vec<Answer> {
 
 fn play(run: &mut Run, call: Call) -> Answer {
     let answer = match call {
-        Call::Release { row, cost } => run
-            .release(row, cost)
-            .map(|job| [kind::RELEASED, job.serial, job.due, 0]),
+        Call::Release { row, cost } => run.release(row, cost).map(|job| [kind::RELEASED, job.serial, job.due, 0]),
         Call::Tick => run.tick().map(|ticked| match ticked.given {
             Given::Idle => [kind::IDLE, 0, 0, ticked.late],
-            Given::Ran {
-                serial,
-                finished: false,
-            } => [kind::RAN, serial, 0, ticked.late],
+            Given::Ran { serial, finished: false } => [kind::RAN, serial, 0, ticked.late],
             Given::Ran { serial, finished: true } => [kind::FINISHED, serial, 0, ticked.late],
         }),
     };
@@ -61,14 +56,7 @@ mod tests {
     #[test]
     fn every_kind_of_answer() {
         let release = |row, cost| Call::Release { row, cost };
-        let calls = [
-            Call::Tick,
-            release(0, 2),
-            release(1, 1),
-            release(0, 3),
-            Call::Tick,
-            Call::Tick,
-        ];
+        let calls = [Call::Tick, release(0, 2), release(1, 1), release(0, 3), Call::Tick, Call::Tick];
         let v7_with_cost_2 = [1, 2, 1, 1, 2];
         assert_eq!(
             trace(&v7_with_cost_2, &calls),
@@ -87,11 +75,7 @@ mod tests {
     #[test]
     fn a_refused_table_is_answered_and_played_as_the_empty_one() {
         let calls = [Call::Release { row: 0, cost: 1 }, Call::Tick];
-        let answers = [
-            [kind::REFUSED, 4, 1, 0],
-            [kind::REFUSED, 6, 0, 0],
-            [kind::IDLE, 0, 0, 0],
-        ];
+        let answers = [[kind::REFUSED, 4, 1, 0], [kind::REFUSED, 6, 0, 0], [kind::IDLE, 0, 0, 0]];
         assert_eq!(trace(&[0, 0], &calls), answers);
     }
 }

@@ -30,23 +30,14 @@ pub fn demand(rows: &[Row], length: u64) -> u64 {
 /// From the largest d on everything repeats: a period H later there is the same step again, with a fixed demand more.
 /// So one period's steps tell of every later period whether and when that step fails.
 pub fn verdict(table: &Table) -> Verdict {
-    let per_period: u64 = table
-        .rows
-        .iter()
-        .map(|row| row.x * row.c * (table.period / row.y))
-        .sum();
+    let per_period: u64 = table.rows.iter().map(|row| row.x * row.c * (table.period / row.y)).sum();
     let gain = per_period.saturating_sub(table.period);
     let largest_d = table.largest_d();
 
     let mut next_step: Vec<u64> = table.rows.iter().map(|row| row.d).collect();
     let mut demand = 0;
     let mut earliest_later = None;
-    while let Some(length) = next_step
-        .iter()
-        .copied()
-        .min()
-        .filter(|&step| step <= largest_d + table.period)
-    {
+    while let Some(length) = next_step.iter().copied().min().filter(|&step| step <= largest_d + table.period) {
         for (row, step) in table.rows.iter().zip(&mut next_step) {
             if *step == length {
                 demand += row.x * row.c;
@@ -98,25 +89,16 @@ mod tests {
     fn demand_starts_at_d() {
         let v3 = table_of(&[[1, 4, 4, 2], [1, 6, 6, 3]]).rows;
         let at = |length| demand(&v3, length);
-        assert_eq!(
-            [at(1), at(3), at(4), at(5), at(6), at(8), at(12)],
-            [0, 0, 2, 2, 5, 7, 12]
-        );
+        assert_eq!([at(1), at(3), at(4), at(5), at(6), at(8), at(12)], [0, 0, 2, 2, 5, 7, 12]);
     }
 
     /// From the definitions: every length from 1 up, to the bound past which nothing new can happen.
     fn verdict_by_definition(table: &Table) -> Verdict {
         let per_period: u64 = table.rows.iter().map(|row| row.x * row.c * table.period / row.y).sum();
-        let periods = if per_period <= table.period {
-            1
-        } else {
-            table.largest_d() + 1
-        };
+        let periods = if per_period <= table.period { 1 } else { table.largest_d() + 1 };
         (1..=periods * table.period + table.largest_d())
             .find(|&length| demand(&table.rows, length) > length)
-            .map_or(Verdict::Feasible, |length| {
-                overloaded(length, demand(&table.rows, length))
-            })
+            .map_or(Verdict::Feasible, |length| overloaded(length, demand(&table.rows, length)))
     }
 
     #[test]
@@ -143,20 +125,7 @@ mod tests {
         else {
             panic!("feasible");
         };
-        let rows = [
-            Row {
-                x: 1,
-                y: 1_023,
-                d: 16_384,
-                c: 1_023,
-            },
-            Row {
-                x: 1,
-                y: 1_025,
-                d: 16_384,
-                c: 1,
-            },
-        ];
+        let rows = [Row { x: 1, y: 1_023, d: 16_384, c: 1_023 }, Row { x: 1, y: 1_025, d: 16_384, c: 1 }];
         assert!(length > 10 * (1_048_575 + 16_384));
         assert_eq!(demand(&rows, length), stated);
         assert!((1..length).all(|shorter| demand(&rows, shorter) <= shorter));
