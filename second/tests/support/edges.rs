@@ -189,6 +189,8 @@ fn edge_records() -> Vec<(Vec<Row>, Vec<Record>)> {
         // On time to the tick, and one tick late.
         (vec![[2, 1, 1, 1]], vec![[0, 0, 1]]),
         (vec![[2, 1, 1, 1]], vec![[0, 0, 1], [0, 0, 1]]),
+        // The last record is shorter than those before it: nine bytes less of log and it still fits, but they don't.
+        (vec![[1, 1, 16_000, 1], [64, 1, 1, 1]], [&[[0, 0, 1], [0, 1, 1]][..], &[[1, 1, 1]; 139]].concat()),
         // Serials and times of three groups, and due times far past their releases.
         (vec![[64, 80, 8, 1]], vec![[1, 0, 1]; 20_000]),
         // Equal due times go by serial.
