@@ -5,6 +5,9 @@ use std::path::{Path, PathBuf};
 
 fn main() {
     link("JYRMEKKO_LIB", "libhost.a");
+    if env::var_os("CARGO_FEATURE_PROBE").is_some() {
+        link("JYRMEKKO_PROBE", "libprobe.a");
+    }
 }
 
 fn link(variable: &str, file: &str) {

@@ -43,6 +43,10 @@ impl Fenced {
         self.bytes[self.start..self.start + self.length].to_vec()
     }
 
+    pub fn same_whole_as(&self, earlier: &Fenced) -> bool {
+        self.bytes == earlier.bytes
+    }
+
     pub fn same_fence_as(&self, earlier: &Fenced) -> bool {
         let fence = |of: &Fenced| [&of.bytes[..of.start], &of.bytes[of.start + of.length..]].concat();
         fence(self) == fence(earlier)
