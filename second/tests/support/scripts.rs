@@ -117,7 +117,7 @@ pub fn spoil_a_value(rows: &[Row], records: &mut [Record], random: &mut Random) 
     }
     let record = random.index(records.len());
     let count = rows.len() as u64;
-    let c = rows.get(records[record][1] as usize).map_or(1, |row| row[3]);
+    let c = rows.get(records[record][1] as usize).map_or(1, |row| row[3].min(MOST_C));
     let [gap, row, cost] = &mut records[record];
     match random.below(3) {
         0 => *gap = random.pick(&[LAST_TICK, LAST_TICK + 1, 2 * LAST_TICK, 4 * LAST_TICK - 1]),
