@@ -1,2 +1,3 @@
-pub mod Logging
 pub mod Playing
+pub mod Logging
+pub mod Replaying
