@@ -1,6 +1,7 @@
 pub mod Writing
 pub mod Logging
 pub mod Playing
+pub mod Replaying
 pub mod Through
 pub mod Moves
 pub mod Lateness

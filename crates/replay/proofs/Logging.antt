@@ -1,16 +1,16 @@
 -- What is written of a log: all records while they fit, and from the first that does not on the log is full. (docs/RULES.md, sections 8.8 to 8.16.)
 use Prim.Native.Nat.{ℕ, _+_, _-_, _≤_, _<_}
-use mathlib.Core.Path.{_≡_, refl, sym, ap, _∙_}
+use mathlib.Core.Path.{_≡_, refl, sym, _∙_}
 use mathlib.Core.Bool.{true, false, cond}
 use mathlib.Core.List.{List, [], _∷_, _++_, flatten, append-nil, append-assoc, List·Memᴰ·head, List·Memᴰ·tail}
-use native.Mathlib.Nat.{add-zero, add-assoc}
+use native.Mathlib.Nat.{add-assoc}
 use native.Mathlib.Omega.{arith}
-use lib.ListN.{length, take, drop, length-append, take-append-drop}
+use lib.ListN.{length, length-append, take-append-drop}
 use borrow.Author.Tests.{le-leb, lt-leb, eq-eqb, ne-eqb}
 use Rattle.theory.proofs.Cases.{by-lt, by-test}
 use Rattle.kinds.specs.declared.Finish.{Finish}
 use Rattle.kinds.specs.declared.Refusal.the-variants.{NoRoom}
-use Rattle.log.specs.Log.{valuesOf, spelledFinish, allInRange, writtenRecord}
+use Rattle.log.specs.Log.{valuesOf, spelledFinish, allInRange}
 use Rattle.log.specs.Laws.{spelledLog, EachInRange, Holds}
 use Rattle.log.proofs.Records.{answers-no-room, answers-length}
 use Rattle.log.proofs.Laws.{log-grows}
@@ -101,6 +101,7 @@ module _ {fs : List Finish} {log₀ log : List ℕ} {l : Logged} (w : Logs fs lo
           no-room = λ e. omega (arith, known .up-to, known .within, known .same-length, length-of-one-more fs f);
         })
 
+  -- One of the three.
   logs-one-more : Logs (fs ++ (f ∷ [])) log₀ (oneWritten l f log) (oneLogged (length log) l f)
   logs-one-more =
       by-test (l .full) logs-full λ not-full.
@@ -108,6 +109,7 @@ module _ {fs : List Finish} {log₀ log : List ℕ} {l : Logged} (w : Logs fs lo
 
 -- ---- many more
 
+-- So it goes for as many as finish.
 pub logs-more : {fs : List Finish} {log₀ log : List ℕ} {l : Logged} (gs : List Finish) → Logs fs log₀ log l → EachInRange gs
     → Logs (fs ++ gs) log₀ (logWith l gs log) (loggedAfter (length log) l gs)
 unfolding logWith loggedAfter
@@ -121,6 +123,7 @@ logs-more {fs} {log₀} {log} {l} (g ∷ gs) w r =
 -- ---- the answer, once all have finished
 
 module _ {log₀ log : List ℕ} {l : Logged} (p : Progress) (w : Logs (p .since .finishes) log₀ log l) (end : ℕ) where
+  -- The jobs that finished.
   abbrev all : List Finish
   all = p .since .finishes
 
@@ -128,8 +131,9 @@ module _ {log₀ log : List ℕ} {l : Logged} (p : Progress) (w : Logs (p .since
   pub answers-full : l .full ≡ true → answerOf (length log₀) end (whole p) ≡ replayed.Refused (record { refusal = NoRoom; place = end })
   answers-full full = rw (lt-leb (length (spelledLog all)) (length log₀) (w .no-room full))
 
-  -- It had ..
+  -- It had room for them ..
   module _ (not-full : l .full ≡ false) where
+    -- (so that the log holds them) ..
     abbrev held : Holds all log₀ log (l .length)
     held = w .holds not-full
 

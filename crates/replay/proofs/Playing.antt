@@ -1,22 +1,21 @@
 -- A replay on its way: what ticks keep, one by one and from any point on, and that a record and the final ticks by the run's own calls are those by single
 -- ticks. (docs/RULES.md, sections 8.1 to 8.7.)
-use Prim.Native.Nat.{ℕ, zero, suc, _+_, _-_, _^_, _≤_, _<_}
+use Prim.Native.Nat.{ℕ, zero, suc, _+_, _-_, _≤_, _<_}
 use mathlib.Core.Path.{_≡_, refl, sym, ap, _∙_}
 use mathlib.Core.Logic.{⊎-elim}
-use mathlib.Core.Bool.{Bool, true, false, cond, _&&_}
+use mathlib.Core.Bool.{Bool, true, false, cond}
 use mathlib.Core.List.{List, [], _∷_, _++_, append-nil, append-assoc, List·Memᴰ·append-cases, List·Memᴰ·eq-of-singleton, List·Memᴰ·not-nil}
 use native.Mathlib.Nat.{zero-add, add-zero, add-assoc}
 use native.Mathlib.Omega.{arith}
-use lib.Dec.{leb, ltb, eqb}
-use lib.ListN.{length, getD, replicate, length-append, length-set}
+use lib.Dec.{eqb}
+use lib.ListN.{length, getD, length-append, length-set}
 use lib.Seq.{take-append-seam}
-use borrow.Author.Tests.{leb-true, le-leb, lt-leb, lt-ltb, le-ltb, eq-eqb, ne-eqb}
-use Rattle.theory.proofs.Cases.{by-lt, by-eq, by-test}
+use borrow.Author.Tests.{leb-true, le-leb, lt-ltb, le-ltb}
+use Rattle.theory.proofs.Cases.{by-lt, by-test}
 use Rattle.kinds.specs.Numbering.{maxTime}
 use Rattle.kinds.specs.declared.Finish.{Finish}
 use Rattle.kinds.specs.declared.Refusal.{Refusal}
-use Rattle.kinds.specs.declared.Refusal.the-variants.{TimeTooLate, NoRoom}
-use Rattle.kinds.specs.declared.RefusedAt.{RefusedAt}
+use Rattle.kinds.specs.declared.Refusal.the-variants.{TimeTooLate}
 use Rattle.numbers.specs.Spelling.{maxNumber}
 use Rattle.numbers.specs.Laws.{Bytes}
 use Rattle.numbers.specs.declared.Number.{Number}
@@ -31,21 +30,17 @@ use Rattle.jobs.specs.Turns.{firstJob, finishAt, finishesOf}
 use Rattle.jobs.specs.Laws.{unitAt}
 use Rattle.jobs.proofs.Laws.{first-is-there, place-holds-job, without-is-one-less}
 use Rattle.run.specs.declared.Run.{Run}
-use Rattle.run.specs.declared.Started.{Started}
-use Rattle.run.specs.declared.StartAnswer.the-variants as start
 use Rattle.run.specs.declared.Accepted.{Accepted}
 use Rattle.run.specs.declared.Released.{Released}
 use Rattle.run.specs.declared.ReleaseStep.{ReleaseStep}
-use Rattle.run.specs.declared.Advanced.{Advanced}
 use Rattle.run.specs.declared.AdvanceAnswer.{AdvanceAnswer}
 use Rattle.run.specs.declared.AdvanceAnswer.the-variants as advance
 use Rattle.run.specs.declared.Released.the-variants as release
-use Rattle.run.specs.Runs.{rowInUse, costLimit, started}
-use Rattle.run.specs.Sound.{fromOneTo, soundOf, SoundJob, Whole}
-use Rattle.run.specs.Ticking.{ticked}
+use Rattle.run.specs.Runs.{rowInUse, costLimit}
+use Rattle.run.specs.Sound.{fromOneTo, SoundJob}
+use Rattle.run.specs.Ticking.{runWith, ticked}
 use Rattle.run.specs.Release.{newJob, released}
 use Rattle.run.specs.Advance.{finishedBy, Since, oneMore, ticks, ticksWhilePending, sinceNow, done, refused, advanced, drainedTo, drained}
-use Rattle.run.proofs.Fresh.{started-is-sound}
 use Rattle.run.proofs.Release.{each-release, release-keeps-sound}
 use Rattle.run.proofs.Ticking.{Good, facts, counted, tick-idle, tick-busy, tick-keeps-good, tick-gives-one-unit}
 use Rattle.log.specs.Log.{valuesOf, allInRange}
@@ -58,19 +53,12 @@ use Rattle.replay.specs.declared.Numbers.{Numbers}
 use Rattle.replay.specs.declared.Ready.{Ready}
 use Rattle.replay.specs.declared.Tested.{Tested}
 use Rattle.replay.specs.declared.Tested.the-variants as tested
-use Rattle.replay.specs.declared.Logged.{Logged}
-use Rattle.replay.specs.declared.LateJobs.{LateJobs}
-use Rattle.replay.specs.declared.Replayed.{Replayed}
-use Rattle.replay.specs.declared.Replayed.the-variants as replayed
-use Rattle.replay.specs.declared.Stepped.{Stepped}
 use Rattle.replay.specs.declared.StepAnswer.{StepAnswer}
 use Rattle.replay.specs.declared.StepAnswer.the-variants as answer
 use Rattle.replay.specs.Numbers.{numbersAt, onNumber, refusedAt, testedNumbers}
-use Rattle.replay.specs.Play.{Progress, begun, goes-on, stops, afterRelease, tickedTo, releasedAt, stepped}
-use Rattle.replay.specs.Play.{whole, stopped, endedAt, finalTicks, andThen, playedFrom, playedOn, onceStarted, played}
-use Rattle.replay.specs.Outcome.{finishedIn, answerOf, replayOf, logAfter}
-use Rattle.replay.specs.Inside.{afterReleased, stepOf, finishesIn, loggedAfter, logWith, LeftIn}
-use Rattle.replay.proofs.Logging.{Logs, logs-none, late-are-few, logs-more, answers-full, answers-in-time, answers-late}
+use Rattle.replay.specs.Play.{Progress, goes-on, stops, afterRelease, tickedTo, releasedAt, stepped}
+use Rattle.replay.specs.Play.{whole, stopped, endedAt, finalTicks}
+use Rattle.replay.specs.Inside.{afterReleased, stepOf, finishesIn}
 
 -- ---- ticks from any point on
 
@@ -80,7 +68,7 @@ behind s t = record { run = t .run; late = s .late + t .late; finishes = s .fini
 
 -- What is behind one tick more is behind that tick, which is behind what had happened.
 one-more-behind : (s t : Since) → behind (oneMore s) t ≡ behind s (behind (oneMore (sinceNow (s .run))) t)
-one-more-behind s t = rw (zero-add, add-assoc, append-assoc)
+one-more-behind s t = rw (zero-add, add-assoc, append-assoc (s .finishes))
 
 -- Ticks from any point on are those from the run alone, behind what had happened.
 pub ticks-behind : (n : ℕ) (s : Since) → ticks n s ≡ behind s (ticks n (sinceNow (s .run)))
@@ -163,21 +151,20 @@ module _ (run : Run) (good : Good run) where
         (λ more. rw more (λ m. absurd (List·Memᴰ·not-nil m)))))
         (λ none. rw (le-ltb 0 (run .pending .count) none) (λ m. absurd (List·Memᴰ·not-nil m)))
 
-    -- The clock goes up by one, and the table and the next serial stay.
-    pub tick-clock : ticked run .run .clock .0 ≡ run .clock .0 + 1
-    tick-clock = by-lt 0 (run .pending .count)
+    -- The clock goes up by one, and of the rest only the pending jobs change.
+    tick-touches : ticked run .run ≡ runWith run (run .clock .0 + 1) (ticked run .run .pending)
+    tick-touches = by-lt 0 (run .pending .count)
         (λ some. rw (tick-busy run (good .0) in-time some))
         (λ none. rw (tick-idle run (good .0) in-time (omega arith)))
+
+    pub tick-clock : ticked run .run .clock .0 ≡ run .clock .0 + 1
+    tick-clock = ap (λ (r : Run). r .clock .0) tick-touches
 
     pub tick-table : ticked run .run .table ≡ run .table
-    tick-table = by-lt 0 (run .pending .count)
-        (λ some. rw (tick-busy run (good .0) in-time some))
-        (λ none. rw (tick-idle run (good .0) in-time (omega arith)))
+    tick-table = ap (λ (r : Run). r .table) tick-touches
 
     pub tick-next : ticked run .run .next ≡ run .next
-    tick-next = by-lt 0 (run .pending .count)
-        (λ some. rw (tick-busy run (good .0) in-time some))
-        (λ none. rw (tick-idle run (good .0) in-time (omega arith)))
+    tick-next = ap (λ (r : Run). r .next) tick-touches
 
 -- ---- many ticks
 
@@ -269,6 +256,7 @@ test-passed : (test : Bool) (then : Tested) (refusal : Refusal) (place : ℕ) {r
 test-passed true then refusal place e = (refl, e)
 test-passed false then refusal place e = absurd (let z : _≡_ {A = ℕ} 0 1 = cc in omega arith)
 
+-- So a record that is ready passed them all.
 pub ready-passed : (t : Table) (time : ℕ) (n : Numbers) (r : Ready) → testedNumbers t time n ≡ tested.Ready r → Passed t time n r
 ready-passed t time n r e =
     let gap = number-passed _ _ e in
@@ -366,6 +354,7 @@ pub record GoesOn (p : Progress) (n : Numbers) (next : ℕ) : Type 0 where
   pub on-its-way : OnItsWay (after .since)
 
 module _ (p : Progress) (way : OnItsWay (p .since)) where
+  -- The run before it.
   abbrev the-run : Run
   the-run = p .since .run
 
@@ -374,9 +363,11 @@ module _ (p : Progress) (way : OnItsWay (p .since)) where
     abbrev crossed : Since
     crossed = ticks (time - the-run .clock .0) (sinceNow the-run)
 
+    -- (The clock has room for them.)
     room : the-run .clock .0 + (time - the-run .clock .0) ≤ maxTime
     room = omega (arith, facts the-run (way .good) .clock-in-time)
 
+    -- They keep what ticks keep, from the run alone and from what had happened.
     crossed-keeps : TicksFrom (sinceNow the-run) crossed
     crossed-keeps = ticks-keep (sinceNow the-run) (time - the-run .clock .0) (way .good) room
 
@@ -385,6 +376,7 @@ module _ (p : Progress) (way : OnItsWay (p .since)) where
         let n = time - the-run .clock .0 in
         rw (← ticks-behind n (p .since)) (on-its-way-ticked way (ticks-keep (p .since) n (way .good) room))
 
+    -- In one go they are an advance, and one by one ticks behind what had happened.
     advanced-so : advanced the-run time ≡ done crossed
     unfolding advanced
     advanced-so = rw (way .good .0, le-leb time maxTime in-time)
@@ -397,8 +389,9 @@ module _ (p : Progress) (way : OnItsWay (p .since)) where
     abbrev place : ℕ
     place = n .gap .place
 
-    -- A record that passed its tests, in time: by the run's calls and by single ticks alike the rest goes by the answer of the release.
+    -- A record that passed its tests: by the run's calls and by single ticks alike the rest goes by the answer of the release.
     module _ (r : Ready) (passed : testedNumbers (the-run .table) (the-run .clock .0) n ≡ tested.Ready r) where
+      -- (Its time is in time, so the ticks until then are, and the release that it asks for comes after them.)
       in-time : r .time .0 ≤ maxTime
       in-time = let known = ready-passed (the-run .table) (the-run .clock .0) n r passed in rw (known .asks-for) (known .in-time)
 
@@ -408,9 +401,11 @@ module _ (p : Progress) (way : OnItsWay (p .since)) where
       abbrev asked : ReleaseStep
       asked = released (until .run) (r .row .0) (r .cost)
 
+      -- By the run's calls, ..
       by-calls : stepOf the-run n ≡ afterReleased place (r .next) (finishesOf (until .finishes)) (asked .run) (asked .answer)
       by-calls = rw (passed, advanced-so (r .time .0) in-time)
 
+      -- .. and by single ticks.
       by-single-ticks : stepped p n ≡ afterRelease place r (record { since = behind (p .since) until; accepted = p .accepted }) (asked .answer)
       unfolding stepped
       by-single-ticks = rw passed (ap (releasedAt place r) (ticked-so (r .time .0) in-time))
@@ -418,7 +413,8 @@ module _ (p : Progress) (way : OnItsWay (p .since)) where
       -- It is accepted ..
       accepted-goes : (a : Accepted) → asked .answer ≡ release.Accepted a → GoesOn p n (r .next)
       accepted-goes a e =
-          let x-is : stepOf the-run n ≡ record { run = asked .run; finishes = finishesOf (until .finishes); answer = answer.Next (r .next) } = by-calls ∙ rw e in
+          let x-is : stepOf the-run n ≡ record { run = asked .run; finishes = finishesOf (until .finishes); answer = answer.Next (r .next) } =
+          by-calls ∙ rw e in
           record {
             ready = r;
             passed = passed;
@@ -484,6 +480,7 @@ pub record ComesToAnEnd (p : Progress) (end : ℕ) : Type 0 where
   pub on-its-way : OnItsWay (after .since)
 
 module _ (p : Progress) (way : OnItsWay (p .since)) (end : ℕ) where
+  -- The run before them.
   abbrev last-run : Run
   last-run = p .since .run
 
@@ -497,6 +494,7 @@ module _ (p : Progress) (way : OnItsWay (p .since)) (end : ℕ) where
   in-room : last-run .clock .0 + drain-room ≤ maxTime
   in-room = omega (arith, facts last-run (way .good) .clock-in-time)
 
+  -- In one go they are a drain, and one by one ticks behind what had happened.
   drained-so : drained last-run ≡ drainedTo at-last
   unfolding drained
   drained-so = rw (way .good .0)
@@ -527,202 +525,3 @@ module _ (p : Progress) (way : OnItsWay (p .since)) (end : ℕ) where
       let x-is : drained last-run ≡ refused at-last TimeTooLate = drained-so ∙ rw some in
       let late-so : drained last-run .answer ≡ advance.Refused TimeTooLate = rw x-is in
       rw late-so (final-so ∙ rw some))
-
--- ---- a script, record by record
-
--- Before the script's end comes a record, and then the rest ..
-record-first : (n : ℕ) (s : List ℕ) (at : ℕ) (p : Progress) → at < length s
-    → playedFrom (suc n) s at p ≡ andThen (stepped p (numbersAt s at)) (λ q next. playedFrom n s next q)
-unfolding playedFrom
-record-first n s at p inside = rw (ne-eqb at (length s) (λ e. omega arith))
-
--- .. and at its end the final ticks.
-ticks-last : (n : ℕ) (s : List ℕ) (at : ℕ) (p : Progress) → at ≡ length s → playedFrom n s at p ≡ finalTicks (length s) p
-unfolding playedFrom
-ticks-last zero s at p e = refl
-ticks-last (suc n) s at p e = rw (eq-eqb at (length s) e)
-
--- How far a play has come at a place of its script, beside the same by single ticks: it leads to the same end.
-pub record Plays (s : List ℕ) (run₀ : Run) (log₀ log : List ℕ) (run : Run) (at : ℕ) (l : Logged) : Type 0 where
-  pub progress : Progress
-  pub left : ℕ
-  pub leads-on : playedFrom left s at progress ≡ playedOn s run₀
-  pub enough : length s ≤ at + left
-  pub within : at ≤ length s
-  pub same-run : run ≡ progress .since .run
-  pub on-its-way : OnItsWay (progress .since)
-  pub logs : Logs (progress .since .finishes) log₀ log l
-
--- A play that came to its end.
-pub record PlaysWhole (s : List ℕ) (run₀ : Run) (log₀ log : List ℕ) (l : Logged) : Type 0 where
-  pub progress : Progress
-  pub ends : playedOn s run₀ ≡ whole progress
-  pub logs : Logs (progress .since .finishes) log₀ log l
-
--- At its start.
-pub plays-first : (s : List ℕ) (run : Run) (log : List ℕ) → Good run → run .next .0 ≡ 0 → run .pending .count ≡ 0
-    → Plays s run log log run 0 (record { length = 0; late = 0; full = false })
-plays-first s run log good e f = record {
-  progress = begun run;
-  left = length s;
-  leads-on = refl;
-  enough = omega arith;
-  within = omega arith;
-  same-run = refl;
-  on-its-way = on-its-way-first run good e f;
-  logs = logs-none log;
-}
-
-module _ {s : List ℕ} {run₀ : Run} {log₀ log : List ℕ} {run : Run} {at : ℕ} {l : Logged} (w : Plays s run₀ log₀ log run at l) where
-  -- The run is sound ..
-  pub plays-sound : soundOf run ≡ true
-  plays-sound = rw (w .same-run) (w .on-its-way .good .0)
-
-  -- .. and no more jobs are late than have a serial.
-  pub few-late : l .late + maxPlaces ≤ 2 ^ 63
-  few-late =
-      let way = w .on-its-way in
-      let known = facts (w .progress .since .run) (way .good) in
-      omega (arith, w .logs .late, late-are-few (w .progress .since .finishes), way .all-there, known .serials, known .clock-in-time, known .few-pending)
-
-  -- Before the script's end comes a record.
-  module _ (inside : at < length s) {x : Stepped} (stepped-so : x ≡ stepOf run (numbersAt s at)) where
-    abbrev its-numbers : Numbers
-    its-numbers = numbersAt s at
-
-    by-its-run : x ≡ stepOf (w .progress .since .run) its-numbers
-    by-its-run = rw (← w .same-run) stepped-so
-
-    one-record : playedOn s run₀ ≡ andThen (stepped (w .progress) its-numbers) (λ q next. playedFrom (w .left - 1) s next q)
-    one-record =
-        let some : w .left ≡ suc (w .left - 1) = omega (arith, w .enough) in
-        sym (w .leads-on) ∙ ap (λ (n : ℕ). playedFrom n s at (w .progress)) some ∙ record-first (w .left - 1) s at (w .progress) inside
-
-    -- One that stops stops the play ..
-    pub plays-stopped : {r : RefusedAt} → x .answer ≡ answer.Refused r → playedOn s run₀ ≡ stopped r
-    plays-stopped {r} e =
-        let so : stepOf (w .progress .since .run) its-numbers .answer ≡ answer.Refused r = rw (← by-its-run) e in
-        one-record ∙ rw (rw so at (step-alike (w .progress) (w .on-its-way) its-numbers))
-
-    module _ {next : ℕ} (goes : x .answer ≡ answer.Next next) where
-      it-goes : GoesOn (w .progress) its-numbers next
-      it-goes =
-          let so : stepOf (w .progress .since .run) its-numbers .answer ≡ answer.Next next = rw (← by-its-run) goes in
-          rw so at (step-alike (w .progress) (w .on-its-way) its-numbers)
-
-      -- .. and after one that goes on it plays on, at a later place.
-      pub few-finished : x .finishes .count ≤ maxPlaces
-      few-finished = rw by-its-run (it-goes .few)
-
-      module _ (bytes : Bytes s) where
-        pub later-place : (at < next) × (next ≤ length s)
-        later-place = next-place s at bytes inside it-goes
-
-        pub plays-next : {l′ : Logged} {log′ : List ℕ} → l′ ≡ loggedAfter (length log) l (finishesIn (x .finishes))
-            → log′ ≡ logWith l (finishesIn (x .finishes)) log → Plays s run₀ log₀ log′ (x .run) next l′
-        plays-next e f =
-          let same-finishes = ap (λ (y : Stepped). finishesIn (y .finishes)) by-its-run in
-          record {
-          progress = it-goes .after;
-          left = w .left - 1;
-          leads-on = sym (one-record ∙ rw (it-goes .by-ticks));
-          enough = omega (arith, w .enough, later-place);
-          within = later-place .1;
-          same-run = ap (λ (y : Stepped). y .run) by-its-run ∙ it-goes .same-run;
-          on-its-way = it-goes .on-its-way;
-          logs = rw (it-goes .handed, ← same-finishes, e, f) (logs-more (finishesIn (x .finishes)) (w .logs) (rw same-finishes (it-goes .in-range)));
-        }
-
-  -- At the script's end come the final ticks.
-  module _ (ended : length s ≤ at) {x : Advanced} (drained-here : x ≡ drained run) where
-    by-last-run : x ≡ drained (w .progress .since .run)
-    by-last-run = rw (← w .same-run) drained-here
-
-    the-end : playedOn s run₀ ≡ finalTicks (length s) (w .progress)
-    the-end = sym (w .leads-on) ∙ ticks-last (w .left) s at (w .progress) (omega (arith, w .within))
-
-    -- The clock stops them ..
-    pub plays-too-long : {r : Refusal} → x .answer ≡ advance.Refused r → playedOn s run₀ ≡ stopped (record { refusal = r; place = length s })
-    plays-too-long {r} e =
-        let so : drained (w .progress .since .run) .answer ≡ advance.Refused r = rw (← by-last-run) e in
-        the-end ∙ (rw so at (drain-alike (w .progress) (w .on-its-way) (length s)))
-
-    -- .. or all jobs have finished.
-    module _ (done-so : x .answer ≡ advance.Done) where
-      it-ends : ComesToAnEnd (w .progress) (length s)
-      it-ends =
-          let so : drained (w .progress .since .run) .answer ≡ advance.Done = rw (← by-last-run) done-so in
-          rw so at (drain-alike (w .progress) (w .on-its-way) (length s))
-
-      pub few-at-last : x .finishes .count ≤ maxPlaces
-      few-at-last = rw by-last-run (it-ends .few)
-
-      pub plays-whole : {l′ : Logged} {log′ : List ℕ} → l′ ≡ loggedAfter (length log) l (finishesIn (x .finishes))
-          → log′ ≡ logWith l (finishesIn (x .finishes)) log → PlaysWhole s run₀ log₀ log′ l′
-      plays-whole e f =
-          let same-finishes = ap (λ (y : Advanced). finishesIn (y .finishes)) by-last-run in
-          record {
-            progress = it-ends .after;
-            ends = the-end ∙ it-ends .by-ticks;
-            logs = rw (it-ends .handed, ← same-finishes, e, f) (logs-more (finishesIn (x .finishes)) (w .logs) (rw same-finishes (it-ends .in-range)));
-          }
-
--- ---- the answer of a play
-
--- What a play answers and leaves of the log is what it is to.
-abbrev pub Ends : (s : List ℕ) (run₀ : Run) (log₀ log : List ℕ) → Replayed → Type 0
-Ends s run₀ log₀ log r = (r ≡ answerOf (length log₀) (length s) (playedOn s run₀)) × LeftIn r (finishedIn (playedOn s run₀)) log₀ log
-
--- A play that was stopped answers the refusal ..
-pub stopped-ends : {s : List ℕ} {run₀ : Run} {log₀ log : List ℕ} {run : Run} {at : ℕ} {l : Logged} → Plays s run₀ log₀ log run at l → (r : RefusedAt)
-    → playedOn s run₀ ≡ stopped r → Ends s run₀ log₀ log (replayed.Refused r)
-stopped-ends w r e = (rw e, w .logs .same-length)
-
-module _ {s : List ℕ} {run₀ : Run} {log₀ log : List ℕ} {l : Logged} (w : PlaysWhole s run₀ log₀ log l) where
-  -- .. and one that came to its end 12 ..
-  pub full-ends : l .full ≡ true → Ends s run₀ log₀ log (replayed.Refused (record { refusal = NoRoom; place = length s }))
-  full-ends full = rw (w .ends) (sym (answers-full (w .progress) (w .logs) (length s) full), w .logs .same-length)
-
-  module _ (not-full : l .full ≡ false) where
-    -- .. or else 22 ..
-    pub in-time-ends : l .late ≡ 0 → Ends s run₀ log₀ log (replayed.InTime (l .length))
-    in-time-ends none = rw (w .ends) (sym (answers-in-time (w .progress) (w .logs) (length s) not-full none), w .logs .holds not-full .stands)
-
-    -- .. or 23.
-    pub late-ends : (l .late ≡ 0 → ⊥) → Ends s run₀ log₀ log (replayed.Late (record { length = l .length; late = l .late }))
-    late-ends some = rw (w .ends) (sym (answers-late (w .progress) (w .logs) (length s) not-full some), w .logs .holds not-full .stands)
-
--- ---- the answer of a replay
-
--- What a replay answers and leaves of the log is what it is to.
-abbrev pub Replays : (t s log₀ log : List ℕ) → Replayed → Type 0
-Replays t s log₀ log r = (r ≡ replayOf t s (length log₀)) × (log ≡ logAfter r (finishedIn (played t s)) log₀)
-
-module _ (t s log₀ : List ℕ) {x : Started} (starts : x ≡ started t) where
-  -- The run that is started can be played on.
-  pub started-ready : Bytes t → Whole (x .run) × (soundOf (x .run) ≡ true) × (x .run .next .0 ≡ 0) × (x .run .pending .count ≡ 0)
-  started-ready bytes = let good = started-is-sound t bytes in rw starts (good .1, good .0, refl, refl)
-
-  by-start : played t s ≡ onceStarted s (x .run) (x .answer)
-  unfolding played
-  by-start = ap (λ (y : Started). onceStarted s (y .run) (y .answer)) (sym starts)
-
-  -- A table that is refused stops the replay at once ..
-  pub table-refused : {r : RefusedAt} {log : List ℕ} → x .answer ≡ start.Refused r → log ≡ replicate (length log₀) 0
-      → Replays t s log₀ log (replayed.Refused r)
-  table-refused {r} e zeros = let so : played t s ≡ stopped r = by-start ∙ rw e in (rw so, zeros)
-
-  -- .. and on any other the script is played, and after a refusal the log cleared.
-  module _ (ready : x .answer ≡ start.Ready) (log : List ℕ) {out : Replayed} (ends : Ends s (x .run) log₀ log out) where
-    played-so : played t s ≡ playedOn s (x .run)
-    played-so = by-start ∙ rw ready
-
-    pub replay-in-time : {n : ℕ} → out ≡ replayed.InTime n → Replays t s log₀ log (replayed.InTime n)
-    replay-in-time e = rw played-so (rw e at ends)
-
-    pub replay-late : {l : LateJobs} → out ≡ replayed.Late l → Replays t s log₀ log (replayed.Late l)
-    replay-late e = rw played-so (rw e at ends)
-
-    pub replay-refused : {r : RefusedAt} {cleared : List ℕ} → out ≡ replayed.Refused r → cleared ≡ replicate (length log) 0
-        → Replays t s log₀ cleared (replayed.Refused r)
-    replay-refused e zeros = let stops-so = rw e at ends in (rw played-so (stops-so .0), rw (← stops-so .1) zeros)

@@ -1,22 +1,17 @@
--- `replay::play` meets its contract.
+-- `replay::play` meets its contract. The loop's invariant: the play has come as far as the one by single ticks, and leads to the same end. The measure is what
+-- is left of the script.
 use Prim.Native.Nat.{_-_}
 use native.Mathlib.Omega.{arith}
-use mathlib.Core.Path.{_≡_, refl, sym, ap, _∙_}
+use mathlib.Core.Path.{_≡_, ap, _∙_}
 use lib.ListN.{length}
 use borrow.Author.Needs.{needs}
-use Rattle.replay.proofs.Playing.{Plays, plays-first, plays-sound, few-late, plays-stopped, few-finished, later-place, plays-next}
-use Rattle.replay.proofs.Playing.{PlaysWhole, plays-too-long, few-at-last, plays-whole, stopped-ends, full-ends, in-time-ends, late-ends}
 use Rattle.numbers.specs.Laws.{Bytes}
 use Rattle.replay.specs.Numbers.{numbersAt}
 use Rattle.replay.specs.Inside.{stepOf}
+use Rattle.replay.proofs.Replaying.{Plays, plays-first, plays-sound, few-late, plays-stopped, few-finished, later-place, plays-next}
+use Rattle.replay.proofs.Replaying.{PlaysWhole, plays-too-long, few-at-last, plays-whole, stopped-ends, full-ends, in-time-ends, late-ends}
 use Rattle.replay.proofs.play.Statement.{statement}
 use Rattle.replay.proofs.play.Tie as tie
-use Rattle.replay.proofs.play.Reads as reads
-use Rattle.replay.proofs.play.Lts as lts
-use Rattle.replay.proofs.log_finishes.Reads as log-finishes-reads
-use Rattle.replay.proofs.numbers_at.Reads as numbers-at-reads
-use Rattle.replay.proofs.step.Reads as step-reads
-use Rattle.run.proofs.Run.drain.Reads as drain-reads
 
 abbrev Inv-loop : tie.InvT-loop
 Inv-loop script log₀ run₀ at₀ logged₀ log run at logged = Plays script run₀ log₀ log run at logged
@@ -66,24 +61,30 @@ same-length c = c .before .before .before .before .before .before .before .befor
 
 returns : tie.Need-returns Inv-loop μ-loop
 returns c =
-    let w = c .before .before .before .before .before .before .before .before .loop .inv in
-    stopped-ends w _ (plays-stopped w (omega arith) (its-step (c .before .before .before .before .before)) (c .before .answer2 .given .1))
+    let step = c .before .before .before .before .before in
+    let w = step .before .before .before .loop .inv in
+    stopped-ends w _ (plays-stopped w (omega arith) (its-step step) (c .before .answer2 .given .1))
 
 log-finishes-requires : tie.Need-log-finishes-requires Inv-loop μ-loop
 log-finishes-requires c κs =
-    let w = c .before .before .before .before .before .before .before .before .before .loop .inv in
-    (few-finished w (omega arith) (its-step (c .before .before .before .before .before .before)) (c .before .before .answer .given .1), w .logs .within, few-late w)
+    let step = c .before .before .before .before .before .before in
+    let w = step .before .before .before .loop .inv in
+    (few-finished w (omega arith) (its-step step) (c .before .before .answer .given .1), w .logs .within, few-late w)
 
 loop-less : tie.Need-loop-less Inv-loop μ-loop
 loop-less c =
-    let w = c .before .before .before .before .before .before .before .before .before .before .before .before .loop .inv in
-    omega (arith, later-place w (omega arith) (its-step (c .before .before .before .before .before .before .before .before .before)) (c .before .before .before .before .before .answer .given .1) (bytes (c .before .before .before .before .before .before .before .before .before .before .before .before .before .before)))
+    let answered = c .before .before .before .before .before in
+    let step = answered .before .before .before .before in
+    let at-loop = step .before .before .before in
+    omega (arith, later-place (at-loop .loop .inv) (omega arith) (its-step step) (answered .answer .given .1) (bytes (at-loop .before .before)))
 
 loop-again : tie.Need-loop-again Inv-loop μ-loop
 loop-again c =
-    let w = c .before .before .before .before .before .before .before .before .before .before .before .before .loop .inv in
+    let answered = c .before .before .before .before .before in
+    let step = answered .before .before .before .before in
+    let at-loop = step .before .before .before in
     let e = c .before .before .log-finishes .ensures in
-    plays-next w (omega arith) (its-step (c .before .before .before .before .before .before .before .before .before)) (c .before .before .before .before .before .answer .given .1) (bytes (c .before .before .before .before .before .before .before .before .before .before .before .before .before .before)) (e .0) (e .1)
+    plays-next (at-loop .loop .inv) (omega arith) (its-step step) (answered .answer .given .1) (bytes (at-loop .before .before)) (e .0) (e .1)
 
 drain-requires : tie.Need-drain-requires Inv-loop μ-loop
 drain-requires c κs = search needs
