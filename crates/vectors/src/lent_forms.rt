@@ -1,8 +1,10 @@
 // The forms by reference: a whole trace through a lent run and a whole script through the reader that holds it, side by side with the calls by value.
 // (docs/RULES.md, sections 6 and 7.)
 use crate::print;
+use kinds::RowNumber;
 use run::ReleaseStep;
 use run::Released;
+use run::Run;
 use run::TickStep;
 use run::Ticked;
 use script::RecordRead;
@@ -22,66 +24,96 @@ pub fn all() {
     );
 }
 
-// Two runs of one table: one is lent for each call, the other handed over; and two places in one script.
+// Two runs of one table: one is lent for each call, the other handed over. `same` says whether all their answers were the same so far.
+struct Pair {
+    lent: Run,
+    handed: Run,
+    same: bool,
+}
+
+// A whole script, read through the reader and by its places; of each record the ticks of its gap and its release.
 fn side_by_side(name: &[u8], table: &[u8], script: &[u8]) {
     let started = run::start(table);
-    let mut lent = started.run;
-    let mut handed = started.run;
+    let run = started.run;
+    let mut pair = Pair {
+        lent: run,
+        handed: run,
+        same: true,
+    };
     let mut at: usize = 0;
-    let mut records: u64 = 0;
-    let mut differ: u64 = 0;
     let mut i: usize = 0;
     while i < 8 {
         let yielded = reader::read_through(script, at);
         let found = yielded.found;
-        let there = script::record_at(script, at);
-        if !same_record(found, there) {
-            differ += 1;
-        }
-        match found {
-            RecordRead::Record(record) => {
-                let release = record.release;
-                let row = release.row;
-                records += 1;
-                let mut gap: u64 = 0;
-                while gap < 8 {
-                    if gap < release.gap {
-                        let step = lent::tick_lent(lent);
-                        let by_value = handed.tick();
-                        if !same_tick(step, by_value) {
-                            differ += 1;
-                        }
-                        lent = step.run;
-                        handed = by_value.run;
-                    }
-                    gap += 1;
-                }
-                let step = lent::release_lent(lent, row, release.cost);
-                let by_value = handed.release(row, release.cost);
-                if !same_release(step, by_value) {
-                    differ += 1;
-                }
-                lent = step.run;
-                handed = by_value.run;
-            }
-            RecordRead::End => {}
-            RecordRead::Refused(_) => {}
-        }
+        let same = same_record(found, script::record_at(script, at));
+        pair = after_record(pair, found, same);
         at = yielded.at;
         i += 1;
     }
+    report(name, pair, at, script.len());
+}
+
+fn after_record(pair: Pair, found: RecordRead, same: bool) -> Pair {
+    let mut after = pair;
+    after.same = pair.same & same;
+    match found {
+        RecordRead::Record(record) => {
+            let release = record.release;
+            let row = release.row;
+            after_release(after_ticks(after, release.gap), row, release.cost)
+        }
+        RecordRead::End => after,
+        RecordRead::Refused(_) => after,
+    }
+}
+
+fn after_ticks(pair: Pair, gap: u64) -> Pair {
+    let mut after = pair;
+    let mut i: u64 = 0;
+    while i < gap {
+        after = after_tick(after);
+        i += 1;
+    }
+    after
+}
+
+fn after_tick(pair: Pair) -> Pair {
+    let step = lent::tick_lent(pair.lent);
+    let by_value = pair.handed.tick();
+    let lent = step.run;
+    let handed = by_value.run;
+    let same = pair.same & same_tick(step, by_value);
+    Pair { lent, handed, same }
+}
+
+fn after_release(pair: Pair, row: RowNumber, cost: u64) -> Pair {
+    let step = lent::release_lent(pair.lent, row, cost);
+    let by_value = pair.handed.release(row, cost);
+    let lent = step.run;
+    let handed = by_value.run;
+    let same = pair.same & same_release(step, by_value);
+    Pair { lent, handed, same }
+}
+
+// `V3: lent, clock 7, pending 0, script read to 15 of 17, all answers as by value`
+fn report(name: &[u8], pair: Pair, at: usize, length: usize) {
+    let run = pair.lent;
+    let clock = run.clock;
+    let pending = run.pending;
     print::text(name);
     print::text(b": lent, clock ");
-    let clock = lent.clock;
     print::number(clock.0);
-    print::text(b", records ");
-    print::number(records);
+    print::text(b", pending ");
+    print::number(pending.count as u64);
     print::text(b", script read to ");
     print::number(at as u64);
     print::text(b" of ");
-    print::number(script.len() as u64);
-    print::text(b", answers that differ ");
-    print::number(differ);
+    print::number(length as u64);
+    if pair.same {
+        print::text(b", all answers as by value");
+    } else {
+        print::text(b", an answer differs");
+    }
     print::line_end();
 }
 

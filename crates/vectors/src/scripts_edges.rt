@@ -98,7 +98,7 @@ fn script_name(which: Which) {
 }
 
 // `choose of 01 00 02 at 0 and 02 01 03 at 0: first, part 01 00 02`
-fn choose(first: &[u8], second: &[u8], first_time: u64, second_time: u64) {
+fn choose<'a>(first: &'a [u8], second: &'a [u8], first_time: u64, second_time: u64) {
     print::text(b"choose of");
     print::bytes(first);
     print::text(b" at ");
