@@ -8,6 +8,7 @@ pub mod Share
 pub mod InTime
 pub mod Choice
 pub mod Refusals
+pub mod AtHost
 pub mod Recurrence
 pub mod NoOrder
 pub mod Paper
