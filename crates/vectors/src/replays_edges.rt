@@ -17,7 +17,7 @@ fn examples() {
     r1(b"R1", &mut [0xEE; 16]);
     on_v3(b"no records", b"", &mut [0xEE; 4]);
     replay(b"no rows and no records", b"\x00", b"", &mut [0xEE; 4]);
-    // two jobs of one row, the second too late: due at 1 and 2, with a cost of 2 each
+    // two jobs of one row, both due at 1, with a cost of 2 each
     replay(
         b"late jobs",
         b"\x01\x02\x01\x01\x02",

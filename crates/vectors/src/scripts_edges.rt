@@ -32,9 +32,9 @@ fn records() {
 fn choices() {
     choose(b"\x01\x00\x02", b"\x02\x01\x03", 0, 0);
     choose(b"\x02\x00\x02", b"\x01\x01\x03", 0, 0);
+    choose(b"\x01\x00\x02", b"\x02\x01\x03", 2, 0);
     // equal times: the first
     choose(b"\x02\x00\x02", b"\x01\x01\x03", 0, 1);
-    choose(b"\x01\x00\x02", b"\x02\x01\x03", 2, 0);
     // a record's time may be above 2^40: it is compared
     choose(b"\x01\x00\x02", b"\x00\x01\x03", Tick::MAX, Tick::MAX);
     choose(b"\x01\x00\x02", b"\x02\x01\x03", Tick::MAX, Tick::MAX);
