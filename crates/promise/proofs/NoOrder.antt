@@ -1,19 +1,18 @@
 -- No order. The jobs that a witness names are those of the theory that are all released at zero: the definitions that a release goes by give them the same due
 -- times. They are due by L and cost more than L, so no assignment serves them.
-use Prim.Native.Nat.{ℕ, zero, suc, _+_, _-_, _*_, _≤_, _<_}
+use Prim.Native.Nat.{ℕ, zero, suc, _+_, _-_, _≤_}
 use mathlib.Core.Path.{_≡_, refl, ap, ap₂}
 use mathlib.Core.Logic.{⊎-elim}
 use mathlib.Core.Option.{Option}
 use mathlib.Core.List.{List, [], _∷_, flatten}
 use native.Mathlib.Omega.{arith}
 use lib.ListN.{length}
-use Rattle.kinds.specs.Numbering.{maxTime, Said}
-use Rattle.numbers.specs.Laws.{Bytes}
+use Rattle.kinds.specs.Numbering.{maxTime}
 use Rattle.theory.specs.Lists.{All, total}
 use Rattle.theory.specs.Jobs.{Job, DistinctNames}
 use Rattle.theory.specs.Ticks.{had, free, noneTaken}
 use Rattle.theory.specs.Curves.{SmallestFailing}
-use Rattle.theory.specs.Demand.{rowJobs, rowDemand}
+use Rattle.theory.specs.Demand.{rowJobs}
 use Rattle.theory.specs.DueTimes.{dueTime, dues, allAtZero}
 use Rattle.theory.specs.Schedules.{unitsBefore, unitsIn, Meets}
 use Rattle.theory.specs.Sources.{inTurn}
@@ -27,7 +26,6 @@ use Rattle.table.specs.declared.Row.{Row}
 use Rattle.table.specs.declared.Table.{Table}
 use Rattle.table.specs.declared.TableAnswer.{TableAnswer}
 use Rattle.table.specs.declared.TableAnswer.the-variants as answer
-use Rattle.table.specs.Rows.{rowInRange}
 use Rattle.table.specs.Tables.{rowsOf, tableRead}
 use Rattle.table.specs.Laws.{WithinLimits}
 use Rattle.table.proofs.Ranges.{in-range-of}

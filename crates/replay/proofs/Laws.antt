@@ -16,7 +16,6 @@ use Rattle.jobs.specs.declared.Job.{Job}
 use Rattle.jobs.specs.Places.{noJob}
 use Rattle.jobs.specs.Turns.{noFinish, firstJob, finishAt}
 use Rattle.run.specs.declared.Run.{Run}
-use Rattle.run.specs.declared.Ticked.the-variants as tick
 use Rattle.run.specs.Runs.{started}
 use Rattle.run.specs.Advance.{finishedBy, ticks}
 use Rattle.run.proofs.Fresh.{started-is-sound}
