@@ -155,9 +155,15 @@ examples-hold =
     (then (due-by-rule 1 2 6 (0 ∷ 20 ∷ []) _ refl refl refl refl refl)
     tt)))))))))))
 
--- Two of them by themselves.
+-- Some of them by themselves.
+pub v1-is-feasible : Judged v1 verdict.Feasible
+v1-is-feasible = examples-hold .0
+
 pub v3-is-feasible : Judged v3 verdict.Feasible
 v3-is-feasible = examples-hold .1 .1 .0
 
 pub v4-is-overloaded : Judged v4 (verdict.Overloaded (record { length = 11; demand = 12 }))
 v4-is-overloaded = examples-hold .1 .1 .1 .1 .0
+
+pub v8-is-overloaded : Judged v8 (verdict.Overloaded (record { length = 26; demand = 27 }))
+v8-is-overloaded = examples-hold .1 .1 .1 .1 .1 .1 .1 .1 .0

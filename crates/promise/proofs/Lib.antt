@@ -15,3 +15,4 @@ pub mod Paper
 pub mod Examples
 pub mod Spelling
 pub mod Instances
+pub mod Cheats

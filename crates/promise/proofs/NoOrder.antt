@@ -179,9 +179,9 @@ not-served t period known L smallest who served =
     (meets who (flatten (inTurn (theirs L) 0 0 (rowsOf t))) (all-flatten (λ j. j .release ≡ 0) _ (all-at-zero L 0 0 (rowsOf t))) (rw same at served))
 
 -- What says 21 with L is the overloaded verdict with the length L ..
-says-overloaded : (v : Verdict) (L demand : ℕ) → verdictSays v ≡ record { number = 21; first = L; second = demand }
-    → (units : ℕ) × (v ≡ verdict.Overloaded (record { length = L; demand = units }))
-says-overloaded v L demand said = (demand, said-apart v (verdict.Overloaded (record { length = L; demand = demand })) said)
+pub says-overloaded : (v : Verdict) (L demand : ℕ) → verdictSays v ≡ record { number = 21; first = L; second = demand }
+    → v ≡ verdict.Overloaded (record { length = L; demand = demand })
+says-overloaded v L demand said = said-apart v (verdict.Overloaded (record { length = L; demand = demand })) said
 
 -- .. and it is given only of a table that was accepted, where that length is the smallest that fails.
 overloaded-is-right : (t : Table) (a : TableAnswer) (w : Witness) → RightOfRead t a (verdict.Overloaded w)
@@ -191,6 +191,6 @@ overloaded-is-right t (answer.Refused r) w right = absurd (let z : _≡_ {A = �
 
 pub no-order : NoOrder
 no-order bytes b v judged L demand said who =
-    let over = says-overloaded v L demand said in
-    let right = overloaded-is-right (tableRead bytes .table) (tableRead bytes .answer) (record { length = L; demand = over .0 }) (rw (over .1) at judged) in
+    let right = overloaded-is-right (tableRead bytes .table) (tableRead bytes .answer) (record { length = L; demand = demand })
+    (rw (says-overloaded v L demand said) at judged) in
     not-served (tableRead bytes .table) (right .0) (accepted-is-known bytes (right .0) b (right .1)) L (right .2) who

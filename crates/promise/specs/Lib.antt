@@ -10,3 +10,4 @@ pub mod AtHost
 pub mod Examples
 pub mod Spelling
 pub mod Instances
+pub mod Cheats
