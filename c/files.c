@@ -54,8 +54,10 @@ struct bytes read_file(const char *path)
         }
         content.length += fread(content.at + content.length, 1, room - content.length, file);
     }
-    if (ferror(file))
+    if (ferror(file)) {
+        free(content.at);
         stop(EXIT_UNREADABLE, "can't read %s: %s", path, strerror(errno));
+    }
     if (file != stdin)
         fclose(file);
     /* Exactly as long as the content, so that a memory checker sees any step past its end. */

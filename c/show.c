@@ -119,11 +119,11 @@ void show(const char *kind_name, const char *path)
     struct bytes bytes = read_file(path);
     struct reading reading = start_reading(kind, bytes);
     print(&reading);
+    free(bytes.at);
     if (reading.damaged)
         stop(EXIT_CONTENT, "%s is no %s: at byte %zu a number is misspelled, too long or cut off", path, kind->name,
              reading.at);
     if (reading.at < bytes.length)
         stop(EXIT_CONTENT, "%s is no %s: there are bytes after its last %s, from byte %zu on", path, kind->name,
              kind->record, reading.at);
-    free(bytes.at);
 }
