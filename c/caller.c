@@ -270,11 +270,12 @@ static uint64_t search_of(struct bytes table)
     return spared / (per_period - period) + 1;
 }
 
-struct outcome call_on(struct bytes table, struct bytes script, size_t log_length)
+struct answers call_on(struct bytes table, struct bytes script, size_t log_length)
 {
-    enum { SHORT_SEARCH = 1 << 21 };
+    enum { LONG_SEARCH = 1 << 21 };
     struct outcome whole = replay_with(table, script, JYRMEKKO_LOG_SIZE(script.length));
     struct outcome given = replay_with(table, script, log_length);
+    struct outcome judged = {0, 0, 0};
     expect(whole.status != JYRMEKKO_LOG_TOO_SHORT, "a log of ten times the script's length is always long enough");
     if (is_replayed(whole.status) && log_length < whole.first)
         expect(given.status == JYRMEKKO_LOG_TOO_SHORT, "12 where only the log's buffer is too short");
@@ -282,12 +283,12 @@ struct outcome call_on(struct bytes table, struct bytes script, size_t log_lengt
         expect(same(given, whole), "the length of the log buffer decides on 12 alone");
     replay_once(table, script, log_length, JYRMEKKO_ANSWER_SIZE - 1, 0xA5, NULL);
     replay_once(table, script, log_length, JYRMEKKO_ANSWER_SIZE + 1, 0xA5, NULL);
-    if (search_of(table) <= SHORT_SEARCH) {
-        struct outcome judged = judge(table);
+    if (search_of(table) < LONG_SEARCH) {
+        judged = judge(table);
         if (refuses_table(judged.status) || refuses_table(whole.status))
             expect(same(judged, whole), "verdict and replay refuse the same tables, at the same place");
         if (judged.status == JYRMEKKO_FEASIBLE)
             expect(whole.status != JYRMEKKO_LATE, "on a feasible table no job is late");
     }
-    return whole;
+    return (struct answers){judged, whole};
 }

@@ -13,10 +13,16 @@ struct outcome {
     uint64_t second;
 };
 
+/* What was answered; the verdict has status 0 where it was not asked for, because the search would be long. */
+struct answers {
+    struct outcome verdict;
+    struct outcome replay; /* with room for any log */
+};
+
 /*
- * Judges the table, replays the script on it with a log of any length and with one of log_length bytes, and ends the
- * program by abort() where a rule is broken. Returns what the replay with room for any log answered.
+ * Judges the table, replays the script on it with room for any log and with a log buffer of log_length bytes, and ends
+ * the program by abort() where a rule is broken.
  */
-struct outcome call_on(struct bytes table, struct bytes script, size_t log_length);
+struct answers call_on(struct bytes table, struct bytes script, size_t log_length);
 
 #endif

@@ -10,7 +10,7 @@
 static struct bytes table, script;
 static unsigned long tried;
 
-static struct outcome try(size_t log_length)
+static struct answers try(size_t log_length)
 {
     tried++;
     return call_on(table, script, log_length);
@@ -18,7 +18,7 @@ static struct outcome try(size_t log_length)
 
 static void try_logs(void)
 {
-    uint64_t longest = try(0).first;
+    uint64_t longest = try(0).replay.first;
     for (size_t log_length = 1; log_length <= longest + 1; log_length++)
         try(log_length);
 }

@@ -20,7 +20,8 @@ static bool tampering(const char *name)
 {
     static const char *const names[] = {"nothing", "status", "answer-past-its-end", "answer-beside-13", "second-number",
                                         "place", "answer-from-before", "table-written", "always-feasible",
-                                        "log-before-its-start", "log-past-its-length", "log-kept", "log-cut"};
+                                        "log-before-its-start", "log-past-its-length", "log-kept", "log-cut",
+                                        "log-too-long"};
     const char *chosen = getenv("TAMPER");
     for (size_t i = 0; chosen != NULL && i < sizeof names / sizeof names[0]; i++)
         if (strcmp(chosen, names[i]) == 0)
@@ -81,6 +82,8 @@ uint32_t __wrap_replay(const uint8_t *table, size_t table_len, const uint8_t *sc
             log[log_len - 1] ^= 1;
         if (tampering("log-cut") && !is_refusal(status))
             answer[FIRST]--;
+        if (tampering("log-too-long") && !is_refusal(status))
+            answer[SECOND - 1] = 1;
     }
     return tampered(status, table, table_len, answer, answer_len, before);
 }
