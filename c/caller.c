@@ -58,28 +58,19 @@ static void expect_only_read(struct bytes lent, struct bytes original)
     free(lent.at);
 }
 
-static uint64_t lowest_first(const uint8_t *eight)
+/* Takes the answer buffer back. Beside 13 nothing is written to it, and both numbers are given as 0. */
+static struct answer read_answer(uint32_t status, struct lent buffer)
 {
-    uint64_t value = 0;
-    for (int i = 7; i >= 0; i--)
-        value = value << 8 | eight[i];
-    return value;
+    struct answer answer = {status, 0, 0};
+    bool refused = status == JYRMEKKO_ANSWER_NOT_16_BYTES;
+    expect(refused == (buffer.length != JYRMEKKO_ANSWER_SIZE), "13 exactly for an answer buffer that has not 16 bytes");
+    if (!refused)
+        answer = answer_of(status, buffer.at);
+    take_back(buffer, refused ? 0 : JYRMEKKO_ANSWER_SIZE);
+    return answer;
 }
 
-static struct outcome outcome_of(uint32_t status, struct lent answer)
-{
-    struct outcome outcome = {status, 0, 0};
-    expect((status == JYRMEKKO_ANSWER_NOT_16_BYTES) == (answer.length != JYRMEKKO_ANSWER_SIZE),
-           "13 exactly for an answer buffer that has not 16 bytes");
-    if (status != JYRMEKKO_ANSWER_NOT_16_BYTES) {
-        outcome.first = lowest_first(answer.at);
-        outcome.second = lowest_first(answer.at + 8);
-    }
-    take_back(answer, status == JYRMEKKO_ANSWER_NOT_16_BYTES ? 0 : JYRMEKKO_ANSWER_SIZE);
-    return outcome;
-}
-
-static bool same(struct outcome one, struct outcome other)
+static bool same(struct answer one, struct answer other)
 {
     return one.status == other.status && one.first == other.first && one.second == other.second;
 }
@@ -100,65 +91,65 @@ static bool is_replayed(uint32_t status)
     return status == JYRMEKKO_IN_TIME || status == JYRMEKKO_LATE;
 }
 
-static void expect_table_refusal(struct outcome outcome, size_t table_length)
+static void expect_table_refusal(struct answer answer, size_t table_length)
 {
-    expect(outcome.second == 0, "the second number beside a refusal is 0");
-    switch (outcome.status) {
+    expect(answer.second == 0, "the second number beside a refusal is 0");
+    switch (answer.status) {
     case JYRMEKKO_TOO_MANY_ROWS:
-        expect(outcome.first == 0, "2 points at the row count");
+        expect(answer.first == 0, "2 points at the row count");
         break;
     case JYRMEKKO_PERIOD_TOO_LONG:
-        expect(outcome.first == table_length, "5 points at the table's end");
+        expect(answer.first == table_length, "5 points at the table's end");
         break;
     case JYRMEKKO_TABLE_MISSPELLED:
-        expect(outcome.first <= table_length, "1 points into the table, or at its end");
+        expect(answer.first <= table_length, "1 points into the table, or at its end");
         break;
     default:
-        expect(outcome.first < table_length, "3 and 4 point into the table");
+        expect(answer.first < table_length, "3 and 4 point into the table");
     }
 }
 
-static struct outcome judge_once(struct bytes table, size_t answer_length, uint8_t fill)
+static struct answer judge_once(struct bytes table, size_t answer_length, uint8_t fill)
 {
     struct bytes lent = copy(table);
-    struct lent answer = lend(answer_length, fill);
-    uint32_t status = verdict(lent.at, lent.length, answer.at, answer.length);
+    struct lent buffer = lend(answer_length, fill);
+    uint32_t status = verdict(lent.at, lent.length, buffer.at, buffer.length);
     expect(status == JYRMEKKO_FEASIBLE || status == JYRMEKKO_OVERLOADED || refuses_table(status) ||
                status == JYRMEKKO_ANSWER_NOT_16_BYTES,
            "a verdict's status is 20, 21, 1 to 5, or 13");
     expect_only_read(lent, table);
-    return outcome_of(status, answer);
+    return read_answer(status, buffer);
 }
 
-static struct outcome judge(struct bytes table)
+static struct answer judge(struct bytes table)
 {
-    struct outcome outcome = judge_once(table, JYRMEKKO_ANSWER_SIZE, 0xA5);
-    expect(same(outcome, judge_once(table, JYRMEKKO_ANSWER_SIZE, 0x5A)), "a verdict depends on the table alone");
+    struct answer answer = judge_once(table, JYRMEKKO_ANSWER_SIZE, 0xA5);
+    expect(same(answer, judge_once(table, JYRMEKKO_ANSWER_SIZE, 0x5A)), "a verdict depends on the table alone");
     judge_once(table, JYRMEKKO_ANSWER_SIZE - 1, 0xA5);
     judge_once(table, JYRMEKKO_ANSWER_SIZE + 1, 0xA5);
     judge_once(table, 0, 0xA5);
-    if (outcome.status == JYRMEKKO_FEASIBLE)
-        expect(outcome.first == 0 && outcome.second == 0, "zeros beside 20");
-    else if (outcome.status == JYRMEKKO_OVERLOADED)
-        expect(outcome.first >= 1 && outcome.second > outcome.first, "the witness's demand is above its length");
+    if (answer.status == JYRMEKKO_FEASIBLE)
+        expect(answer.first == 0 && answer.second == 0, "zeros beside 20");
+    else if (answer.status == JYRMEKKO_OVERLOADED)
+        expect(answer.first >= 1 && answer.second > answer.first, "the witness's demand is above its length");
     else
-        expect_table_refusal(outcome, table.length);
-    return outcome;
+        expect_table_refusal(answer, table.length);
+    return answer;
 }
 
-static void expect_script_refusal(struct outcome outcome, size_t script_length)
+static void expect_script_refusal(struct answer answer, size_t script_length)
 {
-    expect(outcome.second == 0, "the second number beside a refusal is 0");
-    switch (outcome.status) {
+    expect(answer.second == 0, "the second number beside a refusal is 0");
+    switch (answer.status) {
     case JYRMEKKO_LOG_TOO_SHORT:
-        expect(outcome.first == script_length, "12 points at the script's end");
+        expect(answer.first == script_length, "12 points at the script's end");
         break;
     case JYRMEKKO_TIME_TOO_LATE:
     case JYRMEKKO_SCRIPT_MISSPELLED:
-        expect(outcome.first <= script_length, "10 and 14 point into the script, or at its end");
+        expect(answer.first <= script_length, "10 and 14 point into the script, or at its end");
         break;
     default:
-        expect(outcome.first < script_length, "6 to 9 point into the script");
+        expect(answer.first < script_length, "6 to 9 point into the script");
     }
 }
 
@@ -184,22 +175,22 @@ static void expect_log(struct bytes log, struct bytes script, uint64_t late_answ
     expect(late == late_answered, "the number of late jobs is the log's");
 }
 
-/* Where log is not null, it gets the log of a replay that is not refused. */
-static struct outcome replay_once(struct bytes table, struct bytes script, size_t log_length, size_t answer_length,
-                                  uint8_t fill, struct bytes *log)
+/* Where log is not null, it gets a copy of the log, if the replay is not refused. */
+static struct answer replay_once(struct bytes table, struct bytes script, size_t log_length, size_t answer_length,
+                                 uint8_t fill, struct bytes *log)
 {
     struct bytes lent_table = copy(table), lent_script = copy(script);
-    struct lent lent_log = lend(log_length, fill), answer = lend(answer_length, fill);
+    struct lent lent_log = lend(log_length, fill), buffer = lend(answer_length, fill);
     uint32_t status = replay(lent_table.at, lent_table.length, lent_script.at, lent_script.length,
-                             lent_log.at, lent_log.length, answer.at, answer.length);
+                             lent_log.at, lent_log.length, buffer.at, buffer.length);
     expect(is_replayed(status) || refuses_table(status) || refuses_script(status) ||
                status == JYRMEKKO_ANSWER_NOT_16_BYTES,
            "a replay's status is 22, 23, 1 to 10, or 12 to 14");
-    struct outcome outcome = outcome_of(status, answer);
+    struct answer answer = read_answer(status, buffer);
     size_t written = 0;
     if (is_replayed(status)) {
-        expect(outcome.first <= log_length, "the log fits its buffer");
-        written = (size_t)outcome.first;
+        expect(answer.first <= log_length, "the log fits its buffer");
+        written = (size_t)answer.first;
         if (log != NULL)
             *log = copy((struct bytes){lent_log.at, written});
     } else if (status != JYRMEKKO_ANSWER_NOT_16_BYTES) {
@@ -210,27 +201,27 @@ static struct outcome replay_once(struct bytes table, struct bytes script, size_
     take_back(lent_log, written);
     expect_only_read(lent_table, table);
     expect_only_read(lent_script, script);
-    return outcome;
+    return answer;
 }
 
-static struct outcome replay_with(struct bytes table, struct bytes script, size_t log_length)
+static struct answer replay_with(struct bytes table, struct bytes script, size_t log_length)
 {
     struct bytes log = {NULL, 0}, again = {NULL, 0};
-    struct outcome outcome = replay_once(table, script, log_length, JYRMEKKO_ANSWER_SIZE, 0xA5, &log);
-    expect(same(outcome, replay_once(table, script, log_length, JYRMEKKO_ANSWER_SIZE, 0x5A, &again)) &&
+    struct answer answer = replay_once(table, script, log_length, JYRMEKKO_ANSWER_SIZE, 0xA5, &log);
+    expect(same(answer, replay_once(table, script, log_length, JYRMEKKO_ANSWER_SIZE, 0x5A, &again)) &&
                (log.length == 0 || memcmp(log.at, again.at, log.length) == 0),
            "a replay depends on nothing that stood in the buffers before");
-    if (is_replayed(outcome.status)) {
-        expect((outcome.status == JYRMEKKO_IN_TIME) == (outcome.second == 0), "22 exactly when no job is late");
-        expect_log(log, script, outcome.second);
-    } else if (refuses_table(outcome.status)) {
-        expect_table_refusal(outcome, table.length);
+    if (is_replayed(answer.status)) {
+        expect((answer.status == JYRMEKKO_IN_TIME) == (answer.second == 0), "22 exactly when no job is late");
+        expect_log(log, script, answer.second);
+    } else if (refuses_table(answer.status)) {
+        expect_table_refusal(answer, table.length);
     } else {
-        expect_script_refusal(outcome, script.length);
+        expect_script_refusal(answer, script.length);
     }
     free(log.at);
     free(again.at);
-    return outcome;
+    return answer;
 }
 
 /*
@@ -273,9 +264,9 @@ static uint64_t search_of(struct bytes table)
 struct answers call_on(struct bytes table, struct bytes script, size_t log_length)
 {
     enum { LONG_SEARCH = 1 << 21 };
-    struct outcome whole = replay_with(table, script, JYRMEKKO_LOG_SIZE(script.length));
-    struct outcome given = replay_with(table, script, log_length);
-    struct outcome judged = {0, 0, 0};
+    struct answer whole = replay_with(table, script, JYRMEKKO_LOG_SIZE(script.length));
+    struct answer given = replay_with(table, script, log_length);
+    struct answer judged = {0, 0, 0};
     expect(whole.status != JYRMEKKO_LOG_TOO_SHORT, "a log of ten times the script's length is always long enough");
     if (is_replayed(whole.status) && log_length < whole.first)
         expect(given.status == JYRMEKKO_LOG_TOO_SHORT, "12 where only the log's buffer is too short");

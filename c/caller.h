@@ -7,16 +7,10 @@
 
 #include "rig.h"
 
-struct outcome {
-    uint32_t status;
-    uint64_t first;
-    uint64_t second;
-};
-
 /* What was answered; the verdict has status 0 where it was not asked for, because the search would be long. */
 struct answers {
-    struct outcome verdict;
-    struct outcome replay; /* with room for any log */
+    struct answer verdict;
+    struct answer replay; /* with room for any log */
 };
 
 /*

@@ -43,7 +43,7 @@ static void try_damage(struct bytes *damaged)
 int main(int words, char **word)
 {
     if (words != 3)
-        stop(EXIT_USAGE, "drive TABLE SCRIPT");
+        stop(RIG_USAGE, "drive TABLE SCRIPT");
     table = read_file(word[1]);
     script = read_file(word[2]);
     try_logs();
@@ -52,5 +52,5 @@ int main(int words, char **word)
     printf("%lu cases tried\n", tried);
     free(table.at);
     free(script.at);
-    return EXIT_DONE;
+    return RIG_DONE;
 }

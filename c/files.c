@@ -23,7 +23,7 @@ static void *resize(void *block, size_t size)
 {
     void *resized = realloc(block, size > 0 ? size : 1);
     if (resized == NULL)
-        stop(EXIT_NO_MEMORY, "no memory for %zu bytes", size);
+        stop(RIG_NO_MEMORY, "no memory for %zu bytes", size);
     return resized;
 }
 
@@ -43,12 +43,12 @@ struct bytes read_file(const char *path)
     size_t room = 0;
     FILE *file = is_standard(path) ? stdin : fopen(path, "rb");
     if (file == NULL)
-        stop(EXIT_UNREADABLE, "can't read %s: %s", path, strerror(errno));
+        stop(RIG_UNREADABLE, "can't read %s: %s", path, strerror(errno));
     /* Not by asking for the size first: pipes have none, and a file may grow. */
     while (!feof(file) && !ferror(file)) {
         if (content.length == room) {
             if (room > SIZE_MAX / 2)
-                stop(EXIT_NO_MEMORY, "%s is too long to hold", path);
+                stop(RIG_NO_MEMORY, "%s is too long to hold", path);
             room = room > 0 ? 2 * room : 4096;
             content.at = resize(content.at, room);
         }
@@ -56,7 +56,7 @@ struct bytes read_file(const char *path)
     }
     if (ferror(file)) {
         free(content.at);
-        stop(EXIT_UNREADABLE, "can't read %s: %s", path, strerror(errno));
+        stop(RIG_UNREADABLE, "can't read %s: %s", path, strerror(errno));
     }
     if (file != stdin)
         fclose(file);
@@ -69,9 +69,9 @@ void write_file(const char *path, struct bytes content)
 {
     FILE *file = is_standard(path) ? stdout : fopen(path, "wb");
     if (file == NULL)
-        stop(EXIT_NOT_WRITTEN, "can't write %s: %s", path, strerror(errno));
+        stop(RIG_NOT_WRITTEN, "can't write %s: %s", path, strerror(errno));
     bool written = fwrite(content.at, 1, content.length, file) == content.length;
     bool kept = (file == stdout ? fflush(file) : fclose(file)) == 0;
     if (!written || !kept)
-        stop(EXIT_NOT_WRITTEN, "can't write %s to its end: %s", path, strerror(errno));
+        stop(RIG_NOT_WRITTEN, "can't write %s to its end: %s", path, strerror(errno));
 }

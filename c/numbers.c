@@ -35,3 +35,16 @@ uint64_t count_numbers(struct bytes bytes)
         count += bytes.at[i] < 0x80;
     return count;
 }
+
+static uint64_t lowest_first(const uint8_t *eight)
+{
+    uint64_t value = 0;
+    for (int i = 7; i >= 0; i--)
+        value = value << 8 | eight[i];
+    return value;
+}
+
+struct answer answer_of(uint32_t status, const uint8_t *buffer)
+{
+    return (struct answer){status, lowest_first(buffer), lowest_first(buffer + 8)};
+}

@@ -63,28 +63,7 @@ static const struct refusal {
 
 enum { LOG_NUMBERS = 5 }; /* in each record of a log */
 
-/* What a call answered. */
-struct answer {
-    uint32_t status;
-    uint64_t first;
-    uint64_t second;
-};
-
-static uint64_t lowest_first(const uint8_t eight[8])
-{
-    uint64_t value = 0;
-    for (int i = 7; i >= 0; i--)
-        value = value << 8 | eight[i];
-    return value;
-}
-
-static struct answer answer_of(uint32_t status, const uint8_t buffer[JYRMEKKO_ANSWER_SIZE])
-{
-    struct answer answer = {status, lowest_first(buffer), lowest_first(buffer + 8)};
-    return answer;
-}
-
-/* A status that is no refusal either must not get out as an exit status: it could be a 0, or look like another answer. */
+/* A status that is no refusal either must never be the exit status: it could read as a pass, or as another answer. */
 static void say_refusal(FILE *out, const char *call, struct answer answer)
 {
     for (size_t i = 0; i < sizeof refusals / sizeof refusals[0]; i++)
@@ -93,7 +72,7 @@ static void say_refusal(FILE *out, const char *call, struct answer answer)
                     refusals[i].file, refusals[i].why);
             return;
         }
-    stop(EXIT_NO_ANSWER, "the library's %s says %" PRIu32 ", which is no answer", call, answer.status);
+    stop(RIG_NO_ANSWER, "the library's %s says %" PRIu32 ", which is no answer", call, answer.status);
 }
 
 static int judge(const char *table_path)
@@ -133,19 +112,20 @@ static void say_replayed(FILE *out, struct answer answer, struct bytes log)
 static int play(const char *table_path, const char *script_path, const char *log_path)
 {
     if (is_standard(table_path) && is_standard(script_path))
-        stop(EXIT_USAGE, "standard input can't be both the table and the script");
+        stop(RIG_USAGE, "standard input can't be both the table and the script");
     struct bytes table = read_file(table_path);
     struct bytes script = read_file(script_path);
     if (script.length > SIZE_MAX / JYRMEKKO_LOG_SIZE(1))
-        stop(EXIT_NO_MEMORY, "%s is too long to hold its log", script_path);
+        stop(RIG_NO_MEMORY, "%s is too long to hold its log", script_path);
     struct bytes log = {allocate(JYRMEKKO_LOG_SIZE(script.length)), JYRMEKKO_LOG_SIZE(script.length)};
     uint8_t buffer[JYRMEKKO_ANSWER_SIZE] = {0};
-    uint32_t status = replay(table.at, table.length, script.at, script.length, log.at, log.length, buffer, sizeof buffer);
+    uint32_t status = replay(table.at, table.length, script.at, script.length, log.at, log.length, buffer,
+                             sizeof buffer);
     struct answer answer = answer_of(status, buffer);
     FILE *out = log_path != NULL && is_standard(log_path) ? stderr : stdout;
     if (status == JYRMEKKO_IN_TIME || status == JYRMEKKO_LATE) {
         if (answer.first > log.length)
-            stop(EXIT_NO_ANSWER, "the library's replay says that its log is longer than the buffer");
+            stop(RIG_NO_ANSWER, "the library's replay says that its log is longer than the buffer");
         log.length = (size_t)answer.first;
         if (log_path != NULL)
             write_file(log_path, log);
@@ -164,7 +144,7 @@ static int play(const char *table_path, const char *script_path, const char *log
 int main(int words, char **word)
 {
     const char *command = words > 1 ? word[1] : "";
-    int status = EXIT_DONE;
+    int status = RIG_DONE;
     if (strcmp(command, "verdict") == 0 && words == 3)
         status = judge(word[2]);
     else if (strcmp(command, "replay") == 0 && (words == 4 || words == 5))
@@ -176,8 +156,8 @@ int main(int words, char **word)
     else if (strcmp(command, "--help") == 0 && words == 2)
         fputs(help, stdout);
     else
-        stop(EXIT_USAGE, "no such command, or not as it is used; rig --help lists them");
+        stop(RIG_USAGE, "no such command, or not as it is used; rig --help lists them");
     if (fflush(stdout) != 0 || ferror(stdout))
-        stop(EXIT_NOT_WRITTEN, "can't write to standard output: %s", strerror(errno));
+        stop(RIG_NOT_WRITTEN, "can't write to standard output: %s", strerror(errno));
     return status;
 }

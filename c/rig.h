@@ -14,13 +14,13 @@
  * is among them. 69 is the script's that builds this program.
  */
 enum {
-    EXIT_DONE = 60,        /* shown, spelled or explained; nothing is said about any table */
-    EXIT_USAGE = 64,
-    EXIT_CONTENT = 65,     /* show, spell: the file's content can't be read as what it was said to be */
-    EXIT_UNREADABLE = 66,
-    EXIT_NO_ANSWER = 70,   /* the library's status is no number of the rules */
-    EXIT_NO_MEMORY = 71,
-    EXIT_NOT_WRITTEN = 74
+    RIG_DONE = 60,        /* shown, spelled or explained; nothing is said about any table */
+    RIG_USAGE = 64,
+    RIG_CONTENT = 65,     /* show, spell: the file's content can't be read as what it was said to be */
+    RIG_UNREADABLE = 66,
+    RIG_NO_ANSWER = 70,   /* the library's status is no number of the rules */
+    RIG_NO_MEMORY = 71,
+    RIG_NOT_WRITTEN = 74
 };
 
 /* Says why on standard error, and exits. */
@@ -45,7 +45,7 @@ void write_file(const char *path, struct bytes content);
 
 bool is_standard(const char *path);
 
-/* numbers.c: the spelling of numbers (docs/RULES.md, section 2), for people to see. The library has its own, proved. */
+/* numbers.c: numbers as bytes (docs/RULES.md, section 2 and 9.4), for people to see. The library uses its own. */
 
 enum { MOST_GROUPS = 6 };
 #define LARGEST_NUMBER ((UINT64_C(1) << 7 * MOST_GROUPS) - 1)
@@ -56,8 +56,17 @@ bool read_number(struct bytes bytes, size_t *at, uint64_t *value);
 /* Writes a value of at most LARGEST_NUMBER at the start of out, and returns how many bytes that took. */
 size_t write_number(uint8_t *out, uint64_t value);
 
-/* How many whole numbers well spelled bytes hold: each has one byte with a clear top bit. */
+/* How many numbers well spelled bytes hold: each has one byte with a clear top bit. */
 uint64_t count_numbers(struct bytes bytes);
+
+/* What a call of the library answered: its status, and the two numbers of the answer buffer. */
+struct answer {
+    uint32_t status;
+    uint64_t first;
+    uint64_t second;
+};
+
+struct answer answer_of(uint32_t status, const uint8_t *buffer);
 
 /* show.c and spell.c: these two commands. */
 

@@ -33,7 +33,7 @@ static const struct kind *kind_named(const char *name)
     for (size_t i = 0; i < sizeof kinds / sizeof kinds[0]; i++)
         if (strcmp(kinds[i].name, name) == 0)
             return &kinds[i];
-    stop(EXIT_USAGE, "show what? table, script or log, and not '%s'", name);
+    stop(RIG_USAGE, "show what? table, script or log, and not '%s'", name);
 }
 
 /* A file being read record by record. */
@@ -121,9 +121,9 @@ void show(const char *kind_name, const char *path)
     print(&reading);
     free(bytes.at);
     if (reading.damaged)
-        stop(EXIT_CONTENT, "%s is no %s: at byte %zu a number is misspelled, too long or cut off", path, kind->name,
+        stop(RIG_CONTENT, "%s is no %s: at byte %zu a number is misspelled, too long or cut off", path, kind->name,
              reading.at);
     if (reading.at < bytes.length)
-        stop(EXIT_CONTENT, "%s is no %s: there are bytes after its last %s, from byte %zu on", path, kind->name,
+        stop(RIG_CONTENT, "%s is no %s: there are bytes after its last %s, from byte %zu on", path, kind->name,
              kind->record, reading.at);
 }

@@ -55,5 +55,5 @@ void spell(const char *text_path, const char *out_path)
     free(spelled.at);
     free(text.at);
     if (problem != NULL)
-        stop(EXIT_CONTENT, "%s, line %zu: %s", text_path, line, problem);
+        stop(RIG_CONTENT, "%s, line %zu: %s", text_path, line, problem);
 }

@@ -15,7 +15,7 @@ uint32_t __wrap_replay(const uint8_t *, size_t, const uint8_t *, size_t, uint8_t
 
 enum { FIRST = 0, SECOND = 8 }; /* where the answer's numbers start */
 
-/* Not a name that stands for nothing: a test would then try no tampering, and call it unseen. */
+/* A name that is none of these ends the program: a test that tampers with nothing by mistake would show nothing. */
 static bool tampering(const char *name)
 {
     static const char *const names[] = {"nothing", "status", "answer-past-its-end", "answer-beside-13", "second-number",

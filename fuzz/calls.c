@@ -1,4 +1,4 @@
-/* The suspicious caller on what libFuzzer makes up. An input is a share of the log, the table's length, table, script. */
+/* The suspicious caller on what libFuzzer makes up. An input is how long a log, how long a table, table, script. */
 #include "caller.h"
 
 #include <stdio.h>
@@ -17,13 +17,13 @@ __attribute__((section("__libfuzzer_extra_counters"))) static uint8_t reached[ST
 
 static unsigned long answered[STATUSES];
 
-static void note(struct outcome outcome)
+static void note(struct answer answer)
 {
     unsigned bits = 0;
-    for (uint64_t rest = outcome.first; rest > 1; rest >>= 1)
+    for (uint64_t rest = answer.first; rest > 1; rest >>= 1)
         bits++;
-    reached[outcome.status * BITS + bits] = 1;
-    answered[outcome.status]++;
+    reached[answer.status * BITS + bits] = 1;
+    answered[answer.status]++;
 }
 
 /* A run that only ever saw one refusal has shown little, so it says what it saw. */
