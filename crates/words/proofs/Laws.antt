@@ -1,15 +1,18 @@
 -- Words: how many bytes they take, and that their bytes say them. (docs/RULES.md, 9.4.)
-use Prim.Native.Nat.{ℕ, zero, suc, _+_, _*_, _/_, _%_, _<_, _≤_}
-use mathlib.Core.Path.{_≡_, refl, ap}
-use mathlib.Core.List.{List, [], _∷_, _++_}
+use Prim.Native.Nat.{ℕ, zero, suc, _+_, _-_, _*_, _/_, _%_, _<_, _≤_}
+use mathlib.Core.Path.{_≡_, refl, sym, ap, _∙_}
+use mathlib.Core.List.{List, [], _∷_, _++_, append-nil, append-assoc}
 use native.Mathlib.Omega.{arith}
 use native.Mathlib.Nat.{le-refl}
 use native.Mathlib.Decide.{le-ind}
-use lib.ListN.{length, getD, take, drop, length-append}
-use lib.Seq.{take-at, drop-cons, drop-append-seam}
+use lib.ListN.{length, getD, take, drop, length-append, length-drop}
+use lib.Seq.{take-at, take-length, drop-cons, drop-drop, drop-length, drop-append-seam, sets, sets-eq}
 use borrow.Author.Tests.{le-leb}
+use borrow.Rule.Slice.PartMut.{midOf, putMid}
 use Rattle.numbers.specs.Laws.{Bytes}
-use Rattle.words.specs.Words.{wordLength, lowestFirst, fromLowestFirst}
+use Rattle.numbers.specs.declared.Written.{Written}
+use Rattle.numbers.specs.declared.Written.the-variants.{Length}
+use Rattle.words.specs.Words.{wordLength, lowestFirst, fromLowestFirst, putWord, restWith}
 use Rattle.words.specs.Laws.{WordReadsBack, PutReadsBack}
 
 -- A number takes as many bytes as it is given.
@@ -64,3 +67,22 @@ word-reads-back front n rest h =
 
 pub put-reads-back : PutReadsBack
 put-reads-back n rest h room = simp (le-leb _ _ room) (word-reads-back [] n _ h)
+
+-- ---- words one behind another
+
+-- Two lists stored one behind the other are one list stored.
+pub sets-append : (s t l : List ℕ) (i : ℕ) → sets l i (s ++ t) ≡ sets (sets l i s) (i + length s) t
+sets-append [] t l i = ap (λ (k : ℕ). sets l k t) (omega arith)
+sets-append (v ∷ s) t l i = sets-append s t _ (suc i) ∙ ap (λ (k : ℕ). sets (sets l i (v ∷ s)) k t) (omega arith)
+
+-- A word that is put into the rest of a buffer, from a place on, is stored there.
+pub put-stores : (buffer : List ℕ) (at value : ℕ) {answer : Written} {last : List ℕ} → at + wordLength ≤ length buffer
+    → (let rest = midOf at (length buffer - at) buffer in (answer ≡ putWord (length rest)) × (last ≡ restWith answer value rest))
+    → putMid at (length buffer - at) buffer last ≡ sets buffer at (lowestFirst wordLength value)
+put-stores buffer at value {answer} {last} h e =
+    let bytes = lowestFirst wordLength value in
+    let long = lowest-first-length wordLength value in
+    let lent : midOf at (length buffer - at) buffer ≡ drop at buffer = rw (← length-drop, take-length) in
+    let took : answer ≡ Length wordLength = e .0 ∙ rw lent (simp (le-leb wordLength (length (drop at buffer)) (simp length-drop (omega arith)))) in
+    let put : last ≡ bytes ++ drop (at + wordLength) buffer = rw (took, lent, drop-drop) at (e .1) in
+    rw (put, ← length-drop, drop-length, append-nil, ← append-assoc) (sym (rw long at (sets-eq bytes buffer at (omega arith))))
