@@ -1,6 +1,6 @@
 -- `probe::choose` meets its contract: each choice is answered by what it says, and the record's bytes are copied.
 use Prim.Native.Nat.{ℕ}
-use mathlib.Core.Path.{_≡_, refl, sym, ap, _∙_}
+use mathlib.Core.Path.{_≡_, refl, sym, _∙_}
 use mathlib.Core.List.{List, [], _∷_}
 use native.Mathlib.Omega.{arith}
 use lib.ListN.{length}
@@ -10,7 +10,7 @@ use borrow.Author.Needs.{needs}
 use Rattle.script.specs.declared.Chosen.{Chosen}
 use Rattle.script.specs.Chooser.{chosen, partOf}
 use Rattle.probe.specs.Words.{wordsBytes}
-use Rattle.probe.specs.Chosen.{Answered, answerLength, copied, chosenSays, answeredBy, chosenAnswered}
+use Rattle.probe.specs.Chosen.{Answered, answerLength, copied, chosenSays, chosenAnswered}
 use Rattle.probe.proofs.Words.{words-fill}
 use Rattle.probe.proofs.choose.Statement.{statement}
 use Rattle.probe.proofs.choose.Tie as tie
@@ -78,7 +78,10 @@ same-length-2 : tie.Need-same-length-2
 same-length-2 c = search needs
 
 returns-2 : tie.Need-returns-2
-returns-2 c = answered (c .before .before .before .before .before .before .before) _ _ _ (c .before .before .before .before .before .n .given .1) refl (c .before .before .put-words .ensures)
+returns-2 c =
+    let put = c .before .before in
+    let told = put .before .before .before in
+    answered (told .before .before) _ _ _ (told .n .given .1) refl (put .put-words .ensures)
 
 same-length-3 : tie.Need-same-length-3
 same-length-3 c = search needs
@@ -87,7 +90,10 @@ same-length-4 : tie.Need-same-length-4
 same-length-4 c = search needs
 
 returns-3 : tie.Need-returns-3
-returns-3 c = answered (c .before .before .before .before .before .before) _ _ _ (c .before .before .before .before .enum-told .given .1) refl (c .before .before .put-words2 .ensures)
+returns-3 c =
+    let put = c .before .before in
+    let told = put .before .before in
+    answered (told .before .before) _ _ _ (told .enum-told .given .1) refl (put .put-words2 .ensures)
 
 same-length-5 : tie.Need-same-length-5
 same-length-5 c = search needs
@@ -96,7 +102,11 @@ same-length-6 : tie.Need-same-length-6
 same-length-6 c = search needs
 
 returns-4 : tie.Need-returns-4
-returns-4 c = answered (c .before .before .before .before .before .before .before .before .before .before) _ _ _ (c .before .before .before .before .before .before .before .before .r .given .1) (c .number2 .ensures) (rw (c .before .before .before .before .which-number .ensures) at (c .before .before .before .put-words3 .ensures))
+returns-4 c =
+    let put = c .before .before .before in
+    let script = put .before in
+    let told = script .before .before .before .before in
+    answered (told .before .before) _ _ _ (told .r .given .1) (c .number2 .ensures) (rw (script .which-number .ensures) at (put .put-words3 .ensures))
 
 pub choose-spec : {M : Type 1} → statement M
 choose-spec =
