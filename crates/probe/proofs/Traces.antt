@@ -1,0 +1,150 @@
+-- Traces as bytes: each call adds its answer behind those that stand there, and in the end all that have room are there. The answers are those of the promises'
+-- traces. (docs/RULES.md, section 6.)
+use Prim.Native.Nat.{ℕ, zero, suc, _+_, _-_, _*_, _/_, _^_, _≤_, _<_}
+use mathlib.Core.Path.{_≡_, refl, sym, ap, _∙_}
+use mathlib.Core.Bool.{true, false}
+use mathlib.Core.List.{List, [], _∷_, _++_, flatten, map, reverse, reverseAux, append-assoc, append-nil, reverse-cons}
+use native.Mathlib.Nat.{zero-add}
+use native.Mathlib.Omega.{arith}
+use lib.ListN.{length, take, drop, length-append}
+use lib.Seq.{take-all, sets, sets-eq, length-sets}
+use Rattle.run.specs.declared.Run.{Run}
+use Rattle.run.specs.declared.StartAnswer.{StartAnswer}
+use Rattle.run.specs.declared.StartAnswer.the-variants as start
+use Rattle.run.specs.Runs.{started}
+use Rattle.promise.specs.Answers.{accepted, idle, ran}
+use Rattle.promise.specs.Answers as says
+use Rattle.promise.specs.Traces.{Call, Event, runAfter, eventOf, runAt, trace}
+use Rattle.words.specs.Words.{wordLength}
+use Rattle.words.proofs.Laws.{sets-append}
+use Rattle.probe.specs.Words.{mostWords, wordsBytes}
+use Rattle.probe.specs.Traced.{callLength, callAt, callsFrom, eventsFrom, startWords, eventWords, answerLength, traceWords, answersAfter, EventsAreTheTrace}
+use Rattle.probe.proofs.Words.{words-length}
+
+-- ---- the promises' traces
+
+-- Behind what was answered so far stands what the later calls are answered.
+then-later : (table : List ℕ) (later earlier : List Call)
+    → reverse (trace table (reverseAux later earlier)) ≡ reverse (trace table earlier) ++ eventsFrom (runAt table earlier) later
+unfolding trace runAt eventsFrom
+then-later table [] earlier = sym (append-nil _)
+then-later table (c ∷ later) earlier = then-later table later (c ∷ earlier) ∙ rw (reverse-cons, append-assoc)
+
+pub events-are-the-trace : EventsAreTheTrace
+unfolding trace runAt
+events-are-the-trace table calls = sym (then-later table calls [])
+
+-- ---- answers in words
+
+-- Each answer is four words.
+start-is-four : (a : StartAnswer) → length (startWords a) ≡ mostWords
+start-is-four start.Ready = refl
+start-is-four (start.Refused r) = refl
+
+event-is-four : (e : Event) → length (eventWords e) ≡ mostWords
+event-is-four (Event.release row cost (accepted serial due)) = refl
+event-is-four (Event.release row cost (says.ReleaseSays.refused n)) = refl
+event-is-four (Event.tick idle late) = refl
+event-is-four (Event.tick (ran serial false) late) = refl
+event-is-four (Event.tick (ran serial true) late) = refl
+event-is-four (Event.tick (says.TickSays.refused n) late) = refl
+
+-- So four words of it are all of it, and it takes its bytes.
+four-are-all : (ws : List ℕ) → length ws ≡ mostWords → (take mostWords ws ≡ ws) × (length (wordsBytes ws) ≡ answerLength)
+four-are-all ws h = (take-all mostWords ws (omega arith), omega (arith, words-length ws))
+
+-- What so many calls from a place on are answered, in bytes.
+abbrev answered : Run → (count : ℕ) (calls : List ℕ) (at : ℕ) → List ℕ
+answered run count calls at = flatten (map wordsBytes (map eventWords (eventsFrom run (callsFrom count calls at))))
+
+-- One call's answer, and then those of the calls after it.
+answered-more : (run : Run) (count k : ℕ) (calls : List ℕ) (at : ℕ) → count ≡ suc k
+    → (let c = callAt calls at in
+    answered run count calls at ≡ wordsBytes (eventWords (eventOf run c)) ++ answered (runAfter run c) k calls (at + callLength))
+unfolding flatten eventsFrom callsFrom
+answered-more run count k calls at e = rw e
+
+-- They take the bytes of so many answers.
+answered-length : (run : Run) (count : ℕ) (calls : List ℕ) (at : ℕ) → length (answered run count calls at) ≡ count * answerLength
+unfolding flatten eventsFrom callsFrom
+answered-length run zero calls at = refl
+answered-length run (suc k) calls at =
+    let e = eventOf run (callAt calls at) in
+    length-append (wordsBytes (eventWords e)) _
+    ∙ omega (arith, four-are-all (eventWords e) (event-is-four e) .1, answered-length (runAfter run (callAt calls at)) k calls (at + callLength))
+
+-- The first answers are those of the first calls.
+first-answers : (k n : ℕ) (run : Run) (calls : List ℕ) (at : ℕ) → k ≤ n
+    → take k (map eventWords (eventsFrom run (callsFrom n calls at))) ≡ map eventWords (eventsFrom run (callsFrom k calls at))
+unfolding eventsFrom callsFrom
+first-answers zero n run calls at h = refl
+first-answers (suc k) zero run calls at h = absurd (omega arith)
+first-answers (suc k) (suc n) run calls at h = ap (λ l. eventWords (eventOf run (callAt calls at)) ∷ l) (first-answers k n (runAfter run (callAt calls at)) calls (at + callLength) (omega arith))
+
+-- No calls, no answers.
+answered-none : (run : Run) (calls : List ℕ) (at : ℕ) → answered run 0 calls at ≡ []
+unfolding flatten eventsFrom callsFrom
+answered-none run calls at = refl
+
+-- The answers that are shown: the start's, and those of the calls that are played.
+shown-answers : (table calls : List ℕ) (shown : ℕ) → 1 ≤ shown → shown ≤ length calls / callLength + 1
+    → flatten (map wordsBytes (take shown (traceWords table calls)))
+    ≡ wordsBytes (startWords (started table .answer)) ++ answered (started table .run) (shown - 1) calls 0
+unfolding flatten
+shown-answers table calls zero h there = absurd (omega arith)
+shown-answers table calls (suc k) h there = let less : suc k - 1 ≡ k = omega arith in rw (less, first-answers k (length calls / callLength) (started table .run) calls 0 (omega arith))
+
+-- ---- the loop
+
+-- The first i answers stand in the buffer: those of the calls that are left, stored behind them, make the whole.
+pub record Standing (calls answers₀ : List ℕ) (shown : ℕ) (run₀ : Run) (answers : List ℕ) (run : Run) (i : ℕ) : Type 0 where
+  pub begun : 1 ≤ i
+  pub not-past : i ≤ shown
+  pub countable : shown < 2 ^ 32
+  pub has-room : shown * answerLength ≤ length answers₀
+  pub same-length : length answers ≡ length answers₀
+  pub completes : sets answers (i * answerLength) (answered run (shown - i) calls ((i - 1) * callLength))
+      ≡ sets answers₀ answerLength (answered run₀ (shown - 1) calls 0)
+
+-- At first only the start's stands there.
+pub start-standing : (calls answers : List ℕ) (shown : ℕ) (run : Run) → 1 ≤ shown → shown < 2 ^ 32 → shown * answerLength ≤ length answers
+    → Standing calls answers shown run answers run 1
+start-standing calls answers shown run h most room =
+    record { begun = omega arith; not-past = h; countable = most; has-room = room; same-length = refl; completes = refl }
+
+-- Then one more.
+pub one-standing : {calls answers₀ : List ℕ} {shown : ℕ} {run₀ : Run} {answers : List ℕ} {run : Run} {i : ℕ} → Standing calls answers₀ shown run₀ answers run i → i < shown
+    → (let c = callAt calls ((i - 1) * callLength) in
+    Standing calls answers₀ shown run₀ (sets answers (i * answerLength) (wordsBytes (take mostWords (eventWords (eventOf run c))))) (runAfter run c) (i + 1))
+one-standing {calls} {answers₀} {shown} {run₀} {answers} {run} {i} p h =
+    let at = (i - 1) * callLength in
+    let e = eventOf run (callAt calls at) in
+    let four = four-are-all (eventWords e) (event-is-four e) in
+    let more = answered-more run (shown - i) (shown - (i + 1)) calls at (omega arith) in
+    let next : (i + 1) * answerLength ≡ i * answerLength + answerLength = omega arith in
+    let after : (i + 1 - 1) * callLength ≡ at + callLength = omega (arith, p .begun) in
+    record {
+      begun = omega arith;
+      not-past = omega arith;
+      countable = p .countable;
+      has-room = p .has-room;
+      same-length = simp length-sets (p .same-length);
+      completes = rw (four .0, next, after) (rw (more, sets-append, four .1) at (p .completes));
+    }
+
+-- At last all stand there, and what comes after them is as it was.
+pub all-standing : (table calls answers : List ℕ) (shown : ℕ) {after : List ℕ} {run : Run} {i : ℕ}
+    → (let first = sets answers 0 (wordsBytes (take mostWords (startWords (started table .answer)))) in
+    Standing calls first shown (started table .run) after run i) → shown ≤ i → shown ≤ length calls / callLength + 1
+    → after ≡ answersAfter shown (traceWords table calls) answers
+all-standing table calls answers shown {after} {run} {i} p h there =
+    let first = startWords (started table .answer) in
+    let four = four-are-all first (start-is-four (started table .answer)) in
+    let bytes = wordsBytes first in
+    let later = answered (started table .run) (shown - 1) calls 0 in
+    let over : shown - i ≡ 0 = omega arith in
+    let long : length (bytes ++ later) ≡ shown * answerLength =
+    length-append bytes later ∙ omega (arith, four .1, answered-length (started table .run) (shown - 1) calls 0, p .begun, p .not-past) in
+    let stored : after ≡ sets answers 0 (bytes ++ later) =
+    rw (over, answered-none) at (p .completes) ∙ rw (four .0, sets-append, four .1, zero-add) in
+    stored ∙ sets-eq (bytes ++ later) answers 0 (omega (arith, rw (four .0, length-sets) at (p .has-room))) ∙ rw (zero-add, long, shown-answers table calls shown (omega (arith, p .begun, p .not-past)) there)

@@ -1,0 +1,29 @@
+-- Words one after another: how many bytes they take, and one more of them. (docs/RULES.md, 9.4.)
+use Prim.Native.Nat.{ℕ, suc, _*_, _<_, _≤_}
+use mathlib.Core.Path.{_≡_, refl, ap, _∙_}
+use mathlib.Core.List.{List, [], _∷_, _++_, flatten, append-nil}
+use native.Mathlib.Nat.{zero-add}
+use native.Mathlib.Omega.{arith}
+use lib.ListN.{length, getD, length-append, drop-of-length-le}
+use lib.Seq.{slice, slice-cons, sets, sets-eq}
+use Rattle.words.specs.Words.{wordLength, lowestFirst}
+use Rattle.words.proofs.Laws.{lowest-first-length}
+use Rattle.probe.specs.Words.{wordsBytes}
+
+-- Each word takes eight bytes.
+pub words-length : (ws : List ℕ) → length (wordsBytes ws) ≡ wordLength * length ws
+unfolding flatten
+words-length [] = refl
+words-length (w ∷ ws) = length-append (lowestFirst wordLength w) (wordsBytes ws) ∙ omega (arith, lowest-first-length wordLength w, words-length ws)
+
+-- The words from a place on: the one there, and those after it.
+pub words-next : (ws : List ℕ) (count k : ℕ) → k < count → count ≤ length ws
+    → wordsBytes (slice k count ws) ≡ lowestFirst wordLength (getD ws k 0) ++ wordsBytes (slice (suc k) count ws)
+unfolding flatten
+words-next ws count k h room = rw (slice-cons k count ws 0 h room)
+
+-- Words that are as long as a buffer fill it.
+pub words-fill : (buffer ws : List ℕ) → length buffer ≡ wordLength * length ws → sets buffer 0 (wordsBytes ws) ≡ wordsBytes ws
+words-fill buffer ws h =
+    let long = words-length ws in
+    sets-eq (wordsBytes ws) buffer 0 (omega arith) ∙ rw (zero-add, drop-of-length-le buffer {i = length (wordsBytes ws)} (omega arith), append-nil)

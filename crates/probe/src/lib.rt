@@ -1,0 +1,258 @@
+// The probe: three calls by which an independent program compares what the host's two calls don't reach. Numbers are lent in eight bytes each, lowest first.
+use jobs::Finished;
+use kinds::Refusal;
+use kinds::RowNumber;
+use kinds::Tick;
+use numbers::NumberRead;
+use numbers::Written;
+use run::Released;
+use run::Run;
+use run::StartAnswer;
+use run::Ticked;
+use script::Chosen;
+use script::Which;
+ghost use mathlib.Core.Path.{_≡_};
+ghost use Prim.Native.Nat.{_+_, _*_, _≤_};
+ghost use lib.ListN.{length, take};
+ghost use lib.Seq.{sets};
+ghost use Rattle.numbers.specs.Writing.{written, bufferAfter};
+ghost use Rattle.words.specs.Words.{wordLength};
+ghost use Rattle.promise.specs.Answers.{releaseSays, tickSays};
+ghost use Rattle.probe.specs.Words.{mostWords, wordsBytes};
+ghost use Rattle.probe.specs.Written.{writtenSays};
+ghost use Rattle.probe.specs.Chosen.{copied, whichNumber, chosenAnswered};
+ghost use Rattle.probe.specs.Traced.{wordOr0, callOf, startWords, releaseWords, tickWords, played, answersShown, traceWords, answersAfter};
+
+// How many bytes a word has.
+const WORD: usize = 8;
+
+// The length of the chooser's answer buffer: two words.
+const CHOICE: usize = 16;
+
+// What the chooser returns where nothing is refused.
+const A_RECORD: u32 = 1;
+
+// How many bytes a call of a trace has, three words, ..
+const CALL: usize = 24;
+
+// .. and how many its answer has, four words.
+const ANSWER: usize = 32;
+
+// The first word of a call that is a release.
+const RELEASE: u64 = 1;
+
+// The most answers of a trace: their count is returned in four bytes.
+const MOST: usize = 0xFFFF_FFFF;
+
+// Writes some words one after another, from a place on.
+fn put_words(buffer: &mut [u8], at: usize, words: [u64; 4], count: usize)
+    requires { ⌜ (count ≤ mostWords) × (at + wordLength * count ≤ length (now buffer)) ⌝ }
+    ensures { λ r. ⌜ now (buffer .exit) ≡ sets (now (buffer .entry)) at (wordsBytes (take count words)) ⌝ }
+{
+    let mut k: usize = 0;
+    while k < count {
+        let place = at + k * WORD;
+        words::put(&mut buffer[place..], words[k]);
+        k += 1;
+    }
+}
+
+// ---- the number writer
+
+// Writes a number at the start of the buffer: the spelling's length, 1 to 6, or the refusal's number.
+#[no_mangle]
+pub extern "C" fn write_number(number: u64, buffer: &mut [u8]) -> u32
+    ensures { λ r. ⌜ (r ≡ writtenSays (written number (length (now (buffer .entry)))))
+        × (now (buffer .exit) ≡ bufferAfter (written number (length (now (buffer .entry)))) number (now (buffer .entry))) ⌝ }
+{
+    match numbers::write(buffer, number) {
+        Written::Length(n) => n as u32,
+        Written::Refused(r) => r.number(),
+    }
+}
+
+// ---- the chooser
+
+// Puts bytes at the start of a buffer, as many as fit.
+fn copy(bytes: &[u8], buffer: &mut [u8])
+    ensures { λ r. ⌜ now (buffer .exit) ≡ copied (now (bytes .entry)) (now (buffer .entry)) ⌝ }
+{
+    let fit = if bytes.len() < buffer.len() {
+        bytes.len()
+    } else {
+        buffer.len()
+    };
+    let mut i: usize = 0;
+    while i < fit {
+        buffer[i] = bytes[i];
+        i += 1;
+    }
+}
+
+fn which_number(script: Which) -> u64
+    ensures { λ r. ⌜ r ≡ whichNumber script ⌝ }
+{
+    match script {
+        Which::First => 1,
+        Which::Second => 2,
+    }
+}
+
+// Which of two scripts comes next: 1, with the record's bytes at the start of `part` (as many as fit) and its length and 0 in the answer buffer, the length 0
+// where both have ended; or the refusal's number, with its place and which script, 1 or 2. 13 first, where the answer buffer is not 16 bytes long.
+#[no_mangle]
+pub extern "C" fn choose<'a>(
+    first: &'a [u8],
+    second: &'a [u8],
+    first_time: u64,
+    second_time: u64,
+    part: &mut [u8],
+    answer: &mut [u8],
+) -> u32
+    ensures { λ r. ⌜ record { status = r; part = now (part .exit); answer = now (answer .exit) }
+        ≡ chosenAnswered (now (first .entry)) (now (second .entry)) «first_time» «second_time» (now (part .entry)) (now (answer .entry)) ⌝ }
+{
+    if answer.len() != CHOICE {
+        return Refusal::AnswerSize.number();
+    }
+    let one = Tick(first_time);
+    let other = Tick(second_time);
+    copy(script::chosen_part(first, second, one, other), part);
+    match script::choose(first, second, one, other) {
+        Chosen::Next(n) => {
+            put_words(answer, 0, [n.length as u64, 0, 0, 0], 2);
+            A_RECORD
+        }
+        Chosen::Ended => {
+            put_words(answer, 0, [0, 0, 0, 0], 2);
+            A_RECORD
+        }
+        Chosen::Refused(r) => {
+            let at = r.at;
+            let refusal = at.refusal;
+            let script = r.script;
+            put_words(answer, 0, [at.place as u64, which_number(script), 0, 0], 2);
+            refusal.number()
+        }
+    }
+}
+
+// ---- a trace
+
+// A run after a call, and the call's answer in four words.
+struct Played {
+    run: Run,
+    answer: [u64; 4],
+}
+
+// The word at a place of bytes; 0 where it is cut off.
+fn word_at(bytes: &[u8], at: usize) -> u64
+    ensures { λ r. ⌜ r ≡ wordOr0 (now (bytes .entry)) at ⌝ }
+{
+    match words::get(bytes, at) {
+        NumberRead::Number(n) => n.value,
+        NumberRead::Refused(_) => 0,
+    }
+}
+
+fn start_words(answer: StartAnswer) -> [u64; 4]
+    ensures { λ r. ⌜ r ≡ startWords answer ⌝ }
+{
+    match answer {
+        StartAnswer::Ready => [1, 0, 0, 0],
+        StartAnswer::Refused(r) => {
+            let refusal = r.refusal;
+            [6, refusal.number() as u64, r.place as u64, 0]
+        }
+    }
+}
+
+fn release_words(answer: Released) -> [u64; 4]
+    ensures { λ r. ⌜ r ≡ releaseWords (releaseSays answer) ⌝ }
+{
+    match answer {
+        Released::Accepted(a) => [2, a.serial.0, a.due.0, 0],
+        Released::Refused(r) => [6, r.number() as u64, 0, 0],
+    }
+}
+
+fn tick_words(answer: Ticked, late: u64) -> [u64; 4]
+    ensures { λ r. ⌜ r ≡ tickWords (tickSays answer) late ⌝ }
+{
+    match answer {
+        Ticked::Idle => [3, 0, 0, late],
+        Ticked::Ran(ran) => {
+            let finished = ran.finished;
+            match finished {
+                Finished::No => [4, ran.serial.0, 0, late],
+                Finished::Yes => [5, ran.serial.0, 0, late],
+            }
+        }
+        Ticked::Refused(r) => [6, r.number() as u64, 0, 0],
+    }
+}
+
+// Plays the call that three words say: a release of a row at a cost, or a tick.
+fn play(run: Run, kind: u64, row: u64, cost: u64) -> Played
+    ensures { λ r. ⌜ r ≡ played run (callOf kind row cost) ⌝ }
+{
+    if kind == RELEASE {
+        let step = run.release(RowNumber(row), cost);
+        let after = step.run;
+        let said = step.answer;
+        return Played {
+            run: after,
+            answer: release_words(said),
+        };
+    }
+    let step = run.tick();
+    let after = step.run;
+    let said = step.answer;
+    Played {
+        run: after,
+        answer: tick_words(said, step.late),
+    }
+}
+
+// How many answers are written: one for the start and one for each whole call, as many as have room, and no more than can be said.
+fn answers_shown(calls: usize, room: usize) -> usize
+    ensures { λ r. ⌜ r ≡ answersShown calls room ⌝ }
+{
+    let there = calls / CALL + 1;
+    let fit = room / ANSWER;
+    let shown = if there < fit { there } else { fit };
+    if MOST < shown { MOST } else { shown }
+}
+
+// Plays calls on a run that is started on a table, and writes every answer: first that of the start, then one for each call, four words each. Returns how many
+// answers were written. A call is three words: 1, row and cost for a release; any other first word is a tick.
+#[no_mangle]
+pub extern "C" fn trace(table: &[u8], calls: &[u8], answers: &mut [u8]) -> u32
+    ensures { λ r. ⌜ (r ≡ answersShown (length (now (calls .entry))) (length (now (answers .entry))))
+        × (now (answers .exit) ≡ answersAfter r (traceWords (now (table .entry)) (now (calls .entry))) (now (answers .entry))) ⌝ }
+{
+    let shown = answers_shown(calls.len(), answers.len());
+    if shown == 0 {
+        return 0;
+    }
+    let started = run::start(table);
+    let mut run = started.run;
+    let answer = started.answer;
+    put_words(answers, 0, start_words(answer), 4);
+    let mut i: usize = 1;
+    while i < shown {
+        let at = (i - 1) * CALL;
+        let step = play(
+            run,
+            word_at(calls, at),
+            word_at(calls, at + WORD),
+            word_at(calls, at + 2 * WORD),
+        );
+        let after = step.run;
+        run = after;
+        let words = step.answer;
+        put_words(answers, i * ANSWER, words, 4);
+        i += 1;
+    }
+    shown as u32
+}

@@ -1,0 +1,88 @@
+-- Words: how many bytes they take, and that their bytes say them. (docs/RULES.md, 9.4.)
+use Prim.Native.Nat.{ℕ, zero, suc, _+_, _-_, _*_, _/_, _%_, _<_, _≤_}
+use mathlib.Core.Path.{_≡_, refl, sym, ap, _∙_}
+use mathlib.Core.List.{List, [], _∷_, _++_, append-nil, append-assoc}
+use native.Mathlib.Omega.{arith}
+use native.Mathlib.Nat.{le-refl}
+use native.Mathlib.Decide.{le-ind}
+use lib.ListN.{length, getD, take, drop, length-append, length-drop}
+use lib.Seq.{take-at, take-length, drop-cons, drop-drop, drop-length, drop-append-seam, sets, sets-eq}
+use borrow.Author.Tests.{le-leb}
+use borrow.Rule.Slice.PartMut.{midOf, putMid}
+use Rattle.numbers.specs.Laws.{Bytes}
+use Rattle.numbers.specs.declared.Written.{Written}
+use Rattle.numbers.specs.declared.Written.the-variants.{Length}
+use Rattle.words.specs.Words.{wordLength, lowestFirst, fromLowestFirst, putWord, restWith}
+use Rattle.words.specs.Laws.{WordReadsBack, PutReadsBack}
+
+-- A number takes as many bytes as it is given.
+pub lowest-first-length : (bytes n : ℕ) → length (lowestFirst bytes n) ≡ bytes
+unfolding lowestFirst
+lowest-first-length zero n = refl
+lowest-first-length (suc k) n = ap suc (lowest-first-length k _)
+
+-- The lowest byte comes first, and then what is left of the number in the bytes that are left.
+pub lowest-first-more : (bytes k n : ℕ) → bytes ≡ suc k → lowestFirst bytes n ≡ n % 256 ∷ lowestFirst k (n / 256)
+unfolding lowestFirst
+lowest-first-more bytes k n e = rw e
+
+-- The numbers below this fit so many bytes.
+abbrev pub limit : ℕ → ℕ
+limit zero = 1
+limit (suc k) = 256 * limit k
+
+limit-pos : (k : ℕ) → 1 ≤ limit k
+limit-pos zero = omega arith
+limit-pos (suc k) = omega (arith, limit-pos k)
+
+-- Eight bytes hold every number that fewer hold.
+pub limit-of-word : (k : ℕ) → k ≤ wordLength → limit k ≤ limit wordLength
+limit-of-word k h = le-ind (λ m. limit k ≤ limit m) (le-refl _) (λ m l j. omega (arith, limit-pos m)) wordLength h
+
+-- So many bytes say a number that fits them.
+pub says-what-fits : (k : ℕ) (s : List ℕ) → Bytes s → fromLowestFirst (take k s) < limit k
+unfolding fromLowestFirst
+says-what-fits zero s b = omega arith
+says-what-fits (suc k) [] b = omega (arith, limit-pos k)
+says-what-fits (suc k) (x ∷ s) b = omega (arith, b 0, says-what-fits k s (λ i. b (suc i)))
+
+-- The number from a place on: the byte there, and 256 times what the bytes after it say.
+pub says-one-more : (s : List ℕ) (at k : ℕ) → at < length s
+    → fromLowestFirst (take (suc k) (drop at s)) ≡ getD s at 0 + 256 * fromLowestFirst (take k (drop (suc at) s))
+unfolding fromLowestFirst
+says-one-more s at k h = rw (drop-cons s at 0 h)
+
+-- The bytes of a number that fits say it.
+said-by-its-bytes : (k n : ℕ) → n < limit k → fromLowestFirst (lowestFirst k n) ≡ n
+unfolding lowestFirst fromLowestFirst
+said-by-its-bytes zero n h = omega arith
+said-by-its-bytes (suc k) n h = omega (arith, said-by-its-bytes k (n / 256) (omega arith))
+
+pub word-reads-back : WordReadsBack
+word-reads-back front n rest h =
+    let bytes = lowestFirst wordLength n in
+    let long = lowest-first-length wordLength n in
+    let room : length front + wordLength ≤ length (front ++ (bytes ++ rest)) = simp (length-append, long) (omega arith) in
+    simp (le-leb _ _ room, drop-append-seam, take-at bytes rest wordLength long, said-by-its-bytes wordLength n h)
+
+pub put-reads-back : PutReadsBack
+put-reads-back n rest h room = simp (le-leb _ _ room) (word-reads-back [] n _ h)
+
+-- ---- words one behind another
+
+-- Two lists stored one behind the other are one list stored.
+pub sets-append : (s t l : List ℕ) (i : ℕ) → sets l i (s ++ t) ≡ sets (sets l i s) (i + length s) t
+sets-append [] t l i = ap (λ (k : ℕ). sets l k t) (omega arith)
+sets-append (v ∷ s) t l i = sets-append s t _ (suc i) ∙ ap (λ (k : ℕ). sets (sets l i (v ∷ s)) k t) (omega arith)
+
+-- A word that is put into the rest of a buffer, from a place on, is stored there.
+pub put-stores : (buffer : List ℕ) (at value : ℕ) {answer : Written} {last : List ℕ} → at + wordLength ≤ length buffer
+    → (let rest = midOf at (length buffer - at) buffer in (answer ≡ putWord (length rest)) × (last ≡ restWith answer value rest))
+    → putMid at (length buffer - at) buffer last ≡ sets buffer at (lowestFirst wordLength value)
+put-stores buffer at value {answer} {last} h e =
+    let bytes = lowestFirst wordLength value in
+    let long = lowest-first-length wordLength value in
+    let lent : midOf at (length buffer - at) buffer ≡ drop at buffer = rw (← length-drop, take-length) in
+    let took : answer ≡ Length wordLength = e .0 ∙ rw lent (simp (le-leb wordLength (length (drop at buffer)) (simp length-drop (omega arith)))) in
+    let put : last ≡ bytes ++ drop (at + wordLength) buffer = rw (took, lent, drop-drop) at (e .1) in
+    rw (put, ← length-drop, drop-length, append-nil, ← append-assoc) (sym (rw long at (sets-eq bytes buffer at (omega arith))))
