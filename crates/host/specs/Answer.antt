@@ -1,13 +1,17 @@
 -- What the host's calls return and write. (docs/RULES.md, section 9.)
-use Prim.Native.Nat.{ℕ, zero, suc, _/_, _%_}
+use Prim.Native.Nat.{ℕ, zero, suc, _/_, _%_, _^_, _<_, _≤_}
 use mathlib.Core.Path.{_≡_}
 use mathlib.Core.Logic.{_≢_}
+use mathlib.Core.Bool.{cond}
 use mathlib.Core.List.{List, [], _∷_, _++_}
+use lib.Dec.{eqb}
 use lib.ListN.{length}
 use Rattle.kinds.specs.Numbering.{Said, refusalNumber}
 use Rattle.kinds.specs.declared.Refusal.the-variants.{AnswerSize}
 use Rattle.verdict.specs.declared.Verdict.{Verdict}
 use Rattle.verdict.specs.Verdict.{Judged, verdictSays}
+use Rattle.replay.specs.Play.{played}
+use Rattle.replay.specs.Outcome.{finishedIn, replayOf, logAfter, replaySays}
 
 -- An answer buffer has so many bytes, and so has each of its two numbers.
 abbrev pub answerLength : ℕ
@@ -33,9 +37,40 @@ pub data VerdictAnswered (table answer : List ℕ) (status : ℕ) (after : List 
   said : length answer ≡ answerLength → (v : Verdict) → Judged table v → status ≡ verdictSays v .number → after ≡ answerBytes (verdictSays v)
       → VerdictAnswered table answer status after
 
--- ---- what is proved (proofs/Laws.antt)
+-- ---- the replay
+
+-- What a replay answers where the answer buffer has so many bytes: 13 comes first. (9.6)
+abbrev pub replayStatus : (table script : List ℕ) (room size : ℕ) → ℕ
+replayStatus table script room size = cond (eqb size answerLength) (replaySays (replayOf table script room) .number) (refusalNumber AnswerSize)
+
+-- The answer buffer after it, ..
+abbrev pub replayAnswer : (table script : List ℕ) (room : ℕ) (answer : List ℕ) → List ℕ
+replayAnswer table script room answer = cond (eqb (length answer) answerLength) (answerBytes (replaySays (replayOf table script room))) answer
+
+-- .. and the log.
+abbrev pub replayLog : (table script log : List ℕ) (size : ℕ) → List ℕ
+replayLog table script log size =
+    cond (eqb size answerLength) (logAfter (replayOf table script (length log)) (finishedIn (played table script)) log) log
+
+-- ---- what is proved (proofs/Laws.antt and Bytes.antt)
 
 -- One status and one answer buffer only are right.
 abbrev pub OneVerdictAnswered : Type 0
 OneVerdictAnswered = (table answer : List ℕ) (status status′ : ℕ) (after after′ : List ℕ)
     → VerdictAnswered table answer status after → VerdictAnswered table answer status′ after′ → (status ≡ status′) × (after ≡ after′)
+
+-- No status is 0.
+abbrev pub VerdictNeverZero : Type 0
+VerdictNeverZero = (table answer : List ℕ) (status : ℕ) (after : List ℕ) → VerdictAnswered table answer status after → 1 ≤ status
+
+abbrev pub ReplayNeverZero : Type 0
+ReplayNeverZero = (table script : List ℕ) (room size : ℕ) → 1 ≤ replayStatus table script room size
+
+-- Eight bytes say one number of 64 bits only ..
+abbrev pub BytesSayTheNumber : Type 0
+BytesSayTheNumber = (n m : ℕ) → n < 2 ^ 64 → m < 2 ^ 64 → lowestFirst numberLength n ≡ lowestFirst numberLength m → n ≡ m
+
+-- .. so an answer buffer settles its two numbers.
+abbrev pub AnswerSaysItsNumbers : Type 0
+AnswerSaysItsNumbers = (s t : Said) → (s .first < 2 ^ 64) × (s .second < 2 ^ 64) → (t .first < 2 ^ 64) × (t .second < 2 ^ 64)
+    → answerBytes s ≡ answerBytes t → (s .first ≡ t .first) × (s .second ≡ t .second)

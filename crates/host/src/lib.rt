@@ -2,12 +2,14 @@
 // the answer buffer. (docs/RULES.md, section 9; include/jyrmekko.h.)
 use kinds::Refusal;
 use kinds::RefusedAt;
+use replay::Replayed;
 use verdict::Verdict;
 ghost use mathlib.Core.Path.{_≡_};
 ghost use Prim.Native.Nat.{_+_, _≤_};
 ghost use lib.ListN.{length, take, drop};
 ghost use mathlib.Core.List.{_++_};
 ghost use Rattle.host.specs.Answer.{numberLength, lowestFirst, answerBytes, VerdictAnswered, answerLength};
+ghost use Rattle.host.specs.Answer.{replayStatus, replayAnswer, replayLog};
 ghost use Rattle.kinds.specs.Numbering.{refusedSays};
 
 // The length of an answer buffer.
@@ -17,6 +19,10 @@ const ANSWER: usize = 16;
 const FEASIBLE: u32 = 20;
 
 const OVERLOADED: u32 = 21;
+
+const IN_TIME: u32 = 22;
+
+const LATE: u32 = 23;
 
 // Writes a number into eight bytes of the answer, lowest first.
 fn write_number(answer: &mut [u8], at: usize, value: u64)
@@ -56,11 +62,30 @@ pub extern "C" fn verdict(table: &[u8], answer: &mut [u8]) -> u32
     ensures { λ r. ⌜ VerdictAnswered (now (table .entry)) (now (answer .entry)) r (now (answer .exit)) ⌝ }
 {
     if answer.len() != ANSWER {
+        // Nothing is written.
         return Refusal::AnswerSize.number();
     }
     match verdict::judge(table) {
         Verdict::Feasible => say(answer, FEASIBLE, 0, 0),
         Verdict::Overloaded(w) => say(answer, OVERLOADED, w.length, w.demand),
         Verdict::Refused(r) => refuse(answer, r),
+    }
+}
+
+// 22 replayed all in time, 23 with late jobs, both with the log's length and the jobs late; else the refusal, with its place. 13 first, and then nothing is
+// written.
+#[no_mangle]
+pub extern "C" fn replay(table: &[u8], script: &[u8], log: &mut [u8], answer: &mut [u8]) -> u32
+    ensures { λ r. ⌜ (r ≡ replayStatus (now (table .entry)) (now (script .entry)) (length (now (log .entry))) (length (now (answer .entry))))
+        × (now (answer .exit) ≡ replayAnswer (now (table .entry)) (now (script .entry)) (length (now (log .entry))) (now (answer .entry)))
+        × (now (log .exit) ≡ replayLog (now (table .entry)) (now (script .entry)) (now (log .entry)) (length (now (answer .entry)))) ⌝ }
+{
+    if answer.len() != ANSWER {
+        return Refusal::AnswerSize.number();
+    }
+    match replay::replay(table, script, log) {
+        Replayed::InTime(length) => say(answer, IN_TIME, length as u64, 0),
+        Replayed::Late(jobs) => say(answer, LATE, jobs.length as u64, jobs.late),
+        Replayed::Refused(r) => refuse(answer, r),
     }
 }

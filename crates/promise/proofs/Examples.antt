@@ -1,18 +1,17 @@
 -- The examples hold. A table's verdict is settled by a look at finitely many lengths, which is made by computing; the theory's bound says that these are enough.
-use Prim.Native.Nat.{ℕ, zero, suc, _+_, _≤_, _<_}
+use Prim.Native.Nat.{ℕ, zero, suc, _+_, _≤_}
 use mathlib.Core.Path.{_≡_, refl, sym, ap, _∙_}
-use mathlib.Core.Bool.{Bool, true, false, _&&_}
+use mathlib.Core.Bool.{Bool, true, _&&_}
 use mathlib.Core.List.{List, [], _∷_, flatten}
 use native.Mathlib.Omega.{arith}
 use lib.Dec.{leb, ltb}
-use lib.ListN.{getD}
 use borrow.Author.Tests.{leb-true, ltb-true}
 use Rattle.kinds.specs.Numbering.{maxTime}
 use Rattle.numbers.specs.Laws.{Bytes}
 use Rattle.numbers.specs.Reading as reading
 use Rattle.numbers.specs.Spelling as spelling
 use Rattle.theory.specs.Lists.{total}
-use Rattle.theory.specs.Curves.{FitsUpTo, SmallestFailing}
+use Rattle.theory.specs.Curves.{FitsUpTo}
 use Rattle.theory.specs.Demand.{rowJobs, rowDemand, rowGrowth}
 use Rattle.theory.specs.DueTimes.{dueTime}
 use Rattle.theory.proofs.Cases.{by-lt}
@@ -35,7 +34,7 @@ use Rattle.verdict.specs.declared.Verdict.{Verdict}
 use Rattle.verdict.specs.declared.Verdict.the-variants as verdict
 use Rattle.verdict.specs.Demand.{tableDemand, tableGrowth, largestD, largestOf}
 use Rattle.verdict.specs.Verdict.{RightOf, RightOfRead, Judged}
-use Rattle.verdict.proofs.Accepted.{Known, accepted-is-known}
+use Rattle.verdict.proofs.Accepted.{accepted-is-known}
 use Rattle.run.specs.Sound.{fromOneTo}
 use Rattle.promise.specs.Examples.{dueTimesFrom, v1, v2, v3, v4, v5, v6, v7, v8, ExamplesHold}
 
@@ -156,9 +155,15 @@ examples-hold =
     (then (due-by-rule 1 2 6 (0 ∷ 20 ∷ []) _ refl refl refl refl refl)
     tt)))))))))))
 
--- Two of them by themselves.
+-- Some of them by themselves.
+pub v1-is-feasible : Judged v1 verdict.Feasible
+v1-is-feasible = examples-hold .0
+
 pub v3-is-feasible : Judged v3 verdict.Feasible
 v3-is-feasible = examples-hold .1 .1 .0
 
 pub v4-is-overloaded : Judged v4 (verdict.Overloaded (record { length = 11; demand = 12 }))
 v4-is-overloaded = examples-hold .1 .1 .1 .1 .0
+
+pub v8-is-overloaded : Judged v8 (verdict.Overloaded (record { length = 26; demand = 27 }))
+v8-is-overloaded = examples-hold .1 .1 .1 .1 .1 .1 .1 .1 .0

@@ -1,12 +1,13 @@
 -- The promises at work.
-use Prim.Native.Nat.{ℕ}
+use Prim.Native.Nat.{_≤_}
 use mathlib.Core.Path.{_≡_, refl}
-use mathlib.Core.List.{flatten}
+use mathlib.Core.List.{[], _∷_, flatten, List·Memᴰ, List·Memᴰ·head, List·Memᴰ·tail}
+use native.Mathlib.Omega.{arith}
 use Rattle.numbers.specs.Laws.{Bytes}
 use Rattle.numbers.specs.Reading as reading
 use Rattle.numbers.specs.Spelling as spelling
 use Rattle.theory.specs.Lists.{total}
-use Rattle.theory.specs.Jobs.{weighed}
+use Rattle.theory.specs.Jobs.{Job, weighed}
 use Rattle.theory.specs.Demand.{rowJobs}
 use Rattle.theory.specs.Sources.{own, inTurn}
 use Rattle.theory.specs.DueTimes.{dueTime}
@@ -20,13 +21,14 @@ use Rattle.jobs.specs.Choice.{goesBefore}
 use Rattle.run.specs.Sound.{soundOf, jobFits, jobSound}
 use Rattle.run.specs.Release.{released}
 use Rattle.run.specs.Ticking.{ticked}
-use Rattle.verdict.specs.declared.Verdict.the-variants.{Overloaded}
+use Rattle.verdict.specs.declared.Verdict.the-variants.{Feasible, Overloaded}
 use Rattle.promise.specs.Traces.{runAt, trace, clockOf, jobsIn, unitsOf}
 use Rattle.promise.specs.NoOrder.{firstJobs, keptAfter}
 use Rattle.promise.specs.Examples.{v3, v4}
-use Rattle.promise.specs.Instances.{AnswersAreThese, ThreeJobs, ShareIsReached, NamedByV4, NobodyServesV4}
+use Rattle.promise.specs.Instances.{calls, answers, AnswersAreThese, job, ThreeJobs, AllThreeInTime, ShareIsReached, NamedByV4, NobodyServesV4}
+use Rattle.promise.proofs.InTime.{in-time}
 use Rattle.promise.proofs.NoOrder.{no-order}
-use Rattle.promise.proofs.Examples.{are-bytes, v4-is-overloaded}
+use Rattle.promise.proofs.Examples.{are-bytes, v3-is-feasible, v4-is-overloaded}
 
 pub answers-are-these : AnswersAreThese
 unfolding
@@ -36,6 +38,33 @@ answers-are-these = refl
 pub three-jobs : ThreeJobs
 unfolding clockOf jobsIn
 three-jobs = (refl, refl)
+
+v3-in-bytes : Bytes v3
+unfolding spelling.groupsOf flatten
+v3-in-bytes = are-bytes v3 refl
+
+-- Each of the three jobs was accepted, and the clock is at its due time or past it ..
+record Due (j : Job) : Type 0 where
+  pub accepted : List·Memᴰ j (jobsIn (trace v3 calls))
+  pub due : j .due ≤ clockOf (trace v3 calls)
+
+clock-at-8 : clockOf (trace v3 calls) ≡ 8
+clock-at-8 = rw answers-are-these (three-jobs .1)
+
+among-the-three : (j : Job) → List·Memᴰ j (job 2 0 4 8 2 ∷ job 1 1 0 6 3 ∷ job 0 0 0 4 2 ∷ []) → j .due ≤ 8 → Due j
+among-the-three j m due = record { accepted = rw answers-are-these (rw (three-jobs .0) m); due = rw clock-at-8 due }
+
+-- .. so that it has had its cost: by *In time*.
+pub all-three-in-time : AllThreeInTime
+all-three-in-time =
+    let says = in-time v3 v3-in-bytes (record { answer = Feasible; judged = v3-is-feasible; feasible = refl }) calls in
+    let first = among-the-three (job 0 0 0 4 2) (List·Memᴰ·tail (List·Memᴰ·tail (List·Memᴰ·head refl))) (omega arith) in
+    let second = among-the-three (job 1 1 0 6 3) (List·Memᴰ·tail (List·Memᴰ·head refl)) (omega arith) in
+    let third = among-the-three (job 2 0 4 8 2) (List·Memᴰ·head refl) (omega arith) in (
+      says (job 0 0 0 4 2) (first .accepted) (first .due),
+      says (job 1 1 0 6 3) (second .accepted) (second .due),
+      says (job 2 0 4 8 2) (third .accepted) (third .due),
+    )
 
 -- The share of row 0, worked out of the answers.
 pub share-is-reached : ShareIsReached

@@ -2,8 +2,17 @@ pub mod Bridge
 pub mod Waiting
 pub mod Histories
 pub mod Bridged
+pub mod Units
+pub mod Ticks
+pub mod Share
+pub mod InTime
+pub mod Choice
+pub mod Refusals
+pub mod AtHost
+pub mod Recurrence
 pub mod NoOrder
 pub mod Paper
 pub mod Examples
 pub mod Spelling
 pub mod Instances
+pub mod Cheats

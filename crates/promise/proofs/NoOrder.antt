@@ -1,19 +1,18 @@
 -- No order. The jobs that a witness names are those of the theory that are all released at zero: the definitions that a release goes by give them the same due
 -- times. They are due by L and cost more than L, so no assignment serves them.
-use Prim.Native.Nat.{ℕ, zero, suc, _+_, _-_, _*_, _≤_, _<_}
+use Prim.Native.Nat.{ℕ, zero, suc, _+_, _-_, _≤_}
 use mathlib.Core.Path.{_≡_, refl, ap, ap₂}
 use mathlib.Core.Logic.{⊎-elim}
 use mathlib.Core.Option.{Option}
 use mathlib.Core.List.{List, [], _∷_, flatten}
 use native.Mathlib.Omega.{arith}
 use lib.ListN.{length}
-use Rattle.kinds.specs.Numbering.{maxTime, Said}
-use Rattle.numbers.specs.Laws.{Bytes}
+use Rattle.kinds.specs.Numbering.{maxTime}
 use Rattle.theory.specs.Lists.{All, total}
 use Rattle.theory.specs.Jobs.{Job, DistinctNames}
 use Rattle.theory.specs.Ticks.{had, free, noneTaken}
 use Rattle.theory.specs.Curves.{SmallestFailing}
-use Rattle.theory.specs.Demand.{rowJobs, rowDemand}
+use Rattle.theory.specs.Demand.{rowJobs}
 use Rattle.theory.specs.DueTimes.{dueTime, dues, allAtZero}
 use Rattle.theory.specs.Schedules.{unitsBefore, unitsIn, Meets}
 use Rattle.theory.specs.Sources.{inTurn}
@@ -27,7 +26,6 @@ use Rattle.table.specs.declared.Row.{Row}
 use Rattle.table.specs.declared.Table.{Table}
 use Rattle.table.specs.declared.TableAnswer.{TableAnswer}
 use Rattle.table.specs.declared.TableAnswer.the-variants as answer
-use Rattle.table.specs.Rows.{rowInRange}
 use Rattle.table.specs.Tables.{rowsOf, tableRead}
 use Rattle.table.specs.Laws.{WithinLimits}
 use Rattle.table.proofs.Ranges.{in-range-of}
@@ -181,9 +179,9 @@ not-served t period known L smallest who served =
     (meets who (flatten (inTurn (theirs L) 0 0 (rowsOf t))) (all-flatten (λ j. j .release ≡ 0) _ (all-at-zero L 0 0 (rowsOf t))) (rw same at served))
 
 -- What says 21 with L is the overloaded verdict with the length L ..
-says-overloaded : (v : Verdict) (L demand : ℕ) → verdictSays v ≡ record { number = 21; first = L; second = demand }
-    → (units : ℕ) × (v ≡ verdict.Overloaded (record { length = L; demand = units }))
-says-overloaded v L demand said = (demand, said-apart v (verdict.Overloaded (record { length = L; demand = demand })) said)
+pub says-overloaded : (v : Verdict) (L demand : ℕ) → verdictSays v ≡ record { number = 21; first = L; second = demand }
+    → v ≡ verdict.Overloaded (record { length = L; demand = demand })
+says-overloaded v L demand said = said-apart v (verdict.Overloaded (record { length = L; demand = demand })) said
 
 -- .. and it is given only of a table that was accepted, where that length is the smallest that fails.
 overloaded-is-right : (t : Table) (a : TableAnswer) (w : Witness) → RightOfRead t a (verdict.Overloaded w)
@@ -193,6 +191,6 @@ overloaded-is-right t (answer.Refused r) w right = absurd (let z : _≡_ {A = �
 
 pub no-order : NoOrder
 no-order bytes b v judged L demand said who =
-    let over = says-overloaded v L demand said in
-    let right = overloaded-is-right (tableRead bytes .table) (tableRead bytes .answer) (record { length = L; demand = over .0 }) (rw (over .1) at judged) in
+    let right = overloaded-is-right (tableRead bytes .table) (tableRead bytes .answer) (record { length = L; demand = demand })
+    (rw (says-overloaded v L demand said) at judged) in
     not-served (tableRead bytes .table) (right .0) (accepted-is-known bytes (right .0) b (right .1)) L (right .2) who

@@ -1,6 +1,6 @@
 -- The verdict is the paper's Theorem 4.2: the table's demand is the sum of the expressions of Lemma 4.1.
-use Prim.Native.Nat.{ℕ, _+_, _≤_, _<_}
-use mathlib.Core.Path.{_≡_, refl, sym, ap, ap₂, _∙_}
+use Prim.Native.Nat.{ℕ, _+_}
+use mathlib.Core.Path.{_≡_, refl, ap₂}
 use mathlib.Core.Logic.{_↔_}
 use mathlib.Core.List.{List, [], _∷_}
 use native.Mathlib.Omega.{arith}
@@ -11,16 +11,15 @@ use Rattle.theory.proofs.Paper.{demand-is-lemma41}
 use Rattle.theory.proofs.Curves.{none-where-every-length-fits}
 use Rattle.table.specs.declared.Row.{Row}
 use Rattle.table.specs.declared.Table.{Table}
-use Rattle.table.specs.declared.TableAnswer.the-variants as answer
 use Rattle.table.specs.Tables.{rowsOf, tableRead}
 use Rattle.table.specs.Laws.{WithinLimits}
 use Rattle.verdict.specs.declared.Verdict.{Verdict}
 use Rattle.verdict.specs.declared.Verdict.the-variants as verdict
 use Rattle.verdict.specs.Demand.{rowDemandOf, tableDemand}
-use Rattle.verdict.specs.Verdict.{RightOf, RightOfRead, verdictSays}
-use Rattle.verdict.proofs.Accepted.{Known, accepted-is-known}
+use Rattle.verdict.specs.Verdict.{RightOf, verdictSays}
+use Rattle.verdict.proofs.Accepted.{accepted-is-known}
 use Rattle.verdict.proofs.Rows.{rows-within}
-use Rattle.promise.specs.Paper.{Theorem42, FeasibleIsTheorem42}
+use Rattle.promise.specs.Paper.{FeasibleIsTheorem42}
 
 -- The rows' demand is the sum of the paper's expressions.
 demand-is-the-papers : (rows : List Row) (L : ℕ) → All WithinLimits rows

@@ -4,7 +4,7 @@ use Prim.Native.Nat.{ℕ, suc, _+_, _≤_, _<_}
 use mathlib.Core.Path.{_≡_}
 use mathlib.Core.Logic.{_↔_}
 use mathlib.Core.Bool.{Bool, true, _&&_}
-use mathlib.Core.List.{List, [], _∷_, List·Memᴰ}
+use mathlib.Core.List.{List, _∷_, List·Memᴰ}
 use lib.Dec.{eqb}
 use Rattle.kinds.specs.Numbering.{maxTime}
 use Rattle.numbers.specs.Laws.{Bytes}
@@ -49,8 +49,9 @@ EarliestDueFirst = (bytes : List ℕ) → Bytes bytes → (calls : List Call) (s
 abbrev pub lateAt : (time : ℕ) → List Event → Job → Bool
 lateAt time es j = eqb (j .due) time && unfinished es j
 
--- The late count is the number of accepted jobs that are due at the new clock and, with this tick's unit counted, have had fewer units than their cost.
+-- The late count is the number of accepted jobs that are due at the new clock and, with this tick's unit counted, have had fewer units than their cost. (Beside a
+-- refused tick it is 0, as no job is due after 2^40.)
 abbrev pub LateCountIsTheLate : Type 0
-LateCountIsTheLate = (bytes : List ℕ) → Bytes bytes → (calls : List Call) → clockOf (trace bytes calls) < maxTime
+LateCountIsTheLate = (bytes : List ℕ) → Bytes bytes → (calls : List Call)
     → nextLate bytes calls
     ≡ total (weightIf (lateAt (clockOf (trace bytes calls) + 1) (trace bytes (Call.tick ∷ calls))) (λ _. 1)) (jobsIn (trace bytes calls))

@@ -8,8 +8,7 @@ use Rattle.numbers.specs.Laws.{Bytes}
 use Rattle.theory.specs.Jobs.{Job, DistinctNames}
 use Rattle.verdict.specs.declared.Verdict.{Verdict}
 use Rattle.verdict.specs.Verdict.{Judged, verdictSays}
-use Rattle.run.specs.declared.Run.{Run}
-use Rattle.promise.specs.Traces.{Call, Event, runAt, trace, clockOf, jobsIn, unitsOf}
+use Rattle.promise.specs.Traces.{Call, runAt, trace, clockOf, jobsIn, unitsOf}
 
 -- `judge` says feasible of the bytes. (`Judged bytes v` is what its contract says of its answer v; one v only is so.)
 pub record SaidFeasible (bytes : List ℕ) : Type 0 where

@@ -6,6 +6,8 @@ pub mod Refusals
 pub mod Share
 pub mod NoOrder
 pub mod Paper
+pub mod AtHost
 pub mod Examples
 pub mod Spelling
 pub mod Instances
+pub mod Cheats

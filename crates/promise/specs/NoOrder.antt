@@ -5,7 +5,7 @@ use Prim.Native.Nat.{ℕ, zero, suc, _+_, _≤_}
 use mathlib.Core.Path.{_≡_}
 use mathlib.Core.Option.{Option}
 use mathlib.Core.List.{List, [], _∷_, flatten}
-use Rattle.kinds.specs.Numbering.{maxTime, Said}
+use Rattle.kinds.specs.Numbering.{maxTime}
 use Rattle.kinds.specs.declared.Tick.{Tick}
 use Rattle.numbers.specs.Laws.{Bytes}
 use Rattle.theory.specs.Lists.{All}

@@ -1,11 +1,11 @@
 -- Refused exactly when. What each release and each tick of a trace is answered, by the table and the answers before it alone: 6 and 7 by the table, 8 where so many
 -- accepted jobs are unfinished as there are places, 9 where the paper's due time over the row's accepted jobs is above 2^40, 10 after 2^40 ticks, and never 11. A
 -- refused call changes nothing. (Demand 1; docs/RULES.md, sections 6 and 10.)
-use Prim.Native.Nat.{ℕ, _≤_, _<_}
+use Prim.Native.Nat.{ℕ, _≤_}
 use mathlib.Core.Path.{_≡_}
 use mathlib.Core.Logic.{_↔_}
 use mathlib.Core.Bool.{cond}
-use mathlib.Core.List.{List, [], _∷_}
+use mathlib.Core.List.{List, _∷_}
 use lib.Dec.{leb, ltb}
 use lib.ListN.{length}
 use Rattle.kinds.specs.Numbering.{maxTime}
@@ -18,7 +18,7 @@ use Rattle.jobs.specs.Places.{maxPlaces}
 use Rattle.run.specs.Runs.{rowInUse, rowAt, costLimit}
 use Rattle.run.specs.Sound.{fromOneTo}
 use Rattle.run.specs.Release.{released}
-use Rattle.promise.specs.Answers.{ReleaseSays, accepted, releaseSays, TickSays, tickSays}
+use Rattle.promise.specs.Answers.{ReleaseSays, accepted, releaseSays, TickSays}
 use Rattle.promise.specs.Answers as says
 use Rattle.promise.specs.Traces.{Call, Event, runAt, eventOf, trace, clockOf, jobsIn, unfinishedIn}
 use Rattle.promise.specs.Choice.{nextTick}

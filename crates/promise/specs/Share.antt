@@ -7,7 +7,6 @@ use mathlib.Core.List.{List}
 use Rattle.numbers.specs.Laws.{Bytes}
 use Rattle.theory.specs.Jobs.{Job, within, weighed, costs}
 use Rattle.theory.specs.Sources.{own}
-use Rattle.table.specs.declared.Table.{Table}
 use Rattle.table.specs.Tables.{tableRead}
 use Rattle.verdict.specs.Demand.{rowDemandOf}
 use Rattle.run.specs.Runs.{rowAt}

@@ -1,8 +1,7 @@
 -- Traces: any list of calls, releases and ticks in any order, refused ones included, played from the run that `start` makes of a table's bytes. Each call is
 -- played by the definition that its contract cites, `released` or `ticked`. What the promises speak of is read from the answers alone: the clock, the jobs that
 -- were accepted, the units that a job was given. (docs/RULES.md, section 6.)
-use Prim.Native.Nat.{ℕ, suc, _+_, _<_}
-use mathlib.Core.Path.{_≡_}
+use Prim.Native.Nat.{ℕ, suc, _+_}
 use mathlib.Core.Bool.{Bool, cond}
 use mathlib.Core.List.{List, [], _∷_}
 use lib.Dec.{eqb, ltb}

@@ -1,7 +1,7 @@
 -- What the functions inside replay do, for their contracts: one record by the run's own calls, and the records of a log as they are written.
 use Prim.Native.Nat.{ℕ, _+_, _-_}
 use mathlib.Core.Path.{_≡_}
-use mathlib.Core.Bool.{Bool, true, false, cond}
+use mathlib.Core.Bool.{true, false, cond}
 use mathlib.Core.List.{List, [], _∷_, _++_}
 use lib.ListN.{length, take, drop}
 use Rattle.kinds.specs.declared.Finish.{Finish}
@@ -12,13 +12,11 @@ use Rattle.jobs.specs.declared.Finishes.{Finishes}
 use Rattle.jobs.specs.Turns.{finishesOf}
 use Rattle.run.specs.declared.Run.{Run}
 use Rattle.run.specs.declared.Advanced.{Advanced}
-use Rattle.run.specs.declared.ReleaseStep.{ReleaseStep}
 use Rattle.run.specs.declared.Released.{Released}
 use Rattle.run.specs.declared.Released.the-variants as release
 use Rattle.run.specs.Release.{released}
 use Rattle.run.specs.Advance.{advanced}
 use Rattle.log.specs.Log.{writtenRecord, restAfter}
-use Rattle.log.specs.Laws.{spelledLog}
 use Rattle.replay.specs.declared.Numbers.{Numbers}
 use Rattle.replay.specs.declared.Ready.{Ready}
 use Rattle.replay.specs.declared.Tested.{Tested}

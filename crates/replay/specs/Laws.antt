@@ -21,7 +21,7 @@ use Rattle.script.specs.declared.Record.{Record}
 use Rattle.script.specs.Laws.{Reads}
 use Rattle.log.specs.Laws.{EachInRange, ReadsAs, spelledLog}
 use Rattle.replay.specs.declared.Replayed.{Replayed}
-use Rattle.replay.specs.Play.{Progress, Played, whole, played}
+use Rattle.replay.specs.Play.{Progress, whole, played}
 use Rattle.replay.specs.Outcome.{lateFinishes, replaySays}
 
 -- ---- words for what is proved

@@ -1,6 +1,5 @@
 -- What a replay answers, and its log. (docs/RULES.md, sections 8.8 to 8.17 and 9.5.)
 use Prim.Native.Nat.{ℕ, _+_}
-use mathlib.Core.Path.{_≡_}
 use mathlib.Core.Bool.{Bool, cond}
 use mathlib.Core.List.{List, [], _∷_, _++_}
 use lib.Dec.{leb, ltb, eqb}

@@ -102,7 +102,7 @@ fn place_after(number: Placed) -> usize
 }
 
 // The three numbers that stand at a place.
-pub fn numbers_at(script: &[u8], at: usize) -> Numbers
+fn numbers_at(script: &[u8], at: usize) -> Numbers
     ensures { λ r. ⌜ r ≡ numbersAt (now (script .entry)) at ⌝ }
 {
     let gap = placed_at(script, at);

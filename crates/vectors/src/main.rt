@@ -1,12 +1,18 @@
 // The edges of docs/RULES.md: the proved calls work each of them out, and it is printed on a line of its own. What is printed is held to the file `stdout`.
 // Each topic has a file, with one function that prints all of it.
+mod lent_forms;
 mod numbers_edges;
 mod print;
+mod replays_edges;
 mod runs_edges;
+mod scripts_edges;
 mod verdicts_edges;
 
 fn main() {
     numbers_edges::all();
     verdicts_edges::all();
     runs_edges::all();
+    scripts_edges::all();
+    replays_edges::all();
+    lent_forms::all();
 }

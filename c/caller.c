@@ -1,0 +1,285 @@
+#include "caller.h"
+
+#include "jyrmekko.h"
+
+#include <stdio.h>
+#include <stdlib.h>
+#include <string.h>
+
+static void expect(bool kept, const char *rule)
+{
+    if (!kept) {
+        fprintf(stderr, "rule broken: %s\n", rule);
+        abort();
+    }
+}
+
+/* A buffer to be written to: between guards, and full of one byte, so that every byte written shows. */
+struct lent {
+    uint8_t *block;
+    uint8_t *at; /* null for length 0 */
+    size_t length;
+    uint8_t fill;
+};
+
+enum { GUARD = 64 };
+
+static struct lent lend(size_t length, uint8_t fill)
+{
+    struct lent lent = {allocate(length + 2 * GUARD), NULL, length, fill};
+    memset(lent.block, fill, length + 2 * GUARD);
+    if (length > 0)
+        lent.at = lent.block + GUARD;
+    return lent;
+}
+
+/* Only the first bytes, as many as written says, may have been written to. */
+static void take_back(struct lent lent, size_t written)
+{
+    size_t size = lent.length + 2 * GUARD;
+    for (size_t i = 0; i < size; i++)
+        if (i < GUARD || i >= GUARD + written)
+            expect(lent.block[i] == lent.fill, "bytes that are not part of the answer or log stay as they were");
+    free(lent.block);
+}
+
+/* A copy that ends where its block ends, so that a memory checker sees any step past it; null for length 0. */
+static struct bytes copy(struct bytes bytes)
+{
+    struct bytes copied = {NULL, bytes.length};
+    if (bytes.length > 0)
+        copied.at = memcpy(allocate(bytes.length), bytes.at, bytes.length);
+    return copied;
+}
+
+static void expect_only_read(struct bytes lent, struct bytes original)
+{
+    expect(lent.length == 0 || memcmp(lent.at, original.at, lent.length) == 0, "table and script are only read");
+    free(lent.at);
+}
+
+/* Takes the answer buffer back. Beside 13 nothing is written to it, and both numbers are given as 0. */
+static struct answer read_answer(uint32_t status, struct lent buffer)
+{
+    struct answer answer = {status, 0, 0};
+    bool refused = status == JYRMEKKO_ANSWER_NOT_16_BYTES;
+    expect(refused == (buffer.length != JYRMEKKO_ANSWER_SIZE), "13 exactly for an answer buffer that has not 16 bytes");
+    if (!refused)
+        answer = answer_of(status, buffer.at);
+    take_back(buffer, refused ? 0 : JYRMEKKO_ANSWER_SIZE);
+    return answer;
+}
+
+static bool same(struct answer one, struct answer other)
+{
+    return one.status == other.status && one.first == other.first && one.second == other.second;
+}
+
+static bool refuses_table(uint32_t status)
+{
+    return status >= JYRMEKKO_TABLE_MISSPELLED && status <= JYRMEKKO_PERIOD_TOO_LONG;
+}
+
+static bool refuses_script(uint32_t status)
+{
+    return (status >= JYRMEKKO_NO_SUCH_ROW && status <= JYRMEKKO_TIME_TOO_LATE) ||
+           status == JYRMEKKO_SCRIPT_MISSPELLED || status == JYRMEKKO_LOG_TOO_SHORT;
+}
+
+static bool is_replayed(uint32_t status)
+{
+    return status == JYRMEKKO_IN_TIME || status == JYRMEKKO_LATE;
+}
+
+static void expect_table_refusal(struct answer answer, size_t table_length)
+{
+    expect(answer.second == 0, "the second number beside a refusal is 0");
+    switch (answer.status) {
+    case JYRMEKKO_TOO_MANY_ROWS:
+        expect(answer.first == 0, "2 points at the row count");
+        break;
+    case JYRMEKKO_PERIOD_TOO_LONG:
+        expect(answer.first == table_length, "5 points at the table's end");
+        break;
+    case JYRMEKKO_TABLE_MISSPELLED:
+        expect(answer.first <= table_length, "1 points into the table, or at its end");
+        break;
+    default:
+        expect(answer.first < table_length, "3 and 4 point into the table");
+    }
+}
+
+static struct answer judge_once(struct bytes table, size_t answer_length, uint8_t fill)
+{
+    struct bytes lent = copy(table);
+    struct lent buffer = lend(answer_length, fill);
+    uint32_t status = verdict(lent.at, lent.length, buffer.at, buffer.length);
+    expect(status == JYRMEKKO_FEASIBLE || status == JYRMEKKO_OVERLOADED || refuses_table(status) ||
+               status == JYRMEKKO_ANSWER_NOT_16_BYTES,
+           "a verdict's status is 20, 21, 1 to 5, or 13");
+    expect_only_read(lent, table);
+    return read_answer(status, buffer);
+}
+
+static struct answer judge(struct bytes table)
+{
+    struct answer answer = judge_once(table, JYRMEKKO_ANSWER_SIZE, 0xA5);
+    expect(same(answer, judge_once(table, JYRMEKKO_ANSWER_SIZE, 0x5A)), "a verdict depends on the table alone");
+    judge_once(table, JYRMEKKO_ANSWER_SIZE - 1, 0xA5);
+    judge_once(table, JYRMEKKO_ANSWER_SIZE + 1, 0xA5);
+    judge_once(table, 0, 0xA5);
+    if (answer.status == JYRMEKKO_FEASIBLE)
+        expect(answer.first == 0 && answer.second == 0, "zeros beside 20");
+    else if (answer.status == JYRMEKKO_OVERLOADED)
+        expect(answer.first >= 1 && answer.second > answer.first, "the witness's demand is above its length");
+    else
+        expect_table_refusal(answer, table.length);
+    return answer;
+}
+
+static void expect_script_refusal(struct answer answer, size_t script_length)
+{
+    expect(answer.second == 0, "the second number beside a refusal is 0");
+    switch (answer.status) {
+    case JYRMEKKO_LOG_TOO_SHORT:
+        expect(answer.first == script_length, "12 points at the script's end");
+        break;
+    case JYRMEKKO_TIME_TOO_LATE:
+    case JYRMEKKO_SCRIPT_MISSPELLED:
+        expect(answer.first <= script_length, "10 and 14 point into the script, or at its end");
+        break;
+    default:
+        expect(answer.first < script_length, "6 to 9 point into the script");
+    }
+}
+
+/* The log has one record for each release, in order of finishing, and as many late ones as the answer says. */
+static void expect_log(struct bytes log, struct bytes script, uint64_t late_answered)
+{
+    enum { SERIAL, ROW, RELEASE, DUE, FINISH, NUMBERS };
+    uint64_t jobs = count_numbers(script) / 3, records = 0, late = 0, last_finish = 0;
+    size_t at = 0;
+    while (at < log.length) {
+        uint64_t job[NUMBERS];
+        for (int i = 0; i < NUMBERS; i++)
+            expect(read_number(log, &at, &job[i]), "the log is whole records of well spelled numbers");
+        expect(job[SERIAL] < jobs, "serials are below the number of jobs");
+        expect(job[RELEASE] < job[DUE] && job[RELEASE] < job[FINISH], "jobs are due, and finish, after their release");
+        expect(job[FINISH] > last_finish, "at most one job finishes in a tick");
+        last_finish = job[FINISH];
+        late += job[FINISH] > job[DUE];
+        records++;
+    }
+    expect(last_finish <= UINT64_C(1) << 40, "the clock ends at 2^40");
+    expect(records == jobs, "each release of the script has its record in the log");
+    expect(late == late_answered, "the number of late jobs is the log's");
+}
+
+/* Where log is not null, it gets a copy of the log, if the replay is not refused. */
+static struct answer replay_once(struct bytes table, struct bytes script, size_t log_length, size_t answer_length,
+                                 uint8_t fill, struct bytes *log)
+{
+    struct bytes lent_table = copy(table), lent_script = copy(script);
+    struct lent lent_log = lend(log_length, fill), buffer = lend(answer_length, fill);
+    uint32_t status = replay(lent_table.at, lent_table.length, lent_script.at, lent_script.length,
+                             lent_log.at, lent_log.length, buffer.at, buffer.length);
+    expect(is_replayed(status) || refuses_table(status) || refuses_script(status) ||
+               status == JYRMEKKO_ANSWER_NOT_16_BYTES,
+           "a replay's status is 22, 23, 1 to 10, or 12 to 14");
+    struct answer answer = read_answer(status, buffer);
+    size_t written = 0;
+    if (is_replayed(status)) {
+        expect(answer.first <= log_length, "the log fits its buffer");
+        written = (size_t)answer.first;
+        if (log != NULL)
+            *log = copy((struct bytes){lent_log.at, written});
+    } else if (status != JYRMEKKO_ANSWER_NOT_16_BYTES) {
+        for (size_t i = 0; i < log_length; i++)
+            expect(lent_log.at[i] == 0, "a refusal leaves zeros in the whole log");
+        written = log_length;
+    }
+    take_back(lent_log, written);
+    expect_only_read(lent_table, table);
+    expect_only_read(lent_script, script);
+    return answer;
+}
+
+static struct answer replay_with(struct bytes table, struct bytes script, size_t log_length)
+{
+    struct bytes log = {NULL, 0}, again = {NULL, 0};
+    struct answer answer = replay_once(table, script, log_length, JYRMEKKO_ANSWER_SIZE, 0xA5, &log);
+    expect(same(answer, replay_once(table, script, log_length, JYRMEKKO_ANSWER_SIZE, 0x5A, &again)) &&
+               (log.length == 0 || memcmp(log.at, again.at, log.length) == 0),
+           "a replay depends on nothing that stood in the buffers before");
+    if (is_replayed(answer.status)) {
+        expect((answer.status == JYRMEKKO_IN_TIME) == (answer.second == 0), "22 exactly when no job is late");
+        expect_log(log, script, answer.second);
+    } else if (refuses_table(answer.status)) {
+        expect_table_refusal(answer, table.length);
+    } else {
+        expect_script_refusal(answer, script.length);
+    }
+    free(log.at);
+    free(again.at);
+    return answer;
+}
+
+/*
+ * The most lengths that a search from 1 up has to look at before it has the verdict; 0 for a table that is refused. The
+ * rules promise that the verdict comes, and not how soon, so long searches are not tried here.
+ */
+static uint64_t search_of(struct bytes table)
+{
+    enum { X, Y, D, C, VALUES, MOST_ROWS = 16, LONGEST_PERIOD = 1048576 };
+    static const uint64_t most[VALUES] = {64, 4096, 16384, 4096};
+    uint64_t rows[MOST_ROWS][VALUES];
+    uint64_t count, period = 1, longest = 0, per_period = 0, spared = 0;
+    size_t at = 0;
+    if (!read_number(table, &at, &count) || count > MOST_ROWS)
+        return 0;
+    for (uint64_t i = 0; i < count; i++) {
+        for (int value = X; value < VALUES; value++)
+            if (!read_number(table, &at, &rows[i][value]) || rows[i][value] < 1 || rows[i][value] > most[value])
+                return 0;
+        uint64_t multiple = period;
+        while (multiple % rows[i][Y] != 0)
+            multiple += period;
+        if (multiple > LONGEST_PERIOD)
+            return 0;
+        period = multiple;
+    }
+    for (uint64_t i = 0; i < count; i++) {
+        uint64_t units = rows[i][X] * rows[i][C] * (period / rows[i][Y]);
+        per_period += units;
+        spared += units * rows[i][D];
+        if (rows[i][D] > longest)
+            longest = rows[i][D];
+    }
+    if (per_period <= period)
+        return period + longest;
+    /* A row's demand in L is above units * (L - d) / period, so the table's is above L at this length. */
+    return spared / (per_period - period) + 1;
+}
+
+struct answers call_on(struct bytes table, struct bytes script, size_t log_length)
+{
+    enum { LONG_SEARCH = 1 << 21 };
+    struct answer whole = replay_with(table, script, JYRMEKKO_LOG_SIZE(script.length));
+    struct answer given = replay_with(table, script, log_length);
+    struct answer judged = {0, 0, 0};
+    expect(whole.status != JYRMEKKO_LOG_TOO_SHORT, "a log of ten times the script's length is always long enough");
+    if (is_replayed(whole.status) && log_length < whole.first)
+        expect(given.status == JYRMEKKO_LOG_TOO_SHORT, "12 where only the log's buffer is too short");
+    else
+        expect(same(given, whole), "the length of the log buffer decides on 12 alone");
+    replay_once(table, script, log_length, JYRMEKKO_ANSWER_SIZE - 1, 0xA5, NULL);
+    replay_once(table, script, log_length, JYRMEKKO_ANSWER_SIZE + 1, 0xA5, NULL);
+    if (search_of(table) < LONG_SEARCH) {
+        judged = judge(table);
+        if (refuses_table(judged.status) || refuses_table(whole.status))
+            expect(same(judged, whole), "verdict and replay refuse the same tables, at the same place");
+        if (judged.status == JYRMEKKO_FEASIBLE)
+            expect(whole.status != JYRMEKKO_LATE, "on a feasible table no job is late");
+    }
+    return (struct answers){judged, whole};
+}

@@ -1,0 +1,42 @@
+# shellcheck shell=bash
+# For the test scripts here: each check is counted, and 'finish' says the last line 'N passed, M failed'.
+passed=0
+failed=0
+
+# check WHAT STATUS PATTERN COMMAND..: the command exits with STATUS, and all that it says matches PATTERN
+check() {
+  local what=$1 status=$2 pattern=$3 said got
+  shift 3
+  said=$("$@" 2>&1)
+  got=$?
+  # shellcheck disable=SC2053 # a pattern, and not a text
+  if [ "$got" -eq "$status" ] && [[ $said == $pattern ]]; then
+    passed=$((passed + 1))
+  else
+    failed=$((failed + 1))
+    printf '%s: wanted status %s and "%s", got %s and:\n%s\n' "$what" "$status" "$pattern" "$got" "$said"
+  fi
+}
+
+# need WHAT COMMAND..: a check without which the others are worth nothing
+need() {
+  local failed_before=$failed
+  check "$1" 0 '*' "${@:2}"
+  if [ "$failed" -gt "$failed_before" ]; then
+    finish
+    exit 1
+  fi
+}
+
+finish() {
+  echo "$passed passed, $failed failed"
+  [ "$failed" -eq 0 ]
+}
+
+# bytes HEX..: these bytes, on standard output
+bytes() {
+  local all
+  printf -v all '\\x%s' "$@"
+  # shellcheck disable=SC2059 # the bytes are the format
+  [ $# -eq 0 ] || printf "$all"
+}

@@ -1,0 +1,56 @@
+/*
+ * drive TABLE SCRIPT: the suspicious caller on a table and a script, with a log of every length, and on what damage
+ * makes of the two files: each cut short at every byte, and each byte replaced.
+ */
+#include "caller.h"
+
+#include <stdio.h>
+#include <stdlib.h>
+
+static struct bytes table, script;
+static unsigned long tried;
+
+static struct answers try(size_t log_length)
+{
+    tried++;
+    return call_on(table, script, log_length);
+}
+
+static void try_logs(void)
+{
+    uint64_t longest = try(0).replay.first;
+    for (size_t log_length = 1; log_length <= longest + 1; log_length++)
+        try(log_length);
+}
+
+/* damaged is the table or the script. */
+static void try_damage(struct bytes *damaged)
+{
+    static const uint8_t bytes[] = {0x00, 0x01, 0x7F, 0x80, 0x81, 0xFF}; /* each end of a group, last or not */
+    size_t length = damaged->length;
+    for (damaged->length = 0; damaged->length < length; damaged->length++)
+        try(script.length);
+    for (size_t i = 0; i < length; i++) {
+        uint8_t kept = damaged->at[i];
+        for (size_t j = 0; j < sizeof bytes; j++) {
+            damaged->at[i] = bytes[j];
+            try(script.length);
+        }
+        damaged->at[i] = kept;
+    }
+}
+
+int main(int words, char **word)
+{
+    if (words != 3)
+        stop(RIG_USAGE, "drive TABLE SCRIPT");
+    table = read_file(word[1]);
+    script = read_file(word[2]);
+    try_logs();
+    try_damage(&table);
+    try_damage(&script);
+    printf("%lu cases tried\n", tried);
+    free(table.at);
+    free(script.at);
+    return RIG_DONE;
+}

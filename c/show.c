@@ -1,0 +1,129 @@
+/* `rig show`: the numbers of a table, a script or a log as columns. */
+#include "rig.h"
+
+#include <inttypes.h>
+#include <stdio.h>
+#include <stdlib.h>
+#include <string.h>
+
+enum { MOST_COLUMNS = 5 };
+
+/* What the first column shows: a number of the file, the record's own number, or the byte where the record starts. */
+enum first_column { FROM_FILE, RECORD_NUMBER, RECORD_PLACE };
+
+struct kind {
+    const char *name;
+    const char *record;
+    bool counted; /* the file starts with its number of records */
+    enum first_column first;
+    size_t columns;
+    const char *heads[MOST_COLUMNS];
+};
+
+static const struct kind kinds[] = {
+    {"table", "row", true, RECORD_NUMBER, 5, {"row", "x", "y", "d", "c"}},
+    {"script", "release", false, RECORD_PLACE, 4, {"byte", "gap", "row", "cost"}},
+    {"log", "job", false, FROM_FILE, 5, {"serial", "row", "release", "due", "finish"}},
+};
+static const struct kind *const log_kind = &kinds[2];
+enum { LOG_DUE = 3, LOG_FINISH = 4 };
+
+static const struct kind *kind_named(const char *name)
+{
+    for (size_t i = 0; i < sizeof kinds / sizeof kinds[0]; i++)
+        if (strcmp(kinds[i].name, name) == 0)
+            return &kinds[i];
+    stop(RIG_USAGE, "show what? table, script or log, and not '%s'", name);
+}
+
+/* A file being read record by record. */
+struct reading {
+    const struct kind *kind;
+    struct bytes bytes;
+    size_t at;
+    uint64_t records; /* read so far */
+    uint64_t wanted;  /* in all, of a counted kind */
+    bool damaged;     /* at stands on a number that can't be read */
+};
+
+static struct reading start_reading(const struct kind *kind, struct bytes bytes)
+{
+    struct reading reading = {kind, bytes, 0, 0, 0, false};
+    if (kind->counted)
+        reading.damaged = !read_number(bytes, &reading.at, &reading.wanted);
+    return reading;
+}
+
+/* Reads one more record into cells. False at the end, and where the record can't be read to its end. */
+static bool read_record(struct reading *reading, uint64_t cells[MOST_COLUMNS])
+{
+    const struct kind *kind = reading->kind;
+    size_t column = 0;
+    bool ended = kind->counted ? reading->records == reading->wanted : reading->at == reading->bytes.length;
+    if (ended || reading->damaged)
+        return false;
+    if (kind->first != FROM_FILE)
+        cells[column++] = kind->first == RECORD_NUMBER ? reading->records : reading->at;
+    for (; column < kind->columns; column++)
+        if (!read_number(reading->bytes, &reading->at, &cells[column])) {
+            reading->damaged = true;
+            return false;
+        }
+    reading->records++;
+    return true;
+}
+
+static void measure(struct reading reading, int widths[MOST_COLUMNS])
+{
+    const struct kind *kind = reading.kind;
+    uint64_t cells[MOST_COLUMNS];
+    for (size_t column = 0; column < kind->columns; column++)
+        widths[column] = (int)strlen(kind->heads[column]);
+    while (read_record(&reading, cells))
+        for (size_t column = 0; column < kind->columns; column++) {
+            int width = snprintf(NULL, 0, "%" PRIu64, cells[column]);
+            if (width > widths[column])
+                widths[column] = width;
+        }
+}
+
+/* Prints the records that can be read, late jobs marked, and how many they are. */
+static void print(struct reading *reading)
+{
+    const struct kind *kind = reading->kind;
+    uint64_t cells[MOST_COLUMNS];
+    uint64_t late = 0;
+    int widths[MOST_COLUMNS];
+    measure(*reading, widths);
+    for (size_t column = 0; column < kind->columns; column++)
+        printf("%s%*s", column > 0 ? "  " : "", widths[column], kind->heads[column]);
+    putchar('\n');
+    while (read_record(reading, cells)) {
+        for (size_t column = 0; column < kind->columns; column++)
+            printf("%s%*" PRIu64, column > 0 ? "  " : "", widths[column], cells[column]);
+        if (kind == log_kind && cells[LOG_FINISH] > cells[LOG_DUE]) {
+            printf("  LATE by %" PRIu64, cells[LOG_FINISH] - cells[LOG_DUE]);
+            late++;
+        }
+        putchar('\n');
+    }
+    printf("%" PRIu64 " %s%s", reading->records, kind->record, reading->records == 1 ? "" : "s");
+    if (kind == log_kind)
+        printf(", %" PRIu64 " late", late);
+    putchar('\n');
+}
+
+void show(const char *kind_name, const char *path)
+{
+    const struct kind *kind = kind_named(kind_name);
+    struct bytes bytes = read_file(path);
+    struct reading reading = start_reading(kind, bytes);
+    print(&reading);
+    free(bytes.at);
+    if (reading.damaged)
+        stop(RIG_CONTENT, "%s is no %s: at byte %zu a number is misspelled, too long or cut off", path, kind->name,
+             reading.at);
+    if (reading.at < bytes.length)
+        stop(RIG_CONTENT, "%s is no %s: there are bytes after its last %s, from byte %zu on", path, kind->name,
+             kind->record, reading.at);
+}

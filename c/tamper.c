@@ -1,0 +1,89 @@
+/*
+ * The library's two calls, tampered with in the one way that the environment variable TAMPER names, to show that a test
+ * sees it. A program is linked with this file and -Wl,--wrap=verdict,--wrap=replay.
+ */
+#include "jyrmekko.h"
+
+#include <stdbool.h>
+#include <stdlib.h>
+#include <string.h>
+
+uint32_t __real_verdict(const uint8_t *, size_t, uint8_t *, size_t);
+uint32_t __wrap_verdict(const uint8_t *, size_t, uint8_t *, size_t);
+uint32_t __real_replay(const uint8_t *, size_t, const uint8_t *, size_t, uint8_t *, size_t, uint8_t *, size_t);
+uint32_t __wrap_replay(const uint8_t *, size_t, const uint8_t *, size_t, uint8_t *, size_t, uint8_t *, size_t);
+
+enum { FIRST = 0, SECOND = 8 }; /* where the answer's numbers start */
+
+/* A name that is none of these ends the program: a test that tampers with nothing by mistake would show nothing. */
+static bool tampering(const char *name)
+{
+    static const char *const names[] = {"nothing", "status", "answer-past-its-end", "answer-beside-13", "second-number",
+                                        "place", "answer-from-before", "table-written", "always-feasible",
+                                        "log-before-its-start", "log-past-its-length", "log-kept", "log-cut",
+                                        "log-too-long"};
+    const char *chosen = getenv("TAMPER");
+    for (size_t i = 0; chosen != NULL && i < sizeof names / sizeof names[0]; i++)
+        if (strcmp(chosen, names[i]) == 0)
+            return strcmp(chosen, name) == 0;
+    abort();
+}
+
+static bool is_refusal(uint32_t status)
+{
+    return status < JYRMEKKO_FEASIBLE || status > JYRMEKKO_LATE;
+}
+
+/* What can be done to both calls; before is what the answer buffer had for its first byte. */
+static uint32_t tampered(uint32_t status, const uint8_t *table, size_t table_len, uint8_t *answer, size_t answer_len,
+                         uint8_t before)
+{
+    if (tampering("table-written") && table_len > 0)
+        ((uint8_t *)table)[0] ^= 1;
+    if (tampering("answer-beside-13") && status == JYRMEKKO_ANSWER_NOT_16_BYTES && answer_len > 0)
+        answer[FIRST] ^= 1;
+    if (status != JYRMEKKO_ANSWER_NOT_16_BYTES) {
+        if (tampering("answer-past-its-end"))
+            answer[JYRMEKKO_ANSWER_SIZE] ^= 1;
+        if (tampering("answer-from-before"))
+            answer[FIRST] ^= before & 1;
+        if (tampering("second-number") && is_refusal(status))
+            answer[SECOND] = 1;
+        if (tampering("place") && is_refusal(status))
+            answer[SECOND - 1] = 1;
+        if (tampering("status"))
+            return (uint32_t)strtoul(getenv("TAMPER_STATUS"), NULL, 10);
+    }
+    return status;
+}
+
+uint32_t __wrap_verdict(const uint8_t *table, size_t table_len, uint8_t *answer, size_t answer_len)
+{
+    uint8_t before = answer_len > 0 ? answer[FIRST] : 0;
+    uint32_t status = __real_verdict(table, table_len, answer, answer_len);
+    if (tampering("always-feasible") && status == JYRMEKKO_OVERLOADED) {
+        memset(answer, 0, answer_len);
+        return JYRMEKKO_FEASIBLE;
+    }
+    return tampered(status, table, table_len, answer, answer_len, before);
+}
+
+uint32_t __wrap_replay(const uint8_t *table, size_t table_len, const uint8_t *script, size_t script_len,
+                       uint8_t *log, size_t log_len, uint8_t *answer, size_t answer_len)
+{
+    uint8_t before = answer_len > 0 ? answer[FIRST] : 0;
+    uint32_t status = __real_replay(table, table_len, script, script_len, log, log_len, answer, answer_len);
+    if (log_len > 0 && status != JYRMEKKO_ANSWER_NOT_16_BYTES) {
+        if (tampering("log-before-its-start"))
+            log[-1] ^= 1;
+        if (tampering("log-kept") && is_refusal(status))
+            log[log_len - 1] = 1;
+        if (tampering("log-past-its-length") && !is_refusal(status))
+            log[log_len - 1] ^= 1;
+        if (tampering("log-cut") && !is_refusal(status))
+            answer[FIRST]--;
+        if (tampering("log-too-long") && !is_refusal(status))
+            answer[SECOND - 1] = 1;
+    }
+    return tampered(status, table, table_len, answer, answer_len, before);
+}

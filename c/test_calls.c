@@ -1,0 +1,286 @@
+/*
+ * Tests the two calls of jyrmekko.h as a host in C makes them, and as one in C++ does: the file is compiled as both.
+ * The last line is 'N passed, M failed'.
+ */
+#include "jyrmekko.h"
+
+#include <stdio.h>
+#include <string.h>
+
+#define COUNT(array) (sizeof(array) / sizeof((array)[0]))
+
+/* What buffers are filled with beforehand, so that every byte that is written shows. */
+#define UNTOUCHED 0xA5
+
+/* 2^40 and numbers near it. */
+#define LAST_TICK 0x80, 0x80, 0x80, 0x80, 0x80, 0x20
+#define LAST_TICK_PLUS_1 0x81, 0x80, 0x80, 0x80, 0x80, 0x20
+#define LAST_TICK_MINUS_2 0xFE, 0xFF, 0xFF, 0xFF, 0xFF, 0x1F
+#define LAST_TICK_MINUS_5 0xFB, 0xFF, 0xFF, 0xFF, 0xFF, 0x1F
+#define LAST_TICK_MINUS_6 0xFA, 0xFF, 0xFF, 0xFF, 0xFF, 0x1F
+
+enum { FENCE = 16, MOST_LOG = 400 };
+
+static unsigned passed, failed;
+
+static void check(int good, const char *name, const char *what)
+{
+    if (good) {
+        passed++;
+    } else {
+        failed++;
+        printf("%s: wrong %s\n", name, what);
+    }
+}
+
+static int all_bytes(const uint8_t *bytes, size_t length, uint8_t value)
+{
+    size_t i;
+    for (i = 0; i < length; i++) {
+        if (bytes[i] != value) {
+            return 0;
+        }
+    }
+    return 1;
+}
+
+static int same_bytes(const uint8_t *one, const uint8_t *other, size_t length)
+{
+    return length == 0 || memcmp(one, other, length) == 0;
+}
+
+static uint64_t number(const uint8_t *eight_bytes)
+{
+    uint64_t value = 0;
+    int i;
+    for (i = 7; i >= 0; i--) {
+        value = value << 8 | eight_bytes[i];
+    }
+    return value;
+}
+
+/* A buffer to lend, from bytes + FENCE, with bytes around it that nobody may touch. */
+struct fenced {
+    uint8_t bytes[FENCE + MOST_LOG + FENCE];
+};
+
+static uint8_t *untouched(struct fenced *buffer)
+{
+    memset(buffer->bytes, UNTOUCHED, sizeof buffer->bytes);
+    return buffer->bytes + FENCE;
+}
+
+static int fence_stands(const struct fenced *buffer, size_t length)
+{
+    return all_bytes(buffer->bytes, FENCE, UNTOUCHED)
+        && all_bytes(buffer->bytes + FENCE + length, sizeof buffer->bytes - FENCE - length, UNTOUCHED);
+}
+
+static void check_answer(const char *name, const uint8_t *answer, uint64_t first, uint64_t second)
+{
+    check(number(answer) == first, name, "first number");
+    check(number(answer + 8) == second, name, "second number");
+}
+
+/* Verdicts. */
+
+struct verdict_case {
+    const char *name;
+    uint8_t table[16];
+    size_t table_len;
+    uint32_t status;
+    uint64_t first, second;
+};
+
+static const struct verdict_case verdict_cases[] = {
+    {"V1", {0}, 1, JYRMEKKO_FEASIBLE, 0, 0},
+    {"V2", {1, 1, 2, 6, 1}, 5, JYRMEKKO_FEASIBLE, 0, 0},
+    {"V3", {2, 1, 4, 4, 2, 1, 6, 6, 3}, 9, JYRMEKKO_FEASIBLE, 0, 0},
+    {"V4", {2, 1, 4, 3, 2, 1, 6, 5, 3}, 9, JYRMEKKO_OVERLOADED, 11, 12},
+    {"V5", {1, 3, 6, 6, 2}, 5, JYRMEKKO_FEASIBLE, 0, 0},
+    {"V6", {1, 3, 6, 5, 2}, 5, JYRMEKKO_OVERLOADED, 5, 6},
+    {"V7", {1, 2, 1, 1, 1}, 5, JYRMEKKO_OVERLOADED, 1, 2},
+    {"V8", {1, 1, 2, 10, 3}, 5, JYRMEKKO_OVERLOADED, 26, 27},
+    {"longest period, 1023 and 1025", {2, 1, 0xFF, 0x07, 1, 1, 1, 0x81, 0x08, 2, 1}, 11, JYRMEKKO_FEASIBLE, 0, 0},
+    {"y 4096", {1, 1, 0x80, 0x20, 1, 1}, 6, JYRMEKKO_FEASIBLE, 0, 0},
+    {"no table", {0}, 0, JYRMEKKO_TABLE_MISSPELLED, 0, 0},
+    {"count 80 00", {0x80, 0x00}, 2, JYRMEKKO_TABLE_MISSPELLED, 0, 0},
+    {"cut before x", {1}, 1, JYRMEKKO_TABLE_MISSPELLED, 1, 0},
+    {"cut in d", {1, 1, 2, 0x86}, 4, JYRMEKKO_TABLE_MISSPELLED, 3, 0},
+    {"y of seven groups", {1, 1, 0x81, 0x81, 0x81, 0x81, 0x81, 0x81, 1, 1, 1}, 11, JYRMEKKO_TABLE_MISSPELLED, 2, 0},
+    {"17 rows", {17}, 1, JYRMEKKO_TOO_MANY_ROWS, 0, 0},
+    {"x 0", {1, 0, 2, 6, 1}, 5, JYRMEKKO_VALUE_OUT_OF_RANGE, 1, 0},
+    {"x 65", {1, 65, 2, 6, 1}, 5, JYRMEKKO_VALUE_OUT_OF_RANGE, 1, 0},
+    {"y 4097", {1, 1, 0x81, 0x20, 1, 1}, 6, JYRMEKKO_VALUE_OUT_OF_RANGE, 2, 0},
+    {"d 16385", {1, 1, 2, 0x81, 0x80, 0x01, 1}, 7, JYRMEKKO_VALUE_OUT_OF_RANGE, 3, 0},
+    {"c 0", {1, 1, 2, 6, 0}, 5, JYRMEKKO_VALUE_OUT_OF_RANGE, 4, 0},
+    {"a bad x beats a misspelled y", {1, 0, 0x80, 0x00}, 4, JYRMEKKO_VALUE_OUT_OF_RANGE, 1, 0},
+    {"bytes after the last row", {1, 1, 2, 6, 1, 0x80, 0x00}, 7, JYRMEKKO_BYTES_AFTER_TABLE, 5, 0},
+    {"period too long, 1141 and 919", {2, 1, 0xF5, 0x08, 1, 1, 1, 0x97, 0x07, 2, 1}, 11, JYRMEKKO_PERIOD_TOO_LONG, 11, 0},
+};
+
+static void test_verdict(const struct verdict_case *c)
+{
+    struct fenced buffer;
+    uint8_t *answer = untouched(&buffer);
+    uint8_t table[sizeof c->table];
+    memcpy(table, c->table, sizeof table);
+    check(verdict(table, c->table_len, answer, JYRMEKKO_ANSWER_SIZE) == c->status, c->name, "status");
+    check_answer(c->name, answer, c->first, c->second);
+    check(fence_stands(&buffer, JYRMEKKO_ANSWER_SIZE), c->name, "bytes around the answer");
+    check(same_bytes(table, c->table, sizeof table), c->name, "table afterwards");
+}
+
+/* Replays. */
+
+#define V2 {1, 1, 2, 6, 1}, 5
+#define V3 {2, 1, 4, 4, 2, 1, 6, 6, 3}, 9
+#define V7 {1, 2, 1, 1, 1}, 5
+#define HOPELESS {1, 1, 1, 2, 3}, 5
+#define R1 {0, 0, 2, 0, 1, 3, 4, 0, 2}, 9
+#define R1_LOG {0, 0, 0, 4, 2, 1, 1, 0, 6, 5, 2, 0, 4, 8, 7}
+
+struct replay_case {
+    const char *name;
+    uint8_t table[16];
+    size_t table_len;
+    uint8_t script[20];
+    size_t script_len;
+    size_t log_len;
+    uint32_t status;
+    uint64_t first, second;
+    /* With 22 and 23: the log, whose length is the first number. */
+    uint8_t log[20];
+};
+
+static const struct replay_case replay_cases[] = {
+    {"R1", V3, R1, 15, JYRMEKKO_IN_TIME, 15, 0, R1_LOG},
+    {"R1 with log to spare", V3, R1, 90, JYRMEKKO_IN_TIME, 15, 0, R1_LOG},
+    {"no jobs", V3, {0}, 0, 9, JYRMEKKO_IN_TIME, 0, 0, {0}},
+    {"no jobs and no log", {0}, 1, {0}, 0, 0, JYRMEKKO_IN_TIME, 0, 0, {0}},
+    {"one job in time", V7, {0, 0, 1}, 3, 9, JYRMEKKO_IN_TIME, 5, 0, {0, 0, 0, 1, 1}},
+    {"one of two late", V7, {0, 0, 1, 0, 0, 1}, 6, 20, JYRMEKKO_LATE, 10, 1, {0, 0, 0, 1, 1, 1, 0, 0, 1, 2}},
+    {"due at the last tick", V2, {LAST_TICK_MINUS_6, 0, 1}, 8, 20, JYRMEKKO_IN_TIME, 20, 0,
+     {0, 0, LAST_TICK_MINUS_6, LAST_TICK, LAST_TICK_MINUS_5}},
+
+    {"table misspelled", {1, 0x80, 0x00}, 3, R1, 20, JYRMEKKO_TABLE_MISSPELLED, 1, 0, {0}},
+    {"too many rows", {17}, 1, R1, 20, JYRMEKKO_TOO_MANY_ROWS, 0, 0, {0}},
+    {"value out of range", {1, 1, 2, 6, 0}, 5, R1, 20, JYRMEKKO_VALUE_OUT_OF_RANGE, 4, 0, {0}},
+    {"bytes after the table", {0, 0}, 2, R1, 20, JYRMEKKO_BYTES_AFTER_TABLE, 1, 0, {0}},
+    {"period too long", {2, 1, 0xF5, 0x08, 1, 1, 1, 0x97, 0x07, 2, 1}, 11, R1, 20, JYRMEKKO_PERIOD_TOO_LONG, 11, 0, {0}},
+
+    {"gap misspelled", V2, {0, 0, 1, 0x80, 0x00, 0, 1}, 7, 20, JYRMEKKO_SCRIPT_MISSPELLED, 3, 0, {0}},
+    {"cut before the cost", V2, {0, 0}, 2, 20, JYRMEKKO_SCRIPT_MISSPELLED, 2, 0, {0}},
+    {"time above the last tick", V2, {0, 0, 1, LAST_TICK_PLUS_1}, 9, 20, JYRMEKKO_TIME_TOO_LATE, 3, 0, {0}},
+    {"time at the last tick", V2, {LAST_TICK, 0, 1}, 8, 20, JYRMEKKO_DUE_TOO_LATE, 0, 0, {0}},
+    {"no such row", V2, {0, 1, 1}, 3, 20, JYRMEKKO_NO_SUCH_ROW, 1, 0, {0}},
+    {"no rows at all", {0}, 1, {0, 0, 1}, 3, 20, JYRMEKKO_NO_SUCH_ROW, 1, 0, {0}},
+    {"cost 0", V2, {0, 0, 0}, 3, 20, JYRMEKKO_COST_OUT_OF_RANGE, 2, 0, {0}},
+    {"cost above c", V2, {0, 0, 1, 1, 0, 2}, 6, 20, JYRMEKKO_COST_OUT_OF_RANGE, 5, 0, {0}},
+    {"due after the last tick", V2, {0, 0, 1, LAST_TICK_MINUS_5, 0, 1}, 11, 20, JYRMEKKO_DUE_TOO_LATE, 3, 0, {0}},
+    {"clock stops the final ticks", HOPELESS, {LAST_TICK_MINUS_2, 0, 3}, 8, 40, JYRMEKKO_TIME_TOO_LATE, 8, 0, {0}},
+    {"log one byte short", V3, R1, 14, JYRMEKKO_LOG_TOO_SHORT, 9, 0, {0}},
+    {"no log", V3, R1, 0, JYRMEKKO_LOG_TOO_SHORT, 9, 0, {0}},
+    {"short log and cut script", V3, {0, 0, 2, 5, 0}, 5, 4, JYRMEKKO_SCRIPT_MISSPELLED, 5, 0, {0}},
+    {"short log and stopped clock", HOPELESS, {0, 0, 1, LAST_TICK_MINUS_2, 0, 3}, 11, 4, JYRMEKKO_TIME_TOO_LATE, 11, 0, {0}},
+};
+
+static void test_replay(const struct replay_case *c)
+{
+    struct fenced answer_buffer, log_buffer;
+    uint8_t *answer = untouched(&answer_buffer);
+    uint8_t *log = untouched(&log_buffer);
+    uint8_t table[sizeof c->table], script[sizeof c->script];
+    uint32_t status;
+    memcpy(table, c->table, sizeof table);
+    memcpy(script, c->script, sizeof script);
+    status = replay(table, c->table_len, script, c->script_len, log, c->log_len, answer, JYRMEKKO_ANSWER_SIZE);
+    check(status == c->status, c->name, "status");
+    check_answer(c->name, answer, c->first, c->second);
+    if (c->status == JYRMEKKO_IN_TIME || c->status == JYRMEKKO_LATE) {
+        size_t length = (size_t)c->first;
+        check(same_bytes(log, c->log, length), c->name, "log");
+        check(all_bytes(log + length, c->log_len - length, UNTOUCHED), c->name, "bytes past the log");
+    } else {
+        check(all_bytes(log, c->log_len, 0), c->name, "log, which should be zeros");
+    }
+    check(fence_stands(&answer_buffer, JYRMEKKO_ANSWER_SIZE), c->name, "bytes around the answer");
+    check(fence_stands(&log_buffer, c->log_len), c->name, "bytes around the log");
+    check(same_bytes(table, c->table, sizeof table), c->name, "table afterwards");
+    check(same_bytes(script, c->script, sizeof script), c->name, "script afterwards");
+}
+
+/* The 64th pending job is taken, the 65th is not. */
+static void test_places(void)
+{
+    static const uint8_t table[] = {1, 64, 1, 1, 1};
+    struct fenced buffer;
+    uint8_t *log = untouched(&buffer);
+    uint8_t script[3 * 65], answer[JYRMEKKO_ANSWER_SIZE];
+    size_t i;
+    for (i = 0; i < sizeof script; i += 3) {
+        script[i] = 0;
+        script[i + 1] = 0;
+        script[i + 2] = 1;
+    }
+    check(replay(table, sizeof table, script, 3 * 64, log, MOST_LOG, answer, sizeof answer) == JYRMEKKO_LATE,
+          "64 jobs", "status");
+    check_answer("64 jobs", answer, 64 * 5, 63);
+    check(replay(table, sizeof table, script, 3 * 65, log, MOST_LOG, answer, sizeof answer) == JYRMEKKO_NO_FREE_PLACE,
+          "65 jobs", "status");
+    check_answer("65 jobs", answer, 3 * 64, 0);
+    check(all_bytes(log, MOST_LOG, 0), "65 jobs", "log, which should be zeros");
+}
+
+/* An answer buffer of another size comes before everything else, and nothing is written. */
+static void test_answer_size(void)
+{
+    static const size_t sizes[] = {0, 1, 8, 15, 17, 32};
+    static const uint8_t table[] = {2, 1, 4, 4, 2, 1, 6, 6, 3}, script[] = {0, 0, 2, 0, 1, 3, 4, 0, 2};
+    static const uint8_t bad_table[] = {17}, bad_script[] = {0x80, 0x00};
+    size_t i;
+    for (i = 0; i < COUNT(sizes); i++) {
+        struct fenced answer_buffer, log_buffer;
+        uint8_t *answer = untouched(&answer_buffer);
+        uint8_t *log = untouched(&log_buffer);
+        const char *name = "answer of another size";
+        check(verdict(table, sizeof table, answer, sizes[i]) == JYRMEKKO_ANSWER_NOT_16_BYTES, name, "verdict");
+        check(verdict(bad_table, sizeof bad_table, answer, sizes[i]) == JYRMEKKO_ANSWER_NOT_16_BYTES, name, "verdict");
+        check(replay(table, sizeof table, script, sizeof script, log, MOST_LOG, answer, sizes[i])
+                  == JYRMEKKO_ANSWER_NOT_16_BYTES, name, "replay");
+        check(replay(bad_table, sizeof bad_table, bad_script, sizeof bad_script, log, MOST_LOG, answer, sizes[i])
+                  == JYRMEKKO_ANSWER_NOT_16_BYTES, name, "replay");
+        check(fence_stands(&answer_buffer, 0), name, "answer, which should be untouched");
+        check(fence_stands(&log_buffer, 0), name, "log, which should be untouched");
+    }
+}
+
+/* A null pointer is a buffer of length 0. */
+static void test_null(void)
+{
+    static const uint8_t empty_table[] = {0};
+    uint8_t answer[JYRMEKKO_ANSWER_SIZE];
+    check(verdict(NULL, 0, answer, sizeof answer) == JYRMEKKO_TABLE_MISSPELLED, "null table", "status");
+    check_answer("null table", answer, 0, 0);
+    check(verdict(empty_table, 1, NULL, 0) == JYRMEKKO_ANSWER_NOT_16_BYTES, "null answer", "status");
+    check(replay(empty_table, 1, NULL, 0, NULL, 0, answer, sizeof answer) == JYRMEKKO_IN_TIME,
+          "null script and log", "status");
+    check_answer("null script and log", answer, 0, 0);
+    check(replay(NULL, 0, NULL, 0, NULL, 0, NULL, 0) == JYRMEKKO_ANSWER_NOT_16_BYTES, "all null", "status");
+}
+
+int main(void)
+{
+    size_t i;
+    for (i = 0; i < COUNT(verdict_cases); i++) {
+        test_verdict(&verdict_cases[i]);
+    }
+    for (i = 0; i < COUNT(replay_cases); i++) {
+        test_replay(&replay_cases[i]);
+    }
+    test_places();
+    test_answer_size();
+    test_null();
+    printf("%u passed, %u failed\n", passed, failed);
+    return failed != 0;
+}

@@ -1,0 +1,274 @@
+-- At the host is proved. A replay makes the run's own calls, so the bridge holds all through it; on a feasible table every accepted job that is due has had its
+-- cost. So no tick counts a late job, and at the last time, when every job is due, nothing is pending: the final ticks come to their end.
+-- (docs/RULES.md, sections 8 and 9.)
+use Prim.Native.Nat.{ℕ, zero, suc, _+_, _-_, _≤_, _<_}
+use mathlib.Core.Path.{_≡_, refl, sym, subst, _∙_}
+use mathlib.Core.Logic.{⊎-elim}
+use mathlib.Core.Bool.{Bool, true, false, cond}
+use mathlib.Core.List.{List, [], _∷_, List·Memᴰ, List·Memᴰ·head}
+use native.Mathlib.Omega.{arith}
+use lib.Dec.{leb, eqb}
+use lib.ListN.{length, getD}
+use borrow.Author.Tests.{eqb-true, eq-eqb, ne-eqb, le-ltb}
+use Rattle.kinds.specs.declared.Refusal.{Refusal}
+use Rattle.kinds.specs.declared.Refusal.the-variants.{NoSuchRow, CostOutOfRange, TimeTooLate, ScriptMisspelled}
+use Rattle.kinds.specs.declared.RefusedAt.{RefusedAt}
+use Rattle.kinds.specs.Numbering.{maxTime, refusalNumber}
+use Rattle.kinds.proofs.Numbering.{never-an-answer}
+use Rattle.numbers.specs.declared.Number.{Number}
+use Rattle.numbers.specs.declared.NumberRead.{NumberRead}
+use Rattle.numbers.specs.declared.NumberRead.the-variants as number
+use Rattle.numbers.specs.Reading.{readAt}
+use Rattle.numbers.specs.Laws.{Bytes}
+use Rattle.theory.specs.Curves.{EveryLengthFits}
+use Rattle.theory.proofs.Cases.{by-lt, by-eq, by-test}
+use Rattle.theory.proofs.Lists.{all-of-members, none-passes}
+use Rattle.table.specs.declared.Table.{Table}
+use Rattle.table.specs.declared.TableAnswer.{TableAnswer}
+use Rattle.table.specs.declared.TableAnswer.the-variants as table
+use Rattle.table.specs.Tables.{tableRead}
+use Rattle.verdict.specs.declared.Verdict.{Verdict}
+use Rattle.verdict.specs.Demand.{tableDemand}
+use Rattle.verdict.specs.Verdict.{RightOfRead, verdictSays}
+use Rattle.jobs.specs.Places.{noJob, jobsOf}
+use Rattle.jobs.proofs.Laws.{job-among-the-rest}
+use Rattle.run.specs.declared.Run.{Run}
+use Rattle.run.specs.declared.Released.{Released}
+use Rattle.run.specs.declared.Released.the-variants as release
+use Rattle.run.specs.declared.StartAnswer.the-variants as start
+use Rattle.run.specs.Runs.{rowInUse, costLimit, startAnswer, started}
+use Rattle.run.specs.Sound.{fromOneTo}
+use Rattle.run.specs.Release.{released}
+use Rattle.run.specs.Ticking.{ticked}
+use Rattle.run.specs.Advance.{Since, oneMore, ticksWhilePending}
+use Rattle.run.proofs.Ticking.{Good, facts, counted, tick-keeps-good}
+use Rattle.script.specs.Records.{asScripts}
+use Rattle.script.proofs.Laws.{record-is-spelled}
+use Rattle.log.specs.Laws.{spelledLog}
+use Rattle.replay.specs.declared.Ready.{Ready}
+use Rattle.replay.specs.declared.Tested.{Tested}
+use Rattle.replay.specs.declared.Tested.the-variants as tested
+use Rattle.replay.specs.Numbers.{numbersAt, refusedAt, onNumber, testedNumbers}
+use Rattle.replay.specs.Play.{Progress, begun, Step, goes-on, stops, afterRelease, tickedTo, afterTests, stepped}
+use Rattle.replay.specs.Play.{Played, whole, stopped, finalTicks, andThen, playedFrom, played}
+use Rattle.replay.specs.Outcome.{lateFinishes, answerOf, replaySays}
+use Rattle.replay.proofs.Playing.{tick-clock, along-draining, passed-is-read}
+use Rattle.replay.proofs.Through.{Keeps, went-on, step-keeps}
+use Rattle.replay.proofs.Laws.{late-is-the-sum}
+use Rattle.promise.specs.Traces.{Call, Event, eventOf, clockOf, jobsIn, unitsOf}
+use Rattle.promise.specs.Choice.{lateAt}
+use Rattle.promise.specs.InTime.{SaidFeasible}
+use Rattle.promise.specs.AtHost.{NotLate, AtHost}
+use Rattle.promise.proofs.Bridge.{Bridge}
+use Rattle.promise.proofs.Bridged.{bridge-of-started, release-keeps-bridge, tick-keeps-bridge}
+use Rattle.promise.proofs.Units.{jobOf, sound-facts, pending-is-owed}
+use Rattle.promise.proofs.InTime.{feasible-fits, due-had-its-cost}
+use Rattle.promise.proofs.Choice.{late-of-the-trace}
+
+-- ---- at one point
+
+module _ {t : Table} (fits : EveryLengthFits (tableDemand t)) {run : Run} {es : List Event} (b : Bridge t run es) where
+  -- After a tick every accepted job that is due then has had its cost; so the tick counts none as late.
+  tick-counts-none : run .clock .0 < maxTime → ticked run .late ≡ 0
+  unfolding jobsIn
+  tick-counts-none in-time =
+      let next = tick-keeps-bridge b in
+      let after = eventOf run Call.tick ∷ es in
+      let now : clockOf after ≡ clockOf es + 1 = omega (arith, next .same-clock, tick-clock run (b .sound, b .whole) in-time, b .same-clock) in
+      late-of-the-trace b next
+      ∙ none-passes (lateAt (clockOf es + 1) after) (λ _. 1) (jobsIn es)
+      (all-of-members (jobsIn es) (λ j m. by-eq (j .due) (clockOf es + 1)
+      (λ e.
+      let had = due-had-its-cost next fits j m (omega arith) in
+      rw (eq-eqb (j .due) (clockOf es + 1) e, le-ltb (unitsOf (j .name) after) (j .cost) (omega arith)))
+      (λ e. rw (ne-eqb (j .due) (clockOf es + 1) e))))
+
+  -- At the last time every job is due: nothing is pending.
+  nothing-at-the-last : maxTime ≤ run .clock .0 → run .pending .count ≡ 0
+  nothing-at-the-last last = by-lt 0 (run .pending .count)
+      (λ some.
+      let js = jobsOf (run .pending) in
+      let inside : 0 < length js = omega (arith, counted run (b .sound, b .whole)) in
+      let j = getD js 0 noJob in
+      let owed = pending-is-owed b j (subst (λ l. List·Memᴰ j l) (sym (job-among-the-rest js 0 inside)) (List·Memᴰ·head refl)) in
+      let due : j .due .0 ≤ clockOf es = omega (arith, sound-facts b .jobs 0 inside .due-in-time, b .same-clock) in
+      absurd (omega (arith, due-had-its-cost b fits (jobOf j) (owed .was-accepted) due)))
+      (λ none. omega arith)
+
+-- ---- all through a replay
+
+-- No job was late so far: the bridge holds, and no tick counted a late job.
+record NoneLate (t : Table) (s : Since) : Type 0 where
+  events : List Event
+  bridge : Bridge t (s .run) events
+  none-late : s .late ≡ 0
+
+-- The run is sound then ..
+still-sound : {t : Table} {s : Since} → NoneLate t s → Good (s .run)
+still-sound n = (n .bridge .sound, n .bridge .whole)
+
+-- .. and it is so at the start.
+at-the-start : (bytes : List ℕ) → Bytes bytes → NoneLate (tableRead bytes .table) (begun (started bytes .run) .since)
+at-the-start bytes fine = record { events = []; bridge = bridge-of-started bytes fine; none-late = refl }
+
+-- Ticks while a job is pending that leave one pending were as many as there may be.
+none-left-out : (n : ℕ) (s : Since) → Good (s .run) → s .run .clock .0 + n ≤ maxTime → 1 ≤ ticksWhilePending n s .run .pending .count
+    → ticksWhilePending n s .run .clock .0 ≡ s .run .clock .0 + n
+unfolding ticksWhilePending
+none-left-out zero s good room = λ some. omega arith
+none-left-out (suc n) s good room = by-test (eqb (s .run .pending .count) 0)
+    (λ none. rw none (λ some. absurd (omega (arith, eqb-true (s .run .pending .count) 0 none))))
+    (λ busy. rw busy (λ some.
+    let one = tick-clock (s .run) good (omega arith) in
+    omega (arith, none-left-out n (oneMore s) (tick-keeps-good (s .run) good) (omega arith) some)))
+
+-- If this is a 10, its place is before the end.
+abbrev Inside : (end : ℕ) → RefusedAt → Type 0
+Inside end r = refusalNumber (r .refusal) ≡ 10 → r .place < end
+
+-- How a replay is to end: with no job late, or stopped, by a 10 only inside the script.
+abbrev EndsInTime : (end : ℕ) → Played → Type 0
+EndsInTime end (whole p) = p .since .late ≡ 0
+EndsInTime end (stopped r) = Inside end r
+
+module _ {t : Table} (fits : EveryLengthFits (tableDemand t)) where
+  -- A tick keeps it, as it counts no late job, ..
+  tick-keeps : (s : Since) → Good (s .run) → s .run .clock .0 < maxTime → NoneLate t s → NoneLate t (oneMore s)
+  tick-keeps s good in-time n =
+      record { events = _; bridge = tick-keeps-bridge (n .bridge); none-late = omega (arith, n .none-late, tick-counts-none fits (n .bridge) in-time) }
+
+  -- .. and so does an accepted release.
+  calls-keep : Keeps (λ p. NoneLate t (p .since))
+  calls-keep = record {
+    tick = λ p. tick-keeps (p .since);
+    release = λ p row cost a good e n. record { events = _; bridge = release-keeps-bridge (n .bridge) row cost; none-late = n .none-late };
+  }
+
+  -- The final ticks come to their end: were a job pending still, the clock would be at the last time.
+  final-in-time : (end : ℕ) (p : Progress) → NoneLate t (p .since) → EndsInTime end (finalTicks end p)
+  unfolding finalTicks
+  final-in-time end p n =
+      let good = still-sound n in
+      let many = maxTime - p .since .run .clock .0 in
+      let room : p .since .run .clock .0 + many ≤ maxTime = omega (arith, facts (p .since .run) good .clock-in-time) in
+      let last = ticksWhilePending many (p .since) in
+      let kept = along-draining (NoneLate t) tick-keeps many (p .since) good room n in
+      let nothing : last .run .pending .count ≡ 0 = by-lt 0 (last .run .pending .count)
+      (λ some. nothing-at-the-last fits (kept .bridge) (omega (arith, none-left-out many (p .since) good room some)))
+      (λ none. omega arith) in
+      rw (eq-eqb (last .run .pending .count) 0 nothing) (kept .none-late)
+
+-- ---- where a record stops a replay
+
+-- What the tests of a record say: ready, or a refusal that is a 10 only before the end ..
+data TestedInside (end : ℕ) : Tested → Type 0 where
+  ready : (r : Ready) → TestedInside end (tested.Ready r)
+  refused : (r : Refusal) (place : ℕ) → (refusalNumber r ≡ 10 → place < end) → TestedInside end (refusedAt r place)
+
+-- .. and what the record comes to.
+abbrev StepInside : (end : ℕ) → Step → Type 0
+StepInside end (goes-on p next) = Unit {0}
+StepInside end (stops r) = Inside end r
+
+module _ {end : ℕ} where
+  -- A number of a script that can't be read is no 10 ..
+  number-inside : (v : NumberRead) (k : Number → Tested) → ((n : Number) → TestedInside end (k n)) → TestedInside end (onNumber (asScripts v) k)
+  number-inside (number.Number n) k h = h n
+  number-inside (number.Refused r) k h = refused ScriptMisspelled (r .place) (λ e. absurd (omega arith))
+
+  -- .. and what a test refuses is refused at the place that it names.
+  test-inside : (test : Bool) (then : Tested) (r : Refusal) (place : ℕ) → TestedInside end then → (refusalNumber r ≡ 10 → place < end)
+      → TestedInside end (cond test then (refusedAt r place))
+  test-inside true then r place h b = h
+  test-inside false then r place h b = refused r place b
+
+module _ (s : List ℕ) (at : ℕ) (inside : at < length s) where
+  -- The tests of the record at a place answer 10 at this place only, ..
+  tests-inside : (t : Table) (time : ℕ) → TestedInside (length s) (testedNumbers t time (numbersAt s at))
+  tests-inside t time =
+      let n = numbersAt s at in
+      number-inside (readAt s at) _ λ gap.
+      test-inside (leb (time + gap .value) maxTime) _ TimeTooLate at
+      (number-inside (readAt s (n .row .place)) _ λ row.
+      test-inside (rowInUse t (row .value)) _ NoSuchRow (n .row .place)
+      (number-inside (readAt s (n .cost .place)) _ λ cost.
+      test-inside (fromOneTo (costLimit t (row .value)) (cost .value)) _ CostOutOfRange (n .cost .place) (ready _) (λ e. absurd (omega arith)))
+      (λ e. absurd (omega arith)))
+      (λ e. inside)
+
+  -- .. and a release is refused at this place too.
+  release-inside : (r : Ready) (p : Progress) (a : Released) → StepInside (length s) (afterRelease at r p a)
+  release-inside r p (release.Accepted a) = tt
+  release-inside r p (release.Refused refusal) = λ e. inside
+
+  -- (The release comes after the tests.)
+  after-tests-inside : (p : Progress) {x : Tested} → TestedInside (length s) x → StepInside (length s) (afterTests at p x)
+  after-tests-inside p (ready r) =
+      let there = tickedTo (r .time .0) p in
+      release-inside r there (released (there .since .run) (r .row .0) (r .cost) .answer)
+  after-tests-inside p (refused r place h) = h
+
+  -- So a record that stops a replay by a 10 does so inside the script.
+  step-inside : (p : Progress) → StepInside (length s) (stepped p (numbersAt s at))
+  unfolding stepped
+  step-inside p = after-tests-inside p (tests-inside (p .since .run .table) (p .since .run .clock .0))
+
+-- ---- a whole script
+
+module _ {t : Table} (fits : EveryLengthFits (tableDemand t)) (s : List ℕ) (bytes : Bytes s) where
+  -- After a record the replay goes on at a place of the script, with no job late so far, or is stopped as it may be; ..
+  after-record : (at : ℕ) (p : Progress) → at < length s → NoneLate t (p .since) → (k : Progress → ℕ → Played)
+      → ((q : Progress) (next : ℕ) → next ≤ length s → NoneLate t (q .since) → EndsInTime (length s) (k q next))
+      → EndsInTime (length s) (andThen (stepped p (numbersAt s at)) k)
+  after-record at p inside n k further = by-step (stepped p (numbersAt s at)) refl
+    where
+      by-step : (step : Step) → stepped p (numbersAt s at) ≡ step → EndsInTime (length s) (andThen step k)
+      by-step (goes-on q next) e =
+          let w = went-on p (numbersAt s at) q next e in
+          let spelled = record-is-spelled s at _ bytes (passed-is-read s at inside (w .passed)) in
+          let there = step-keeps (λ o. NoneLate t (o .since)) (calls-keep fits) p (numbersAt s at) q next w (n, still-sound n) in
+          further q next (rw (w .goes-on-after) (spelled .within)) (there .0)
+      by-step (stops r) e = subst (StepInside (length s)) e (step-inside s at inside p)
+
+  -- .. so from any of its places on the script is played in time.
+  from-in-time : (m at : ℕ) (p : Progress) → at ≤ length s → NoneLate t (p .since) → EndsInTime (length s) (playedFrom m s at p)
+  unfolding playedFrom
+  from-in-time zero at p before n = final-in-time fits (length s) p n
+  from-in-time (suc m) at p before n = by-eq at (length s)
+      (λ end. rw (eq-eqb at (length s) end) (final-in-time fits (length s) p n))
+      (λ more. rw (ne-eqb at (length s) more) (after-record at p (omega arith) n _ (λ q next. from-in-time m next q)))
+
+-- ---- the answer
+
+-- No refusal has the number of an answer.
+not-an-answer : (r : Refusal) → 20 ≤ refusalNumber r → refusalNumber r ≤ 23 → ⊥
+not-an-answer r least most = ⊎-elim (λ h. omega arith) (λ h. omega arith) (never-an-answer r)
+
+-- A run is started on a table that is feasible.
+feasible-starts : (t : Table) (a : TableAnswer) (v : Verdict) → RightOfRead t a v → verdictSays v .number ≡ 20 → startAnswer a ≡ start.Ready
+feasible-starts t (table.Accepted period) v right says = refl
+feasible-starts t (table.Refused r) v right says = let refused-so = rw right at says in absurd (not-an-answer (r .refusal) (omega arith) (omega arith))
+
+module _ (bytes script : List ℕ) (table : Bytes bytes) (fine : Bytes script) where
+  -- So on a feasible table every script is played in time.
+  played-in-time : SaidFeasible bytes → EndsInTime (length script) (played bytes script)
+  unfolding played
+  played-in-time said =
+      rw (feasible-starts (tableRead bytes .table) (tableRead bytes .answer) (said .answer) (said .judged) (said .feasible))
+      (from-in-time (feasible-fits bytes said) script fine (length script) 0 (begun (started bytes .run)) (omega arith) (at-the-start bytes table))
+
+  -- What is answered then: jobs late are the sum of the ticks' late counts.
+  says-in-time : (room : ℕ) (p : Played) → played bytes script ≡ p → EndsInTime (length script) p
+      → NotLate (length script) (replaySays (answerOf room (length script) p))
+  says-in-time room (whole p) e none =
+      let none-late : lateFinishes (p .since .finishes) ≡ 0 = late-is-the-sum bytes script p table fine e ∙ none in
+      by-test (leb (length (spelledLog (p .since .finishes))) room)
+      (λ fits. rw (fits, none-late) (record { not-23 = λ q. omega arith; none-late = λ q. refl; not-stopped = λ q. absurd (omega arith) }))
+      (λ full. rw full (record { not-23 = λ q. omega arith; none-late = λ q. refl; not-stopped = λ q. absurd (omega arith) }))
+  says-in-time room (stopped r) e inside =
+      record { not-23 = λ q. not-an-answer (r .refusal) (omega arith) (omega arith); none-late = λ q. refl; not-stopped = inside }
+
+-- On a feasible table no replay is late.
+pub at-host : AtHost
+at-host bytes script table fine said room =
+    says-in-time bytes script table fine room (played bytes script) refl (played-in-time bytes script table fine said)

@@ -1,0 +1,166 @@
+-- In time is proved. On a feasible table every length fits; in no window do the accepted jobs ask for more than the table's demand, row by row; and the ticks
+-- so far are a trace of the theory in which earliest due goes first and nothing idles in vain. So the theory's theorem applies. Beside it stand the clock,
+-- which comes to every due time, and the due times, which are all within reach. (docs/RULES.md, sections 5 and 6.)
+use Prim.Native.Nat.{ℕ, suc, _+_, _≤_, _<_, min}
+use mathlib.Core.Path.{_≡_, refl}
+use mathlib.Core.Logic.{⊎-elim}
+use mathlib.Core.List.{List, [], _∷_, List·Memᴰ, List·Memᴰ·not-nil}
+use native.Mathlib.Omega.{arith}
+use lib.ListN.{length}
+use lib.Seq.{length-take-le, getD-take}
+use Rattle.kinds.specs.Numbering.{maxTime}
+use Rattle.kinds.proofs.Numbering.{never-an-answer}
+use Rattle.numbers.specs.Laws.{Bytes}
+use Rattle.theory.specs.Lists.{All}
+use Rattle.theory.specs.Curves.{EveryLengthFits}
+use Rattle.theory.specs.Jobs.{Job, BoundedBy}
+use Rattle.theory.specs.Sources.{own}
+use Rattle.theory.specs.Trace.{ServedOrEnded, served, ended}
+use Rattle.theory.proofs.Lists.{all-imply, all-at, total-zero}
+use Rattle.theory.proofs.Demand.{no-demand-below-d}
+use Rattle.theory.proofs.DueTimes.{due-at-least-d}
+use Rattle.theory.proofs.Ticks.{all-free}
+use Rattle.theory.proofs.EarliestDue.{in-time as in-time-by-the-theory}
+use Rattle.theory.proofs.Sources.{sum-of-sources}
+use Rattle.table.specs.declared.Row.{Row}
+use Rattle.table.specs.declared.Table.{Table}
+use Rattle.table.specs.declared.TableAnswer.{TableAnswer}
+use Rattle.table.specs.declared.TableAnswer.the-variants as answer
+use Rattle.table.specs.Tables.{noRow, rowsOf, tableRead}
+use Rattle.verdict.specs.declared.Verdict.{Verdict}
+use Rattle.verdict.specs.declared.Verdict.the-variants as verdict
+use Rattle.verdict.specs.Demand.{rowDemandOf, tableDemand}
+use Rattle.verdict.specs.Verdict.{RightOfRead, verdictSays}
+use Rattle.verdict.proofs.Rows.{row-within, rows-within}
+use Rattle.due.proofs.Laws.{given-means}
+use Rattle.run.specs.declared.Run.{Run}
+use Rattle.run.specs.Runs.{rowAt, keptOf}
+use Rattle.run.proofs.Release.{each-release}
+use Rattle.promise.specs.Answers.{releaseSays, tickSays}
+use Rattle.promise.specs.Traces.{Call, Event, runAt, eventOf, trace, clockOf, jobsIn, unitsOf}
+use Rattle.promise.specs.InTime.{SaidFeasible, InTime, NeverMore, OneJobASerial, ticksIn, ClockCountsTicks, DueTimesCome}
+use Rattle.promise.proofs.Bridge.{ticksOf, Bridge}
+use Rattle.promise.proofs.Bridged.{bridge}
+use Rattle.promise.proofs.Units.{units-counted, sound-facts, never-more-units}
+use Rattle.promise.proofs.Ticks.{each-tick}
+use Rattle.promise.proofs.Share.{own-member, row-share}
+
+-- ---- a feasible table
+
+-- Only `feasible` has the number 20, and it is right where every length fits.
+right-and-feasible : (t : Table) (a : TableAnswer) (v : Verdict) → RightOfRead t a v → verdictSays v .number ≡ 20 → EveryLengthFits (tableDemand t)
+right-and-feasible t (answer.Accepted period) verdict.Feasible right says = right
+right-and-feasible t (answer.Accepted period) (verdict.Overloaded w) right says = absurd (omega arith)
+right-and-feasible t (answer.Accepted period) (verdict.Refused r) right says = absurd right
+right-and-feasible t (answer.Refused r) v right says =
+    let refused = rw right at says in
+    ⊎-elim (λ h. absurd (omega arith)) (λ h. absurd (omega arith)) (never-an-answer (r .refusal))
+
+-- So where `judge` says feasible, every length fits.
+pub feasible-fits : (bytes : List ℕ) → SaidFeasible bytes → EveryLengthFits (tableDemand (tableRead bytes .table))
+feasible-fits bytes said = right-and-feasible (tableRead bytes .table) (tableRead bytes .answer) (said .answer) (said .judged) (said .feasible)
+
+module _ {t : Table} {run : Run} {es : List Event} (b : Bridge t run es) where
+  -- ---- what the accepted jobs ask for
+
+  -- As many rows are in use as are counted.
+  rows-counted : length (rowsOf t) ≡ t .count
+  rows-counted = let r = b .table-in-range in length-take-le (t .count) (t .rows) (omega (arith, r .few-rows, r .all-places))
+
+  -- In every window the accepted jobs ask for at most the table's demand ..
+  demand-bounds : BoundedBy (tableDemand t) (jobsIn es)
+  unfolding tableDemand
+  demand-bounds = sum-of-sources Row rowDemandOf noRow (rowsOf t) (jobsIn es) (rw rows-counted (b .rows-in-use))
+      (λ row h.
+      let in-use : row < t .count = omega (arith, rows-counted) in
+      rw (getD-take (t .count) (t .rows) row noRow in-use) (row-share b row in-use))
+
+  -- .. which is nothing in no time.
+  no-demand-at-zero : tableDemand t 0 ≡ 0
+  unfolding tableDemand
+  no-demand-at-zero =
+      let limits = rows-within (b .table-in-range) (t .count) (omega arith) in
+      total-zero (λ r. rowDemandOf r 0) (rowsOf t)
+      (all-imply (λ r within. no-demand-below-d (r .x) (r .y) (r .d) (r .c) 0 (within .some-d)) (rowsOf t) limits)
+
+  -- ---- in time
+
+  -- Where every length fits, an accepted job that is due has had its cost.
+  pub due-had-its-cost : EveryLengthFits (tableDemand t) → (j : Job) → List·Memᴰ j (jobsIn es) → j .due ≤ clockOf es → unitsOf (j .name) es ≡ j .cost
+  due-had-its-cost fits j m due =
+      let f = b .follows in
+      let all = in-time-by-the-theory (f .events) (f .earliest-due) (f .never-idle) (b .distinct) (tableDemand t) (λ L. 0) demand-bounds
+      (λ from to h. omega (arith, all-free from to)) no-demand-at-zero (λ L h. omega (arith, fits L h)) in
+      by-end (all-at (λ (i : Job). i .due ≤ clockOf es → ServedOrEnded i (ticksOf es) []) all m due)
+    where
+      by-end : ServedOrEnded j (ticksOf es) [] → unitsOf (j .name) es ≡ j .cost
+      by-end (served e) = omega (arith, e, units-counted (j .name) es)
+      by-end (ended u) = absurd (List·Memᴰ·not-nil (u .among))
+
+-- ---- the clock
+
+module _ {t : Table} {run : Run} {es : List Event} (b : Bridge t run es) where
+  -- A tick takes the clock one on, up to the last time.
+  clock-after-a-tick : clockOf (eventOf run Call.tick ∷ es) ≡ min (suc (clockOf es)) maxTime
+  unfolding clockOf
+  clock-after-a-tick =
+      let clock = b .same-clock in
+      let in-time : run .clock .0 ≤ maxTime = sound-facts b .clock-in-time in
+      each-tick run (b .sound) (λ step. clockOf (Event.tick (tickSays (step .answer)) (step .late) ∷ es) ≡ min (suc (clockOf es)) maxTime)
+      (λ last. omega arith)
+      (λ h none. omega arith)
+      (λ h some. omega arith)
+
+-- ---- due times
+
+-- No accepted job is due later than any may be.
+dues-in-time : (bytes : List ℕ) (calls : List Call) → All (λ j. j .due ≤ maxTime) (jobsIn (trace bytes calls))
+unfolding runAt trace jobsIn
+dues-in-time bytes [] = tt
+dues-in-time bytes (Call.release row cost ∷ calls) =
+    let run = runAt bytes calls in
+    let before = dues-in-time bytes calls in
+    each-release run row cost
+    (λ step. All (λ j. j .due ≤ maxTime) (jobsIn (Event.release row cost (releaseSays (step .answer)) ∷ trace bytes calls)))
+    (λ r. before)
+    (λ due passed given. (given-means (keptOf run row) (rowAt (run .table) row) (run .clock .0) due .0 given .in-time, before))
+dues-in-time bytes (Call.tick ∷ calls) = dues-in-time bytes calls
+
+-- Every accepted job is due after its release.
+due-after-release : {t : Table} {run : Run} {es : List Event} → Bridge t run es → (j : Job) → List·Memᴰ j (jobsIn es) → suc (j .release) ≤ j .due
+due-after-release {t = t} {es = es} b j m =
+    let in-use = all-at (λ (i : Job). i .source < t .count) (b .rows-in-use) m in
+    let r = rowAt t (j .source) in
+    let later = all-at (λ i. i .release + r .d ≤ i .due)
+    (due-at-least-d (r .x) (r .y) (r .d) (r .c) (own (j .source) (jobsIn es)) (b .by-rule (j .source) in-use)) (own-member j m) in
+    omega (arith, later, row-within (b .table-in-range) (j .source) in-use .some-d)
+
+-- ---- the promises
+
+-- Every accepted job has its cost once it is due ..
+pub in-time : InTime
+in-time bytes ok said calls = due-had-its-cost (bridge bytes ok calls) (feasible-fits bytes said)
+
+-- .. and never more.
+pub never-more : NeverMore
+never-more bytes ok calls = never-more-units (bridge bytes ok calls)
+
+-- No two accepted jobs have one serial.
+pub one-job-a-serial : OneJobASerial
+one-job-a-serial bytes ok calls = bridge bytes ok calls .distinct
+
+-- The clock is the number of ticks that were called, up to the last time.
+clock-counts : (bytes : List ℕ) → Bytes bytes → (calls : List Call) → clockOf (trace bytes calls) ≡ min (ticksIn calls) maxTime
+unfolding trace clockOf ticksIn
+clock-counts bytes ok [] = refl
+clock-counts bytes ok (Call.release row cost ∷ calls) = clock-counts bytes ok calls
+clock-counts bytes ok (Call.tick ∷ calls) = omega (arith, clock-after-a-tick (bridge bytes ok calls), clock-counts bytes ok calls)
+
+-- The run's own clock says the same.
+pub clock-counts-ticks : ClockCountsTicks
+clock-counts-ticks bytes ok calls = (clock-counts bytes ok calls, bridge bytes ok calls .same-clock)
+
+-- Every accepted job is due after its release, and by the last time.
+pub due-times-come : DueTimesCome
+due-times-come bytes ok calls j m =
+    (due-after-release (bridge bytes ok calls) j m, all-at (λ (i : Job). i .due ≤ maxTime) (dues-in-time bytes calls) m)

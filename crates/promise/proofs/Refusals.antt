@@ -1,0 +1,139 @@
+-- Refused exactly when. Each test of a release and of a tick looks at the run, and each asks of it what the trace says too: the table is the one that was
+-- started on, as many jobs are pending as are unfinished, the next serial is the number of accepted jobs, and the due time over what is kept is the paper's
+-- over all accepted jobs of the row. (docs/RULES.md, sections 6 and 10.)
+use Prim.Native.Nat.{ℕ, _≤_, _<_}
+use mathlib.Core.Path.{_≡_, refl, ap, _∙_}
+use mathlib.Core.Logic.{_↔_}
+use mathlib.Core.Bool.{true, cond}
+use mathlib.Core.List.{List, [], _∷_}
+use native.Mathlib.Omega.{arith}
+use lib.Dec.{leb, ltb}
+use lib.ListN.{length}
+use borrow.Author.Tests.{lt-ltb, le-ltb}
+use Rattle.kinds.specs.Numbering.{maxTime}
+use Rattle.theory.specs.Lists.{total}
+use Rattle.theory.specs.DueTimes.{dueTime, dues}
+use Rattle.theory.specs.Sources.{own}
+use Rattle.theory.proofs.Cases.{by-lt, by-test}
+use Rattle.table.specs.declared.Table.{Table}
+use Rattle.table.specs.Rows.{rowInRange}
+use Rattle.table.proofs.Ranges.{in-range-of}
+use Rattle.due.specs.Kept.{earlier, dueOf}
+use Rattle.due.proofs.Laws.{due-is-the-papers}
+use Rattle.jobs.specs.Places.{maxPlaces, jobsOf}
+use Rattle.run.specs.declared.Run.{Run}
+use Rattle.run.specs.Runs.{rowAt, costLimit, keptOf}
+use Rattle.run.specs.Sound.{fromOneTo, soundOf}
+use Rattle.run.specs.Release.{released}
+use Rattle.run.specs.Ticking.{ticked}
+use Rattle.run.proofs.Release.{each-release}
+use Rattle.run.proofs.Ticking.{counted}
+use Rattle.promise.specs.Answers.{ReleaseSays, accepted, releaseSays, tickSays}
+use Rattle.promise.specs.Answers as says
+use Rattle.promise.specs.Traces.{Call, Event, runAfter, eventOf, runAt, clockOf, jobsIn, unfinishedIn}
+use Rattle.promise.specs.Refusals.{nextDue, releaseAnswer, ReleasesByTheTrace, TicksByTheTrace, PlacesAreEnough, Refused, RefusedChangesNothing}
+use Rattle.promise.proofs.Bridge.{Bridge}
+use Rattle.promise.proofs.Bridged.{bridge}
+use Rattle.promise.proofs.Units.{sound-facts, unfinished-weigh-as-pending}
+use Rattle.promise.proofs.Ticks.{each-tick}
+
+-- ---- what a release looks at
+
+-- Elements that weigh one each weigh their number.
+total-of-ones : {A : Type 0} (l : List A) → total (λ _. 1) l ≡ length l
+unfolding total
+total-of-ones [] = refl
+total-of-ones (a ∷ l) = omega (arith, total-of-ones l)
+
+-- The due time of the row's next job, over what the run keeps.
+abbrev dueKept : Run → (row : ℕ) → ℕ
+dueKept run row = let r = rowAt (run .table) row in dueTime (r .x) (r .y) (r .d) (earlier (keptOf run row)) (run .clock .0)
+
+-- What a release of a sound run says, by its tests, of a row that is in use ..
+says-by-tests : (run : Run) (row cost : ℕ) → soundOf run ≡ true → row < run .table .count → rowInRange (rowAt (run .table) row) ≡ true
+    → releaseSays (released run row cost .answer)
+    ≡ cond (fromOneTo (costLimit (run .table) row) cost)
+    (cond (ltb (run .pending .count) maxPlaces)
+    (cond (leb (dueKept run row) maxTime) (accepted (run .next .0) (dueKept run row)) (says.ReleaseSays.refused 9))
+    (says.ReleaseSays.refused 8))
+    (says.ReleaseSays.refused 7)
+unfolding released dueOf
+says-by-tests run row cost sound in-use in-range = rw (sound, lt-ltb row (run .table .count) in-use, in-range)
+    (by-test (fromOneTo (costLimit (run .table) row) cost)
+    (λ fits. rw fits (by-test (ltb (run .pending .count) maxPlaces)
+    (λ room. rw room (by-test (leb (dueKept run row) maxTime) (λ in-time. rw in-time) (λ late. rw late)))
+    (λ full. rw full)))
+    (λ fits-not. rw fits-not))
+
+-- .. and of one that is not.
+says-no-such-row : (run : Run) (row cost : ℕ) → soundOf run ≡ true → run .table .count ≤ row
+    → releaseSays (released run row cost .answer) ≡ says.ReleaseSays.refused 6
+unfolding released
+says-no-such-row run row cost sound unused = rw (sound, le-ltb row (run .table .count) unused)
+
+module _ {t : Table} {run : Run} {es : List Event} (b : Bridge t run es) where
+  -- As many jobs are pending as are unfinished.
+  pub pending-count : run .pending .count ≡ unfinishedIn es
+  pending-count =
+      omega (arith, unfinished-weigh-as-pending b (λ _. 1), total-of-ones (jobsOf (run .pending)), counted run (b .sound, b .whole))
+
+  module _ (row : ℕ) (in-use : row < run .table .count) where
+    -- A row in use is in range.
+    row-in-range : rowInRange (rowAt (run .table) row) ≡ true
+    row-in-range = in-range-of (rowAt (run .table) row) (sound-facts b .rows row in-use)
+
+    -- The due time over what is kept is the paper's over all accepted jobs of the row.
+    due-as-next : dueKept run row ≡ nextDue (run .table) es row
+    due-as-next =
+        let r = rowAt (run .table) row in
+        let history = dues (own row (jobsIn es)) in
+        due-is-the-papers (keptOf run row) r history (run .clock .0) row-in-range (b .keeps-history .newest row in-use)
+        ∙ ap (dueTime (r .x) (r .y) (r .d) history) (b .same-clock)
+
+  -- A release is answered by the trace.
+  pub release-by-the-trace : (row cost : ℕ) → releaseSays (released run row cost .answer) ≡ releaseAnswer t es row cost
+  release-by-the-trace row cost = rw (← b .same-table) (by-lt row (run .table .count)
+      (λ in-use. says-by-tests run row cost (b .sound) in-use (row-in-range row in-use)
+      ∙ rw (lt-ltb row (run .table .count) in-use, due-as-next row in-use, pending-count, ← b .next-serial))
+      (λ unused. says-no-such-row run row cost (b .sound) unused ∙ rw (le-ltb row (run .table .count) unused)))
+
+  -- A tick is refused with 10, and at the last time only.
+  pub tick-by-the-trace : (number : ℕ) → (tickSays (ticked run .answer) ≡ says.TickSays.refused number) ↔ ((number ≡ 10) × (clockOf es ≡ maxTime))
+  tick-by-the-trace number =
+      let clock = b .same-clock in
+      let in-time : run .clock .0 ≤ maxTime = sound-facts b .clock-in-time in
+      each-tick run (b .sound) (λ step. (tickSays (step .answer) ≡ says.TickSays.refused number) ↔ ((number ≡ 10) × (clockOf es ≡ maxTime)))
+      (λ last. (λ e. (cc, omega arith), λ h. rw (h .0)))
+      (λ h none. (λ e. absurd (let z : _≡_ {A = ℕ} 0 1 = cc in omega arith), λ k. absurd (omega arith)))
+      (λ h some. (λ e. absurd (let z : _≡_ {A = ℕ} 0 1 = cc in omega arith), λ k. absurd (omega arith)))
+
+-- A refused call leaves the run as it was.
+pub refused-leaves-the-run : (run : Run) → soundOf run ≡ true → (c : Call) → Refused (eventOf run c) → runAfter run c ≡ run
+refused-leaves-the-run run sound (Call.release row cost) =
+    each-release run row cost (λ step. Refused (Event.release row cost (releaseSays (step .answer))) → step .run ≡ run)
+    (λ r refused. refl)
+    (λ due passed given refused. absurd refused)
+refused-leaves-the-run run sound Call.tick =
+    each-tick run sound (λ step. Refused (Event.tick (tickSays (step .answer)) (step .late)) → step .run ≡ run)
+    (λ last refused. refl)
+    (λ h none refused. absurd refused)
+    (λ h some refused. absurd refused)
+
+-- ---- the promises
+
+-- Every release is answered as the trace says, ..
+pub releases-by-the-trace : ReleasesByTheTrace
+releases-by-the-trace bytes ok calls = release-by-the-trace (bridge bytes ok calls)
+
+-- .. a tick is refused after the last time only, ..
+pub ticks-by-the-trace : TicksByTheTrace
+ticks-by-the-trace bytes ok calls = tick-by-the-trace (bridge bytes ok calls)
+
+-- .. there is a place for every unfinished job, ..
+pub places-are-enough : PlacesAreEnough
+places-are-enough bytes ok calls = let b = bridge bytes ok calls in omega (arith, pending-count b, sound-facts b .few-pending)
+
+-- .. and a refused call changes nothing.
+pub refused-changes-nothing : RefusedChangesNothing
+unfolding runAt
+refused-changes-nothing bytes ok calls = refused-leaves-the-run (runAt bytes calls) (bridge bytes ok calls .sound)

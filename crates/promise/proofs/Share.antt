@@ -1,0 +1,78 @@
+-- Share is proved: the accepted jobs of each row come by the rule of due times, so that in any window they cost no more than the row's demand, whatever the
+-- other rows release; and no job is ever given more units than its cost. (docs/RULES.md, section 5.)
+use Prim.Native.Nat.{ℕ, _≤_, _<_}
+use mathlib.Core.Path.{refl}
+use mathlib.Core.List.{List, [], _∷_, List·Memᴰ, List·Memᴰ·head, List·Memᴰ·tail}
+use native.Mathlib.Nat.{le-trans}
+use native.Mathlib.Omega.{arith}
+use Rattle.theory.specs.Lists.{All, weightIf}
+use Rattle.theory.specs.Jobs.{Job, within, weighed, BoundedBy}
+use Rattle.theory.specs.Sources.{own}
+use Rattle.theory.proofs.Cases.{by-eq, by-test}
+use Rattle.theory.proofs.Lists.{all-of-members, all-imply, total-monotone, weight-if, weight-unless}
+use Rattle.theory.proofs.Demand.{no-demand-below-d}
+use Rattle.theory.proofs.Sources.{own-of-it, own-of-another}
+use Rattle.theory.proofs.Windows.{row-is-bounded}
+use Rattle.table.specs.declared.Table.{Table}
+use Rattle.table.specs.Tables.{tableRead}
+use Rattle.verdict.specs.Demand.{rowDemandOf}
+use Rattle.verdict.proofs.Rows.{row-within}
+use Rattle.run.specs.declared.Run.{Run}
+use Rattle.run.specs.Runs.{rowAt}
+use Rattle.promise.specs.Traces.{Event, jobsIn, unitsOf}
+use Rattle.promise.specs.Share.{costsIn, consumedIn, Share, NoDemandInNoTime}
+use Rattle.promise.proofs.Bridge.{Bridge}
+use Rattle.promise.proofs.Bridged.{bridge}
+use Rattle.promise.proofs.Units.{never-more-units}
+
+-- What every job of a list has, every job of a source has.
+all-own : (P : Job → Type 0) (i : ℕ) (js : List Job) → All P js → All P (own i js)
+unfolding own
+all-own P i [] h = tt
+all-own P i (j ∷ js) h = by-eq (j .source) i
+    (λ e. rw (own-of-it i j js e) (h .0, all-own P i js (h .1)))
+    (λ e. rw (own-of-another i j js e) (all-own P i js (h .1)))
+
+-- A job is one of its own source's.
+pub own-member : (j : Job) {js : List Job} → List·Memᴰ j js → List·Memᴰ j (own (j .source) js)
+unfolding own
+own-member j (List·Memᴰ·head {xs = js} e) = rw (← e, own-of-it (j .source) j js refl) (List·Memᴰ·head refl)
+own-member j (List·Memᴰ·tail {x = i} {xs = js} m) = by-eq (i .source) (j .source)
+    (λ e. rw (own-of-it (j .source) i js e) (List·Memᴰ·tail (own-member j m)))
+    (λ e. rw (own-of-another (j .source) i js e) (own-member j m))
+
+module _ {t : Table} {run : Run} {es : List Event} (b : Bridge t run es) where
+  -- In every window the accepted jobs of a row in use cost at most its demand.
+  pub row-share : (row : ℕ) → row < t .count → BoundedBy (rowDemandOf (rowAt t row)) (own row (jobsIn es))
+  row-share row h =
+      let limits = row-within (b .table-in-range) row h in
+      let r = rowAt t row in
+      row-is-bounded (r .x) (r .y) (r .d) (r .c) (own row (jobsIn es)) (limits .some-x) (limits .some-y) (b .by-rule row h)
+
+  -- They are given no more units than they cost.
+  consumed-at-most-costs : (from to row : ℕ) → consumedIn from to row es ≤ costsIn from to row es
+  unfolding weighed
+  consumed-at-most-costs from to row =
+      let its-units : Job → ℕ = λ j. unitsOf (j .name) es in
+      let its-cost : Job → ℕ = λ j. j .cost in
+      let few = all-own (λ j. its-units j ≤ its-cost j) row (jobsIn es) (all-of-members (jobsIn es) (never-more-units b)) in
+      total-monotone (weightIf (within from to) its-units) (weightIf (within from to) its-cost) (own row (jobsIn es))
+      (all-imply
+      (λ j h. by-test (within from to j)
+      (λ inside. omega (arith, weight-if (within from to) its-units j inside, weight-if (within from to) its-cost j inside))
+      (λ outside. omega (arith, weight-unless (within from to) its-units j outside)))
+      (own row (jobsIn es))
+      few)
+
+-- In any window a row's jobs cost at most its demand, and are given no more units than that.
+pub share : Share
+share bytes ok calls row in-use from to h =
+    let b = bridge bytes ok calls in
+    let costs-fit = row-share b row in-use from to h in
+    (costs-fit, le-trans (consumed-at-most-costs b from to row) costs-fit)
+
+-- In no time no row has any demand.
+pub no-demand-in-no-time : NoDemandInNoTime
+no-demand-in-no-time bytes ok row in-use =
+    let r = rowAt (tableRead bytes .table) row in
+    no-demand-below-d (r .x) (r .y) (r .d) (r .c) 0 (row-within (bridge bytes ok [] .table-in-range) row in-use .some-d)

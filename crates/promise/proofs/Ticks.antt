@@ -1,0 +1,26 @@
+-- A tick of a sound run has three answers: refused (10) at the last clock, idle where nothing is pending, and else it ran the job that goes first.
+-- (docs/RULES.md, sections 6.10 to 6.16.)
+use Prim.Native.Nat.{_≤_, _<_}
+use mathlib.Core.Path.{_≡_}
+use mathlib.Core.Bool.{true}
+use native.Mathlib.Omega.{arith}
+use Rattle.kinds.specs.Numbering.{maxTime}
+use Rattle.kinds.specs.declared.Refusal.the-variants.{TimeTooLate}
+use Rattle.theory.proofs.Cases.{by-lt}
+use Rattle.run.specs.declared.Run.{Run}
+use Rattle.run.specs.declared.TickStep.{TickStep}
+use Rattle.run.specs.Sound.{soundOf}
+use Rattle.run.specs.Ticking.{refusedTick, idleTick, busyTick, ticked}
+use Rattle.run.proofs.Ticking.{tick-too-late, tick-idle, tick-busy}
+
+-- What holds of each of the three, where it is given, holds of the tick.
+pub each-tick : (run : Run) → soundOf run ≡ true → (P : TickStep → Type 0)
+    → (maxTime ≤ run .clock .0 → P (refusedTick run TimeTooLate))
+    → (run .clock .0 < maxTime → run .pending .count ≡ 0 → P (idleTick run))
+    → (run .clock .0 < maxTime → 1 ≤ run .pending .count → P (busyTick run))
+    → P (ticked run)
+each-tick run sound P refused idle busy = by-lt (run .clock .0) maxTime
+    (λ h. by-lt 0 (run .pending .count)
+    (λ some. rw (tick-busy run sound h some) (busy h some))
+    (λ none. rw (tick-idle run sound h (omega arith)) (idle h (omega arith))))
+    (λ h. rw (tick-too-late run sound h) (refused h))

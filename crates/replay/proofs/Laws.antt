@@ -1,0 +1,174 @@
+-- The laws of replays are proved: what the moves keep, taken at the end, where nothing is pending. (docs/RULES.md, section 8.)
+use Prim.Native.Nat.{ℕ, zero, suc, _+_, _≤_, _<_, suc-le-suc}
+use mathlib.Core.Path.{_≡_, refl, sym, ap, ap₂, subst, _∙_}
+use mathlib.Core.Logic.{⊎-elim}
+use mathlib.Core.List.{List, [], _∷_, List·Memᴰ, List·Memᴰ·head, List·Memᴰ·tail, List·Memᴰ·not-nil}
+use native.Mathlib.Nat.{not-suc-le-zero, le-of-suc-le-suc}
+use native.Mathlib.Omega.{arith}
+use lib.ListN.{length, getD}
+use borrow.Author.Tests.{le-leb, lt-leb, lt-ltb, le-ltb}
+use Rattle.kinds.specs.Numbering.{Said, refusalNumber, maxTime}
+use Rattle.kinds.specs.declared.Finish.{Finish}
+use Rattle.kinds.specs.declared.RefusedAt.{RefusedAt}
+use Rattle.kinds.proofs.Numbering.{numbers-differ, never-zero, never-an-answer}
+use Rattle.theory.proofs.Cases.{by-lt}
+use Rattle.jobs.specs.declared.Job.{Job}
+use Rattle.jobs.specs.Places.{noJob}
+use Rattle.jobs.specs.Turns.{noFinish, firstJob, finishAt}
+use Rattle.run.specs.declared.Run.{Run}
+use Rattle.run.specs.Runs.{started}
+use Rattle.run.specs.Advance.{finishedBy, ticks}
+use Rattle.run.proofs.Fresh.{started-is-sound}
+use Rattle.run.proofs.Ticking.{Good, tick-idle, tick-busy}
+use Rattle.log.proofs.Laws as log
+use Rattle.replay.specs.declared.Replayed.{Replayed}
+use Rattle.replay.specs.declared.Replayed.the-variants as replayed
+use Rattle.replay.specs.Play.{begun}
+use Rattle.replay.specs.Outcome.{replaySays}
+use Rattle.replay.specs.Laws as laws
+use Rattle.replay.specs.Laws.{RecordOf, AskedFor, LastUnit, OfWhole}
+use Rattle.replay.proofs.Playing.{OnItsWay, on-its-way-first, on-its-way-ticked, on-its-way-released, first-sound, ticks-keep, tick-clock}
+use Rattle.replay.proofs.Through.{Keeps, kept-through, was-started}
+use Rattle.replay.proofs.Moves.{kept-by-moves}
+use Rattle.replay.proofs.Lateness.{dueBefore, LateSoFar, late-so-far}
+use Rattle.replay.proofs.Conservation.{Recorded, NoneLost, none-lost}
+use Rattle.replay.proofs.InOrder.{Counted, accepted-counted, Rising, finishes-rising}
+use Rattle.replay.proofs.Asked.{all-asked}
+
+-- ---- jobs late
+
+pub late-is-the-sum : laws.LateIsTheSum
+unfolding dueBefore
+late-is-the-sum t s p table script e =
+    let end = kept-by-moves LateSoFar late-so-far t s p table e in
+    omega (arith, rw (end .1) at (end .0))
+
+-- ---- what was accepted
+
+pub every-record-is-accepted : laws.EveryRecordIsAccepted
+every-record-is-accepted t s p table script e =
+    let all = all-asked (length s) s 0 (begun (started t .run)) p script (omega arith) (omega arith) (started-is-sound t table) (was-started t s p e) in
+    (all .records, all .are-read, subst (AskedFor 0 (all .records)) (sym (all .all-accepted)) (all .are-asked-for))
+
+pub serials-count : laws.SerialsCount
+serials-count t s p table script e = kept-by-moves Counted accepted-counted t s p table e .0 .1
+
+-- ---- the log
+
+-- A replay is on its way all through.
+on-its-way : Keeps (λ p. OnItsWay (p .since))
+unfolding ticks
+on-its-way = record {
+  tick = λ p good in-time way. on-its-way-ticked way (ticks-keep (p .since) 1 good (omega arith));
+  release = λ p row cost a good e way. on-its-way-released (p .since) row cost a e way;
+}
+
+-- So it is at the end.
+way-to-the-end : OfWhole λ t s p. OnItsWay (p .since) × (p .since .run .pending .count ≡ 0)
+way-to-the-end t s p table script e =
+    let first = on-its-way-first (started t .run) (started-is-sound t table) refl refl in
+    let end = kept-through (λ p. OnItsWay (p .since)) on-its-way t s p table first e in
+    (end .kept, end .nothing-pending)
+
+-- What stands at a place of a list is in it ..
+stands-in : {A : Type 0} (l : List A) (i : ℕ) (d : A) → i < length l → List·Memᴰ (getD l i d) l
+stands-in [] i d h = absurd (not-suc-le-zero h)
+stands-in (a ∷ l) zero d h = List·Memᴰ·head refl
+stands-in (a ∷ l) (suc i) d h = List·Memᴰ·tail (stands-in l i d (le-of-suc-le-suc h))
+
+-- .. and what is in it stands at a place.
+place-of : {A : Type 0} {a : A} {l : List A} (d : A) → List·Memᴰ a l → (k : ℕ) × (k < length l) × (a ≡ getD l k d)
+place-of d (List·Memᴰ·head e) = (0, omega arith, e)
+place-of d (List·Memᴰ·tail m) = let rest = place-of d m in (suc (rest .0), suc-le-suc (rest .1), rest .2)
+
+pub one-record-each : laws.OneRecordEach
+one-record-each t s p table script e =
+    let counted = kept-by-moves Counted accepted-counted t s p table e .0 in
+    let way = way-to-the-end t s p table script e in
+    let lost = kept-by-moves NoneLost none-lost t s p table e in (
+      omega (arith, way .0 .all-there, way .1, counted .0),
+      λ i h.
+          ⊎-elim (λ w. absurd (List·Memᴰ·not-nil (rw (lost .1) at (w .1))))
+          (λ (r : Recorded (p .since .finishes) (getD (p .accepted) i noJob)).
+          let k = place-of noFinish (r .1) in (k .0, k .1, rw (k .2) at (r .2)))
+          (lost .0 (getD (p .accepted) i noJob) (stands-in (p .accepted) i noJob h)),
+    )
+
+pub finishes-rise : laws.FinishesRise
+finishes-rise t s p table script e = kept-by-moves Rising finishes-rising t s p table e .0 .rising
+
+pub log-reads-back : laws.LogReadsBack
+log-reads-back t s p table script e =
+    let in-range = way-to-the-end t s p table script e .0 .in-range in
+    (in-range, log.log-reads-back (p .since .finishes) in-range)
+
+-- ---- one tick
+
+-- A job's record at a time says all of it.
+its-record : (j : Job) (f : Finish) (clock : ℕ) → RecordOf j f → f .finish .0 ≡ clock → finishAt clock j ≡ f
+its-record j f clock r e = rw (← (r .serial), ← (r .row), ← (r .release), ← (r .due), ← e)
+
+module _ (run : Run) (f : Finish) (good : Good run) (in-time : run .clock .0 < maxTime) where
+  abbrev first : Job
+  first = firstJob (run .pending)
+
+  -- Where the job that goes first has one unit left, the tick finishes it.
+  last-unit : 1 ≤ run .pending .count → first .left ≤ 1 → finishedBy run ≡ finishAt (run .clock .0 + 1) first ∷ []
+  last-unit some last = rw (lt-ltb 0 (run .pending .count) some, le-leb (first .left) 1 last)
+
+  to-last-unit : finishedBy run ≡ f ∷ [] → LastUnit run f
+  to-last-unit e =
+      by-lt 0 (run .pending .count)
+      (λ some. by-lt 1 (first .left)
+      (λ more. absurd (let none = rw (lt-ltb 0 (run .pending .count) some, lt-leb (first .left) 1 more) at e in
+      let z : _≡_ {A = ℕ} 0 1 = cc in omega arith))
+      (λ last.
+      let its : f ≡ finishAt (run .clock .0 + 1) first = let one = last-unit some last in cc in
+      let sound = first-sound run good some in
+      rw its (record {
+        answered = rw (tick-busy run (good .0) in-time some, le-leb (first .left) 1 last);
+        one-left = omega (arith, sound .some-left);
+        its-own = record { serial = refl; row = refl; release = refl; due = refl; after-release = omega (arith, sound .released) };
+        at-the-clock = sym (tick-clock run good in-time);
+      })))
+      (λ none. absurd (let nothing = rw (le-ltb 0 (run .pending .count) none) at e in let z : _≡_ {A = ℕ} 0 1 = cc in omega arith))
+
+  from-last-unit : LastUnit run f → finishedBy run ≡ f ∷ []
+  from-last-unit l =
+      by-lt 0 (run .pending .count)
+      (λ some.
+      let clock : f .finish .0 ≡ run .clock .0 + 1 = l .at-the-clock ∙ tick-clock run good in-time in
+      last-unit some (omega (arith, l .one-left)) ∙ ap (λ (g : Finish). g ∷ []) (its-record first f (run .clock .0 + 1) (l .its-own) clock))
+      (λ none. absurd (let nothing = rw (tick-idle run (good .0) in-time (omega arith)) at (l .answered) in
+      let z : _≡_ {A = ℕ} 0 1 = cc in omega arith))
+
+pub finish-is-the-last-unit : laws.FinishIsTheLastUnit
+finish-is-the-last-unit run f whole sound in-time = (to-last-unit run f (sound, whole) in-time, from-last-unit run f (sound, whole) in-time)
+
+-- ---- what a replay says
+
+pub never-says-zero : laws.NeverSaysZero
+never-says-zero (replayed.InTime n) = omega arith
+never-says-zero (replayed.Late l) = omega arith
+never-says-zero (replayed.Refused r) = never-zero (r .refusal)
+
+-- No refusal has an answer's number.
+no-answer : (r : RefusedAt) → 20 ≤ refusalNumber (r .refusal) → refusalNumber (r .refusal) ≤ 23 → ⊥
+no-answer r least most = ⊎-elim (λ h. omega arith) (λ h. omega arith) (never-an-answer (r .refusal))
+
+-- Outcomes that agree in the three numbers that are said are one.
+same-said : (r q : Replayed) → replaySays r .number ≡ replaySays q .number → replaySays r .first ≡ replaySays q .first
+    → replaySays r .second ≡ replaySays q .second → r ≡ q
+same-said (replayed.InTime n) (replayed.InTime m) k f s = ap replayed.InTime f
+same-said (replayed.InTime n) (replayed.Late l) k f s = absurd (omega arith)
+same-said (replayed.InTime n) (replayed.Refused r) k f s = absurd (no-answer r (omega arith) (omega arith))
+same-said (replayed.Late l) (replayed.InTime m) k f s = absurd (omega arith)
+same-said (replayed.Late l) (replayed.Late m) k f s = ap₂ (λ length late. replayed.Late (record { length = length; late = late })) f s
+same-said (replayed.Late l) (replayed.Refused r) k f s = absurd (no-answer r (omega arith) (omega arith))
+same-said (replayed.Refused r) (replayed.InTime m) k f s = absurd (no-answer r (omega arith) (omega arith))
+same-said (replayed.Refused r) (replayed.Late m) k f s = absurd (no-answer r (omega arith) (omega arith))
+same-said (replayed.Refused r) (replayed.Refused q) k f s =
+    ap₂ (λ kind place. replayed.Refused (record { refusal = kind; place = place })) (numbers-differ (r .refusal) (q .refusal) k) f
+
+pub said-apart : laws.SaidApart
+said-apart r q e = same-said r q (ap (λ (s : Said). s .number) e) (ap (λ (s : Said). s .first) e) (ap (λ (s : Said). s .second) e)

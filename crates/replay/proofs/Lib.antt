@@ -1,0 +1,11 @@
+pub mod Writing
+pub mod Logging
+pub mod Playing
+pub mod Replaying
+pub mod Through
+pub mod Moves
+pub mod Lateness
+pub mod Conservation
+pub mod InOrder
+pub mod Asked
+pub mod Laws

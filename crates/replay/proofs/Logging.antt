@@ -1,0 +1,156 @@
+-- What is written of a log: all records while they fit, and from the first that does not on the log is full. (docs/RULES.md, sections 8.8 to 8.16.)
+use Prim.Native.Nat.{ℕ, _+_, _-_, _≤_, _<_}
+use mathlib.Core.Path.{_≡_, refl, sym, _∙_}
+use mathlib.Core.Bool.{true, false, cond}
+use mathlib.Core.List.{List, [], _∷_, _++_, flatten, append-nil, append-assoc, List·Memᴰ·head, List·Memᴰ·tail}
+use native.Mathlib.Nat.{add-assoc}
+use native.Mathlib.Omega.{arith}
+use lib.ListN.{length, length-append, take-append-drop}
+use borrow.Author.Tests.{le-leb, lt-leb, eq-eqb, ne-eqb}
+use Rattle.theory.proofs.Cases.{by-lt, by-test}
+use Rattle.kinds.specs.declared.Finish.{Finish}
+use Rattle.kinds.specs.declared.Refusal.the-variants.{NoRoom}
+use Rattle.log.specs.Log.{valuesOf, spelledFinish, allInRange}
+use Rattle.log.specs.Laws.{spelledLog, EachInRange, Holds}
+use Rattle.log.proofs.Records.{answers-no-room, answers-length}
+use Rattle.log.proofs.Laws.{log-grows}
+use Rattle.replay.specs.declared.Logged.{Logged}
+use Rattle.replay.specs.declared.Replayed.the-variants as replayed
+use Rattle.replay.specs.Play.{Progress, whole}
+use Rattle.replay.specs.Outcome.{finishedLate, lateFinishes, answerOf}
+use Rattle.replay.specs.Inside.{oneLogged, loggedAfter, oneWritten, logWith}
+
+-- So far these jobs have finished. Their late ones are counted; and the log holds them all, or has no room for them.
+pub record Logs (fs : List Finish) (log₀ log : List ℕ) (l : Logged) : Type 0 where
+  pub late : l .late ≡ lateFinishes fs
+  pub within : l .length ≤ length log
+  pub same-length : length log ≡ length log₀
+  pub holds : l .full ≡ false → Holds fs log₀ log (l .length)
+  pub no-room : l .full ≡ true → length log₀ < length (spelledLog fs)
+
+-- Before the first.
+pub logs-none : (log : List ℕ) → Logs [] log log (record { length = 0; late = 0; full = false })
+unfolding lateFinishes flatten
+logs-none log = record {
+  late = refl;
+  within = omega arith;
+  same-length = refl;
+  holds = λ e. record { up-to = refl; within = omega arith; same-length = refl; stands = refl };
+  no-room = λ e. absurd (let z : _≡_ {A = ℕ} 0 1 = cc in omega arith);
+}
+
+-- No more are late than have finished.
+pub late-are-few : (fs : List Finish) → lateFinishes fs ≤ length fs
+unfolding lateFinishes
+late-are-few [] = omega arith
+late-are-few (f ∷ fs) =
+    let one : cond (finishedLate f) 1 0 ≤ 1 = by-test (finishedLate f) (λ late. rw late (omega arith)) (λ not-late. rw not-late (omega arith)) in
+    omega (arith, late-are-few fs)
+
+-- ---- one more
+
+-- One job more may be late ..
+late-of-one-more : (fs : List Finish) (f : Finish) → lateFinishes (fs ++ (f ∷ [])) ≡ lateFinishes fs + cond (finishedLate f) 1 0
+unfolding lateFinishes
+late-of-one-more [] f = omega arith
+late-of-one-more (g ∷ fs) f = rw (late-of-one-more fs f) (sym (add-assoc (cond (finishedLate g) 1 0) (lateFinishes fs) (cond (finishedLate f) 1 0)))
+
+-- .. and makes the log longer.
+length-of-one-more : (fs : List Finish) (f : Finish) → length (spelledLog (fs ++ (f ∷ []))) ≡ length (spelledLog fs) + length (spelledFinish f)
+unfolding flatten
+length-of-one-more [] f = omega (arith, length-append (spelledFinish f) [])
+length-of-one-more (g ∷ fs) f =
+    let shorter = length-append (spelledFinish g) (spelledLog fs) in
+    let longer = length-append (spelledFinish g) (spelledLog (fs ++ (f ∷ []))) in
+    omega (arith, length-of-one-more fs f)
+
+module _ {fs : List Finish} {log₀ log : List ℕ} {l : Logged} (w : Logs fs log₀ log l) (f : Finish) (in-range : allInRange (valuesOf f) ≡ true) where
+  -- The log is full already: it stays so, and is not written to.
+  logs-full : l .full ≡ true → Logs (fs ++ (f ∷ [])) log₀ (oneWritten l f log) (oneLogged (length log) l f)
+  logs-full full = rw full (record {
+    late = rw (late-of-one-more fs f, w .late);
+    within = w .within;
+    same-length = w .same-length;
+    holds = λ e. absurd (let z : _≡_ {A = ℕ} 0 1 = cc in omega arith);
+    no-room = λ e. omega (arith, w .no-room full, length-of-one-more fs f);
+  })
+
+  module _ (not-full : l .full ≡ false) where
+    -- It fits ..
+    logs-fits : length (spelledFinish f) ≤ length log - l .length → Logs (fs ++ (f ∷ [])) log₀ (oneWritten l f log) (oneLogged (length log) l f)
+    logs-fits h =
+        let fits = answers-length f (length log - l .length) in-range h in
+        let more = log-grows fs log₀ log (l .length) (w .holds not-full) f (length (spelledFinish f)) _ (record { answered = sym fits; whole = refl }) in
+        rw (not-full, fits) (record {
+          late = rw (late-of-one-more fs f, w .late);
+          within = more .within;
+          same-length = more .same-length;
+          holds = λ e. more;
+          no-room = λ e. absurd (let z : _≡_ {A = ℕ} 0 1 = cc in omega arith);
+        })
+
+    -- .. or the log is full from now on.
+    logs-overflows : length log - l .length < length (spelledFinish f) → Logs (fs ++ (f ∷ [])) log₀ (oneWritten l f log) (oneLogged (length log) l f)
+    logs-overflows h =
+        let known = w .holds not-full in
+        rw (not-full, answers-no-room f (length log - l .length) in-range h, take-append-drop (l .length) log) (record {
+          late = rw (late-of-one-more fs f, w .late);
+          within = w .within;
+          same-length = w .same-length;
+          holds = λ e. absurd (let z : _≡_ {A = ℕ} 0 1 = cc in omega arith);
+          no-room = λ e. omega (arith, known .up-to, known .within, known .same-length, length-of-one-more fs f);
+        })
+
+  -- One of the three.
+  logs-one-more : Logs (fs ++ (f ∷ [])) log₀ (oneWritten l f log) (oneLogged (length log) l f)
+  logs-one-more =
+      by-test (l .full) logs-full λ not-full.
+      by-lt (length log - l .length) (length (spelledFinish f)) (logs-overflows not-full) (logs-fits not-full)
+
+-- ---- many more
+
+-- So it goes for as many as finish.
+pub logs-more : {fs : List Finish} {log₀ log : List ℕ} {l : Logged} (gs : List Finish) → Logs fs log₀ log l → EachInRange gs
+    → Logs (fs ++ gs) log₀ (logWith l gs log) (loggedAfter (length log) l gs)
+unfolding logWith loggedAfter
+logs-more {fs} [] w r = rw append-nil w
+logs-more {fs} {log₀} {log} {l} (g ∷ gs) w r =
+    let one = logs-one-more w g (r g (List·Memᴰ·head refl)) in
+    let same : length (oneWritten l g log) ≡ length log = one .same-length ∙ sym (w .same-length) in
+    let all = logs-more gs one (λ f m. r f (List·Memᴰ·tail m)) in
+    rw (append-assoc, same) at all
+
+-- ---- the answer, once all have finished
+
+module _ {log₀ log : List ℕ} {l : Logged} (p : Progress) (w : Logs (p .since .finishes) log₀ log l) (end : ℕ) where
+  -- The jobs that finished.
+  abbrev all : List Finish
+  all = p .since .finishes
+
+  -- The log had no room for them: 12.
+  pub answers-full : l .full ≡ true → answerOf (length log₀) end (whole p) ≡ replayed.Refused (record { refusal = NoRoom; place = end })
+  answers-full full = rw (lt-leb (length (spelledLog all)) (length log₀) (w .no-room full))
+
+  -- It had room for them ..
+  module _ (not-full : l .full ≡ false) where
+    -- (so that the log holds them) ..
+    abbrev held : Holds all log₀ log (l .length)
+    held = w .holds not-full
+
+    it-fits : length (spelledLog all) ≤ length log₀
+    it-fits = omega (arith, held .up-to, held .within, held .same-length)
+
+    -- .. and all were in time ..
+    pub answers-in-time : l .late ≡ 0 → answerOf (length log₀) end (whole p) ≡ replayed.InTime (l .length)
+    answers-in-time none =
+        rw (le-leb (length (spelledLog all)) (length log₀) it-fits, eq-eqb (lateFinishes all) 0 (sym (w .late) ∙ none), held .up-to)
+
+    -- .. or some were late.
+    pub answers-late : (l .late ≡ 0 → ⊥) → answerOf (length log₀) end (whole p) ≡ replayed.Late (record { length = l .length; late = l .late })
+    answers-late some =
+        rw (
+          le-leb (length (spelledLog all)) (length log₀) it-fits,
+          ne-eqb (lateFinishes all) 0 (λ e. some (w .late ∙ e)),
+          held .up-to,
+          w .late,
+        )

@@ -1,0 +1,175 @@
+//! The two calls of the rig's host, on byte buffers: a status number and a 16-byte answer.
+
+use crate::refusal::{Reason, Refusal};
+use crate::replay;
+use crate::table;
+use crate::verdict::{self, Verdict};
+
+pub const FEASIBLE: u32 = 20;
+pub const OVERLOADED: u32 = 21;
+pub const IN_TIME: u32 = 22;
+pub const LATE: u32 = 23;
+
+pub fn verdict(table: &[u8], answer: &mut [u8]) -> u32 {
+    let Ok(answer) = <&mut [u8; 16]>::try_from(answer) else {
+        return Reason::AnswerNot16Bytes.number();
+    };
+    match table::read(table).map(|table| verdict::verdict(&table)) {
+        Ok(Verdict::Feasible) => say(answer, FEASIBLE, 0, 0),
+        Ok(Verdict::Overloaded { length, demand }) => say(answer, OVERLOADED, length, demand),
+        Err(refusal) => refuse(answer, refusal),
+    }
+}
+
+pub fn replay(table: &[u8], script: &[u8], log: &mut [u8], answer: &mut [u8]) -> u32 {
+    let Ok(answer) = <&mut [u8; 16]>::try_from(answer) else {
+        return Reason::AnswerNot16Bytes.number();
+    };
+    let outcome = table::read(table).and_then(|table| {
+        let replayed = replay::replay(&table, script)?;
+        let whole = replayed.log();
+        let start = log.get_mut(..whole.len()).ok_or(Reason::NoRoom.at(script.len()))?;
+        start.copy_from_slice(&whole);
+        Ok((whole.len(), replayed.late))
+    });
+    match outcome {
+        Ok((length, late)) => {
+            let status = if late == 0 { IN_TIME } else { LATE };
+            say(answer, status, length as u64, late)
+        }
+        Err(refusal) => {
+            log.fill(0);
+            refuse(answer, refusal)
+        }
+    }
+}
+
+fn say(answer: &mut [u8; 16], status: u32, first: u64, second: u64) -> u32 {
+    answer[..8].copy_from_slice(&first.to_le_bytes());
+    answer[8..].copy_from_slice(&second.to_le_bytes());
+    status
+}
+
+fn refuse(answer: &mut [u8; 16], refusal: Refusal) -> u32 {
+    say(answer, refusal.reason.number(), refusal.place as u64, 0)
+}
+
+#[cfg(test)]
+mod tests {
+    use super::*;
+    use crate::run::LAST_TICK;
+    use crate::{numbers, table::tests::spell};
+
+    const V3: [u8; 9] = [2, 1, 4, 4, 2, 1, 6, 6, 3];
+    const R1: [u8; 9] = [0, 0, 2, 0, 1, 3, 4, 0, 2];
+    const R1_LOG: [u8; 15] = [0, 0, 0, 4, 2, 1, 1, 0, 6, 5, 2, 0, 4, 8, 7];
+
+    fn numbers_of(answer: &[u8; 16]) -> (u64, u64) {
+        let number = |bytes: &[u8]| u64::from_le_bytes(bytes.try_into().unwrap());
+        (number(&answer[..8]), number(&answer[8..]))
+    }
+
+    /// Status and the answer's two numbers.
+    fn judged(table: &[u8]) -> (u32, u64, u64) {
+        let mut answer = [0xee; 16];
+        let status = verdict(table, &mut answer);
+        let (first, second) = numbers_of(&answer);
+        (status, first, second)
+    }
+
+    fn replayed(table: &[u8], script: &[u8], log: &mut [u8]) -> (u32, u64, u64) {
+        let mut answer = [0xee; 16];
+        let status = replay(table, script, log, &mut answer);
+        let (first, second) = numbers_of(&answer);
+        (status, first, second)
+    }
+
+    #[test]
+    fn verdicts_and_refusals() {
+        assert_eq!(judged(&V3), (20, 0, 0));
+        assert_eq!(judged(&spell(&[[1, 2, 10, 3]])), (21, 26, 27));
+        assert_eq!(judged(&[0x80, 0x00]), (1, 0, 0));
+        assert_eq!(judged(&[17]), (2, 0, 0));
+        assert_eq!(judged(&[1, 1, 0, 1, 1]), (3, 2, 0));
+        assert_eq!(judged(&[0, 0]), (4, 1, 0));
+        let long = spell(&[[1, 1_141, 1, 1], [1, 919, 1, 1]]);
+        assert_eq!(judged(&long), (5, long.len() as u64, 0));
+    }
+
+    #[test]
+    fn an_answer_buffer_of_another_size_is_13_first_of_all_and_nothing_is_written() {
+        for size in [0, 15, 17, 32] {
+            let mut answer = vec![0xee; size];
+            let mut log = [0xee; 20];
+            assert_eq!(verdict(&[17], &mut answer), 13);
+            assert_eq!(replay(&[17], &[0x80, 0x00], &mut log, &mut answer), 13);
+            assert_eq!(replay(&V3, &R1, &mut log, &mut answer), 13);
+            assert_eq!((answer, log), (vec![0xee; size], [0xee; 20]));
+        }
+    }
+
+    #[test]
+    fn bytes_past_the_log_stay() {
+        let mut log = [0xee; 20];
+        assert_eq!(replayed(&V3, &R1, &mut log), (22, 15, 0));
+        assert_eq!(log[..15], R1_LOG);
+        assert_eq!(log[15..], [0xee; 5]);
+        let mut exact = [0xee; 15];
+        assert_eq!(replayed(&V3, &R1, &mut exact), (22, 15, 0));
+        assert_eq!(exact, R1_LOG);
+    }
+
+    #[test]
+    fn no_jobs_leave_the_log_untouched() {
+        let mut log = [0xee; 4];
+        assert_eq!(replayed(&[0], &[], &mut log), (22, 0, 0));
+        assert_eq!(log, [0xee; 4]);
+    }
+
+    #[test]
+    fn late_jobs_are_counted() {
+        assert_eq!(replayed(&[1, 2, 1, 1, 1], &[0, 0, 1, 0, 0, 1], &mut [0; 10]), (23, 10, 1));
+    }
+
+    #[test]
+    fn every_refusal_but_13_zeroes_the_log() {
+        for (table, script, refusal) in [
+            (&V3[..5], &R1[..], (1, 5, 0)),
+            (&[17][..], &R1[..], (2, 0, 0)),
+            (&V3[..], &R1[..8], (14, 8, 0)),
+            (&V3[..], &[0, 2, 1][..], (6, 1, 0)),
+            (&V3[..], &R1[..], (12, 9, 0)),
+        ] {
+            let mut log = [0xee; 14];
+            assert_eq!(replayed(table, script, &mut log), refusal);
+            assert_eq!(log, [0; 14]);
+        }
+    }
+
+    #[test]
+    fn an_overflow_loses_to_any_other_refusal() {
+        assert_eq!(replayed(&V3, &R1, &mut []), (12, 9, 0));
+        assert_eq!(replayed(&V3, &R1[..8], &mut []), (14, 8, 0));
+        let hopeless = [1, 1, 1, 2, 3];
+        let mut script = vec![0, 0, 1];
+        script.extend(numbers::spell(LAST_TICK - 2).unwrap());
+        script.extend([0, 3]);
+        assert_eq!(replayed(&hopeless, &script, &mut []), (10, script.len() as u64, 0));
+    }
+
+    #[test]
+    fn an_overflow_is_not_undone_by_a_shorter_record() {
+        // Job 0 waits for 140 others, whose records grow to 9 bytes, and ends the log with one of 7.
+        let table = spell(&[[1, 1, 16_000, 1], [64, 1, 1, 1]]);
+        let script = [vec![0, 0, 1, 0, 1, 1], [1, 1, 1].repeat(139)].concat();
+        let mut whole = vec![0xee; 10 * script.len()];
+        let (status, length, _) = replayed(&table, &script, &mut whole);
+        assert_eq!(status, 22);
+        let length = length as usize;
+        assert_eq!(whole[length - 7..length], [0, 0, 0, 0x80, 0x7d, 0x8d, 0x01]);
+
+        let mut log = vec![0xee; length - 9];
+        assert_eq!(replayed(&table, &script, &mut log), (12, script.len() as u64, 0));
+        assert!(log.iter().all(|&byte| byte == 0));
+    }
+}

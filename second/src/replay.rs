@@ -1,0 +1,199 @@
+//! Replay: a script's releases at their times, and a log of the jobs in order of finishing.
+
+use crate::numbers;
+use crate::refusal::{Reason, Refusal};
+use crate::run::{Given, Job, Run, LAST_TICK};
+use crate::script;
+use crate::table::Table;
+
+#[derive(Clone, Debug, Default, PartialEq, Eq)]
+pub struct Replayed {
+    /// Per job in order of finishing, the bytes of serial, row, release, due, finish.
+    pub records: Vec<Vec<u8>>,
+    /// Jobs that finished after their due time.
+    pub late: u64,
+}
+
+impl Replayed {
+    pub fn log(&self) -> Vec<u8> {
+        self.records.concat()
+    }
+}
+
+/// Plays a whole script and spells the whole log, however long. Whether it fits a buffer is the caller's question:
+/// that refusal comes after all others.
+pub fn replay(table: &Table, script: &[u8]) -> Result<Replayed, Refusal> {
+    let mut player = Player { run: Run::fresh(table.clone()), jobs: vec![], replayed: Replayed::default() };
+    let mut time = 0;
+    let mut place = 0;
+    while place < script.len() {
+        let (gap, row_place) = script::number(script, place)?;
+        time += gap;
+        if time > LAST_TICK {
+            return Err(Reason::TimeTooLate.at(place));
+        }
+        let (row, cost_place) = script::number(script, row_place)?;
+        let rule = table.row(row).ok_or(Reason::NoSuchRow.at(row_place))?;
+        let (cost, after) = script::number(script, cost_place)?;
+        if cost < 1 || cost > rule.c {
+            return Err(Reason::CostOutOfRange.at(cost_place));
+        }
+        player.tick_until(time);
+        let job = player.run.release(row, cost).map_err(|reason| reason.at(place))?;
+        player.jobs.push(job);
+        place = after;
+    }
+    while !player.run.pending().is_empty() {
+        player.tick().map_err(|reason| reason.at(script.len()))?;
+    }
+    Ok(player.replayed)
+}
+
+struct Player {
+    run: Run,
+    /// All jobs, by serial.
+    jobs: Vec<Job>,
+    replayed: Replayed,
+}
+
+impl Player {
+    fn tick(&mut self) -> Result<(), Reason> {
+        let ticked = self.run.tick()?;
+        if let Given::Ran { serial, finished: true } = ticked.given {
+            let job = &self.jobs[serial as usize];
+            let finish = self.run.clock();
+            let numbers = [serial, job.row, job.release, job.due, finish];
+            let spelled = numbers.map(|number| numbers::spell(number).expect("serials and times are in range"));
+            self.replayed.records.push(spelled.concat());
+            if finish > job.due {
+                self.replayed.late += 1;
+            }
+        }
+        Ok(())
+    }
+
+    fn tick_until(&mut self, time: u64) {
+        while self.run.clock() < time {
+            if self.run.pending().is_empty() {
+                self.run.idle_until(time);
+            } else {
+                self.tick().expect("a script's time is at most the last tick");
+            }
+        }
+    }
+}
+
+#[cfg(test)]
+mod tests {
+    use super::*;
+    use crate::table::{self, tests::spell};
+
+    const R1: [u8; 9] = [0, 0, 2, 0, 1, 3, 4, 0, 2];
+
+    fn play(rows: &[[u64; 4]], script: &[u8]) -> Result<Replayed, (u32, usize)> {
+        let table = table::read(&spell(rows)).unwrap();
+        replay(&table, script).map_err(|refusal| (refusal.reason.number(), refusal.place))
+    }
+
+    fn script(records: &[[u64; 3]]) -> Vec<u8> {
+        records.iter().flatten().flat_map(|&number| numbers::spell(number).unwrap()).collect()
+    }
+
+    #[test]
+    fn example_r1() {
+        let records = vec![vec![0, 0, 0, 4, 2], vec![1, 1, 0, 6, 5], vec![2, 0, 4, 8, 7]];
+        assert_eq!(play(&[[1, 4, 4, 2], [1, 6, 6, 3]], &R1), Ok(Replayed { records, late: 0 }));
+    }
+
+    #[test]
+    fn no_jobs_no_log() {
+        assert_eq!(play(&[], &[]), Ok(Replayed::default()));
+    }
+
+    #[test]
+    fn finishing_at_the_due_time_is_not_late() {
+        let v7 = [[2, 1, 1, 1]];
+        assert_eq!(play(&v7, &[0, 0, 1]).unwrap().late, 0);
+        assert_eq!(play(&v7, &[0, 0, 1, 0, 0, 1]).unwrap().late, 1);
+    }
+
+    #[test]
+    fn late_jobs_are_those_that_the_ticks_counted() {
+        let rows = [[4, 1, 4, 3], [4, 1, 2, 2]];
+        let records: Vec<[u64; 3]> = (0..60).map(|index| [index % 3, index % 2, 1 + index % 2]).collect();
+        let replayed = play(&rows, &script(&records)).unwrap();
+
+        let (mut run, _) = Run::start(&spell(&rows));
+        let mut late = 0;
+        for [gap, row, cost] in records {
+            late += (0..gap).map(|_| run.tick().unwrap().late).sum::<u64>();
+            run.release(row, cost).unwrap();
+        }
+        while !run.pending().is_empty() {
+            late += run.tick().unwrap().late;
+        }
+        assert!(late > 0);
+        assert_eq!(replayed.late, late);
+    }
+
+    #[test]
+    fn refusals_of_a_record_in_order() {
+        let v2 = [[1, 2, 6, 1]];
+        assert_eq!(play(&[], &[0, 0, 1]), Err((6, 1)));
+        assert_eq!(play(&v2, &[0, 0]), Err((14, 2)));
+        assert_eq!(play(&v2, &[0, 1]), Err((6, 1)));
+        assert_eq!(play(&v2, &[0, 1, 0x80, 0x00]), Err((6, 1)));
+        assert_eq!(play(&v2, &[0, 0x80, 0x00]), Err((14, 1)));
+        assert_eq!(play(&v2, &[0x80, 0x00, 1]), Err((14, 0)));
+        assert_eq!(play(&v2, &[0, 0, 0]), Err((7, 2)));
+        assert_eq!(play(&v2, &[0, 0, 2]), Err((7, 2)));
+        assert_eq!(play(&v2, &[0, 0, 1, 0, 0, 2]), Err((7, 5)));
+        assert_eq!(play(&v2, &script(&[[0, 1 << 32, 1]])), Err((6, 1)));
+        assert_eq!(play(&v2, &script(&[[0, 0, 1 << 41]])), Err((7, 2)));
+        assert_eq!(play(&v2, &script(&[[LAST_TICK + 1, 0, 1]])), Err((10, 0)));
+        assert_eq!(play(&v2, &script(&[[0, 0, 1], [LAST_TICK + 1, 0, 1]])), Err((10, 3)));
+        let late_then_cut = &script(&[[1, 0, 1], [LAST_TICK, 0, 1]])[..9];
+        assert_eq!(play(&v2, late_then_cut), Err((10, 3)));
+    }
+
+    #[test]
+    fn script_time_at_the_last_tick_still_fails_for_its_due_time() {
+        let v2 = [[1, 2, 6, 1]];
+        assert_eq!(play(&v2, &script(&[[LAST_TICK, 0, 1]])), Err((9, 0)));
+        assert_eq!(play(&v2, &script(&[[LAST_TICK, 1, 1]])), Err((6, 6)));
+        assert_eq!(play(&v2, &script(&[[LAST_TICK, 0, 2]])), Err((7, 7)));
+        assert_eq!(play(&v2, &script(&[[LAST_TICK, 0, 1]])[..7]), Err((14, 7)));
+        let due_at_the_last_tick = script(&[[LAST_TICK - 6, 0, 1]]);
+        assert_eq!(play(&v2, &due_at_the_last_tick).map(|replayed| replayed.late), Ok(0));
+        assert_eq!(play(&v2, &script(&[[LAST_TICK - 6, 0, 1], [0, 0, 1]])), Err((9, 8)));
+    }
+
+    #[test]
+    fn the_64th_pending_job_and_the_65th() {
+        let row = [[64, 1, 9, 9]];
+        let burst = |count| script(&vec![[0, 0, 1]; count]);
+        assert!(play(&row, &burst(64)).is_ok());
+        assert_eq!(play(&row, &burst(65)), Err((8, 3 * 64)));
+        let one_finished = [burst(64), vec![1, 0, 1]].concat();
+        assert!(play(&row, &one_finished).is_ok());
+    }
+
+    #[test]
+    fn no_free_place_beats_a_due_time_too_late() {
+        let rows = [[64, 1, 8, 1], [1, 1, 9, 1]];
+        let mut records = vec![[LAST_TICK - 8, 0, 1]];
+        records.resize(64, [0, 0, 1]);
+        records.push([0, 1, 1]);
+        assert_eq!(play(&rows, &script(&records)), Err((8, 8 + 3 * 63)));
+        records.remove(1);
+        assert_eq!(play(&rows, &script(&records)), Err((9, 8 + 3 * 62)));
+    }
+
+    #[test]
+    fn the_clock_stops_the_final_ticks() {
+        let hopeless = [[1, 1, 2, 3]];
+        let records = script(&[[LAST_TICK - 2, 0, 3]]);
+        assert_eq!(play(&hopeless, &records), Err((10, records.len())));
+        assert_eq!(play(&hopeless, &script(&[[LAST_TICK - 2, 0, 2]])).map(|replayed| replayed.late), Ok(0));
+    }
+}

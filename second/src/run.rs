@@ -1,0 +1,238 @@
+//! A run: jobs are released, and each tick gives one unit to the pending job that is due first.
+
+use crate::due::due;
+use crate::refusal::{Reason, Refusal};
+use crate::table::{self, Table};
+
+pub const LAST_TICK: u64 = 1 << 40;
+pub const PLACES: usize = 64;
+
+#[derive(Clone, Debug, PartialEq, Eq)]
+pub struct Job {
+    pub serial: u64,
+    pub row: u64,
+    pub release: u64,
+    pub due: u64,
+    pub cost: u64,
+    pub left: u64,
+}
+
+#[derive(Clone, Debug)]
+pub struct Run {
+    table: Table,
+    clock: u64,
+    pending: Vec<Job>,
+    next_serial: u64,
+    /// Of each row, the due times of all jobs that it ever had.
+    dues: Vec<Vec<u64>>,
+}
+
+#[derive(Clone, Copy, Debug, PartialEq, Eq)]
+pub enum Given {
+    Idle,
+    Ran { serial: u64, finished: bool },
+}
+
+#[derive(Clone, Copy, Debug, PartialEq, Eq)]
+pub struct Ticked {
+    pub given: Given,
+    /// How many jobs became late at this tick.
+    pub late: u64,
+}
+
+impl Run {
+    pub fn fresh(table: Table) -> Run {
+        let dues = vec![vec![]; table.rows.len()];
+        Run { table, clock: 0, pending: vec![], next_serial: 0, dues }
+    }
+
+    /// A fresh run on the bytes of a table; of the empty table, with the refusal, where they are none.
+    pub fn start(bytes: &[u8]) -> (Run, Option<Refusal>) {
+        match table::read(bytes) {
+            Ok(table) => (Run::fresh(table), None),
+            Err(refusal) => (Run::fresh(Table::empty()), Some(refusal)),
+        }
+    }
+
+    pub fn clock(&self) -> u64 {
+        self.clock
+    }
+
+    pub fn pending(&self) -> &[Job] {
+        &self.pending
+    }
+
+    /// Adds a job, released now.
+    pub fn release(&mut self, row: u64, cost: u64) -> Result<Job, Reason> {
+        let rule = self.table.row(row).ok_or(Reason::NoSuchRow)?;
+        if cost < 1 || cost > rule.c {
+            return Err(Reason::CostOutOfRange);
+        }
+        if self.pending.len() == PLACES {
+            return Err(Reason::NoFreePlace);
+        }
+        let earlier = &mut self.dues[row as usize];
+        let due = due(rule, earlier, self.clock);
+        if due > LAST_TICK {
+            return Err(Reason::DueTooLate);
+        }
+        earlier.push(due);
+        let job = Job { serial: self.next_serial, row, release: self.clock, due, cost, left: cost };
+        self.next_serial += 1;
+        self.pending.push(job.clone());
+        Ok(job)
+    }
+
+    pub fn tick(&mut self) -> Result<Ticked, Reason> {
+        if self.clock == LAST_TICK {
+            return Err(Reason::TimeTooLate);
+        }
+        let next = self.pending.iter_mut().min_by_key(|job| (job.due, job.serial));
+        let given = match next {
+            None => Given::Idle,
+            Some(job) => {
+                job.left -= 1;
+                Given::Ran { serial: job.serial, finished: job.left == 0 }
+            }
+        };
+        self.pending.retain(|job| job.left > 0);
+        self.clock += 1;
+        let late = self.pending.iter().filter(|job| job.due == self.clock).count() as u64;
+        Ok(Ticked { given, late })
+    }
+
+    /// Ticks up to a later time in one go, where every tick would be idle.
+    pub fn idle_until(&mut self, time: u64) {
+        assert!(self.pending.is_empty() && self.clock <= time && time <= LAST_TICK);
+        self.clock = time;
+    }
+}
+
+#[cfg(test)]
+mod tests {
+    use super::*;
+    use crate::table::tests::spell;
+
+    fn run_on(rows: &[[u64; 4]]) -> Run {
+        let (run, refusal) = Run::start(&spell(rows));
+        assert_eq!(refusal, None);
+        run
+    }
+
+    fn released(run: &mut Run, row: u64, cost: u64) -> (u64, u64) {
+        let job = run.release(row, cost).unwrap();
+        (job.serial, job.due)
+    }
+
+    fn idle(late: u64) -> Result<Ticked, Reason> {
+        Ok(Ticked { given: Given::Idle, late })
+    }
+
+    fn ran(serial: u64, finished: bool, late: u64) -> Result<Ticked, Reason> {
+        Ok(Ticked { given: Given::Ran { serial, finished }, late })
+    }
+
+    #[test]
+    fn examples_d1_to_d3_by_release_and_tick() {
+        for (rule, releases, dues) in [
+            ([1, 2, 6, 9], vec![0, 0, 0, 3, 3, 6], vec![6, 8, 10, 12, 14, 16]),
+            ([3, 6, 6, 9], vec![0, 0, 0, 3, 3, 6], vec![6, 6, 6, 12, 12, 12]),
+            ([1, 2, 6, 9], vec![0, 20], vec![6, 26]),
+        ] {
+            let mut run = run_on(&[rule]);
+            for (serial, (release, due)) in releases.into_iter().zip(dues).enumerate() {
+                while run.clock() < release {
+                    run.tick().unwrap();
+                }
+                assert_eq!(released(&mut run, 0, 1), (serial as u64, due));
+            }
+        }
+    }
+
+    #[test]
+    fn a_refused_table_starts_a_fresh_run_of_the_empty_one() {
+        let (mut run, refusal) = Run::start(&[17]);
+        assert_eq!(refusal, Some(Reason::TooManyRows.at(0)));
+        assert_eq!(run.release(0, 1), Err(Reason::NoSuchRow));
+        assert_eq!(run.tick(), idle(0));
+    }
+
+    #[test]
+    fn an_overloaded_table_runs_too() {
+        let mut run = run_on(&[[2, 1, 1, 1]]);
+        assert_eq!(released(&mut run, 0, 1), (0, 1));
+        assert_eq!(released(&mut run, 0, 1), (1, 1));
+        assert_eq!(run.tick(), ran(0, true, 1));
+        assert_eq!(run.tick(), ran(1, true, 0));
+        assert_eq!(run.tick(), idle(0));
+    }
+
+    #[test]
+    fn the_earliest_due_time_goes_first_and_the_lowest_serial_among_equals() {
+        let mut run = run_on(&[[4, 9, 9, 9], [4, 9, 5, 9]]);
+        assert_eq!(released(&mut run, 0, 1), (0, 9));
+        assert_eq!(released(&mut run, 1, 2), (1, 5));
+        assert_eq!(released(&mut run, 1, 1), (2, 5));
+        assert_eq!(run.tick(), ran(1, false, 0));
+        assert_eq!(run.tick(), ran(1, true, 0));
+        assert_eq!(run.tick(), ran(2, true, 0));
+        assert_eq!(run.tick(), ran(0, true, 0));
+    }
+
+    #[test]
+    fn late_is_unfinished_at_the_due_time_and_late_jobs_stay() {
+        let mut run = run_on(&[[4, 9, 2, 9]]);
+        assert_eq!(released(&mut run, 0, 2), (0, 2));
+        assert_eq!(released(&mut run, 0, 2), (1, 2));
+        assert_eq!(run.tick(), ran(0, false, 0));
+        assert_eq!(run.tick(), ran(0, true, 1));
+        assert_eq!(run.tick(), ran(1, false, 0));
+        assert_eq!(run.tick(), ran(1, true, 0));
+    }
+
+    #[test]
+    fn refusals_of_a_release_in_order() {
+        let mut run = run_on(&[[64, 1, 4, 2]]);
+        assert_eq!(run.release(1, 0), Err(Reason::NoSuchRow));
+        assert_eq!(run.release(1 << 32, 1), Err(Reason::NoSuchRow));
+        assert_eq!(run.release(0, 0), Err(Reason::CostOutOfRange));
+        assert_eq!(run.release(0, 3), Err(Reason::CostOutOfRange));
+        run.idle_until(LAST_TICK - 4);
+        for _ in 0..64 {
+            assert_eq!(run.release(0, 1).unwrap().due, LAST_TICK);
+        }
+        assert_eq!(run.release(0, 3), Err(Reason::CostOutOfRange));
+        assert_eq!(run.release(0, 1), Err(Reason::NoFreePlace));
+        assert_eq!(run.tick(), ran(0, true, 0));
+        assert_eq!(run.release(0, 1), Err(Reason::DueTooLate));
+    }
+
+    #[test]
+    fn a_refused_release_leaves_no_trace() {
+        let mut run = run_on(&[[1, 4, 8, 2]]);
+        assert_eq!(released(&mut run, 0, 1), (0, 8));
+        assert!(run.release(0, 0).is_err());
+        assert!(run.release(1, 1).is_err());
+        assert_eq!(released(&mut run, 0, 1), (1, 12));
+    }
+
+    #[test]
+    fn a_finished_job_leaves_its_place_and_its_due_time_counts_on() {
+        let mut run = run_on(&[[64, 9, 9, 1]]);
+        for serial in 0..64 {
+            assert_eq!(released(&mut run, 0, 1), (serial, 9));
+        }
+        assert_eq!(run.release(0, 1), Err(Reason::NoFreePlace));
+        assert_eq!(run.tick(), ran(0, true, 0));
+        assert_eq!(released(&mut run, 0, 1), (64, 18));
+    }
+
+    #[test]
+    fn the_clock_stops_at_its_end() {
+        let mut run = run_on(&[]);
+        run.idle_until(LAST_TICK - 1);
+        assert_eq!(run.tick(), idle(0));
+        assert_eq!(run.tick(), Err(Reason::TimeTooLate));
+        assert_eq!(run.clock(), LAST_TICK);
+    }
+}

@@ -1,0 +1,168 @@
+//! The rig's table: its row count, then x, y, d and c of each row, and nothing after.
+
+use crate::numbers;
+use crate::refusal::{Reason, Refusal};
+
+pub const MOST_ROWS: u64 = 16;
+pub const MOST_X: u64 = 64;
+pub const MOST_Y: u64 = 4_096;
+pub const MOST_D: u64 = 16_384;
+pub const MOST_C: u64 = 4_096;
+pub const LONGEST_PERIOD: u64 = 1_048_576;
+
+/// x executions expected in any y ticks, each due d after its release, at a cost of at most c.
+#[derive(Clone, Copy, Debug, PartialEq, Eq)]
+pub struct Row {
+    pub x: u64,
+    pub y: u64,
+    pub d: u64,
+    pub c: u64,
+}
+
+#[derive(Clone, Debug, PartialEq, Eq)]
+pub struct Table {
+    pub rows: Vec<Row>,
+    /// H, the least common multiple of all y.
+    pub period: u64,
+}
+
+impl Table {
+    pub fn empty() -> Table {
+        Table { rows: vec![], period: 1 }
+    }
+
+    pub fn row(&self, number: u64) -> Option<&Row> {
+        self.rows.get(usize::try_from(number).ok()?)
+    }
+
+    pub fn largest_d(&self) -> u64 {
+        self.rows.iter().map(|row| row.d).max().unwrap_or(0)
+    }
+}
+
+pub fn read(bytes: &[u8]) -> Result<Table, Refusal> {
+    let (count, mut place) = numbers::read(bytes, 0)?;
+    if count > MOST_ROWS {
+        return Err(Reason::TooManyRows.at(0));
+    }
+    let mut value = |most| {
+        let (number, after) = numbers::read(bytes, place)?;
+        if number < 1 || number > most {
+            return Err(Reason::ValueOutOfRange.at(place));
+        }
+        place = after;
+        Ok(number)
+    };
+    let mut rows = vec![];
+    for _ in 0..count {
+        rows.push(Row { x: value(MOST_X)?, y: value(MOST_Y)?, d: value(MOST_D)?, c: value(MOST_C)? });
+    }
+    if place < bytes.len() {
+        return Err(Reason::BytesAfterLastRow.at(place));
+    }
+    let mut period = 1;
+    for row in &rows {
+        period = least_common_multiple(period, row.y);
+        if period > LONGEST_PERIOD {
+            return Err(Reason::PeriodTooLong.at(bytes.len()));
+        }
+    }
+    Ok(Table { rows, period })
+}
+
+fn least_common_multiple(a: u64, b: u64) -> u64 {
+    a / greatest_common_divisor(a, b) * b
+}
+
+fn greatest_common_divisor(a: u64, b: u64) -> u64 {
+    if b == 0 {
+        a
+    } else {
+        greatest_common_divisor(b, a % b)
+    }
+}
+
+#[cfg(test)]
+pub mod tests {
+    use super::*;
+
+    /// The bytes of a table, in range or not.
+    pub fn spell(rows: &[[u64; 4]]) -> Vec<u8> {
+        let numbers = [rows.len() as u64].into_iter().chain(rows.iter().flatten().copied());
+        numbers.flat_map(|number| numbers::spell(number).unwrap()).collect()
+    }
+
+    fn refused(bytes: &[u8]) -> (u32, usize) {
+        let refusal = read(bytes).unwrap_err();
+        (refusal.reason.number(), refusal.place)
+    }
+
+    #[test]
+    fn reads_the_examples() {
+        assert_eq!(read(&[0]), Ok(Table::empty()));
+        let v2 = Table { rows: vec![Row { x: 1, y: 2, d: 6, c: 1 }], period: 2 };
+        assert_eq!(read(&[1, 1, 2, 6, 1]), Ok(v2));
+        assert_eq!(read(&spell(&[[1, 4, 4, 2], [1, 6, 6, 3]])).unwrap().period, 12);
+    }
+
+    #[test]
+    fn a_number_misspelled_or_missing_is_1_at_its_start() {
+        assert_eq!(refused(&[]), (1, 0));
+        assert_eq!(refused(&[0x80, 0x00]), (1, 0));
+        assert_eq!(refused(&[1]), (1, 1));
+        assert_eq!(refused(&[1, 1, 2, 6]), (1, 4));
+        assert_eq!(refused(&[1, 1, 0x82]), (1, 2));
+        assert_eq!(refused(&[1, 1, 0x82, 0x00, 6, 1]), (1, 2));
+    }
+
+    #[test]
+    fn sixteen_rows_yes_seventeen_is_2_before_any_row_is_read() {
+        assert_eq!(read(&spell(&[[1, 1, 1, 1]; 16])).unwrap().rows.len(), 16);
+        assert_eq!(refused(&[17]), (2, 0));
+        assert_eq!(refused(&numbers::spell(1 << 41).unwrap()), (2, 0));
+    }
+
+    #[test]
+    fn each_value_at_and_past_its_limits() {
+        assert!(read(&spell(&[[64, 4_096, 16_384, 4_096]])).is_ok());
+        for (row, place) in [
+            ([0, 1, 1, 1], 1),
+            ([65, 1, 1, 1], 1),
+            ([1, 0, 1, 1], 2),
+            ([1, 4_097, 1, 1], 2),
+            ([1, 1, 0, 1], 3),
+            ([1, 1, 16_385, 1], 3),
+            ([1, 1, 1, 0], 4),
+            ([1, 1, 1, 4_097], 4),
+            ([1 << 41, 1, 1, 1], 1),
+        ] {
+            assert_eq!(refused(&spell(&[row])), (3, place), "{row:?}");
+        }
+    }
+
+    #[test]
+    fn a_bad_value_beats_what_comes_after_it() {
+        assert_eq!(refused(&[1, 0, 0x80, 0x00]), (3, 1));
+        assert_eq!(refused(&[1, 0x80, 0x00, 0]), (1, 1));
+    }
+
+    #[test]
+    fn bytes_after_the_last_row_are_4_and_not_read() {
+        assert_eq!(refused(&[0, 0x80]), (4, 1));
+        assert_eq!(refused(&[1, 1, 2, 6, 1, 9, 9]), (4, 5));
+        let mut too_long_as_well = spell(&[[1, 1_141, 1, 1], [1, 919, 1, 1]]);
+        let length = too_long_as_well.len();
+        too_long_as_well.push(0);
+        assert_eq!(refused(&too_long_as_well), (4, length));
+    }
+
+    #[test]
+    fn the_longest_period() {
+        assert_eq!(read(&spell(&[[1, 1_023, 1, 1], [1, 1_025, 1, 1]])).unwrap().period, 1_048_575);
+        let above = spell(&[[1, 1_141, 1, 1], [1, 919, 1, 1]]);
+        assert_eq!(refused(&above), (5, above.len()));
+        let primes = [4_093, 4_091, 4_079, 4_073, 4_057, 4_051, 4_049, 4_027, 4_021, 4_019, 4_013, 4_007, 4_003, 4_001];
+        let far_above = spell(&primes.map(|y| [1, y, 1, 1]));
+        assert_eq!(refused(&far_above), (5, far_above.len()));
+    }
+}

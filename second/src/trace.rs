@@ -1,0 +1,81 @@
+//! A list of calls played on one run, with every answer as numbers.
+
+use crate::run::{Given, Run};
+
+#[derive(Clone, Copy, Debug, PartialEq, Eq)]
+pub enum Call {
+    Release { row: u64, cost: u64 },
+    Tick,
+}
+
+/// What an answer's first number says of the other three.
+pub mod kind {
+    /// A run was started: 0, 0, 0.
+    pub const STARTED: u64 = 1;
+    /// A job was released: serial, due, 0.
+    pub const RELEASED: u64 = 2;
+    /// A tick found nothing pending: 0, 0, jobs that became late.
+    pub const IDLE: u64 = 3;
+    /// A tick gave a unit and the job goes on: serial, 0, jobs that became late.
+    pub const RAN: u64 = 4;
+    /// A tick gave a unit and the job finished: serial, 0, jobs that became late.
+    pub const FINISHED: u64 = 5;
+    /// The call was refused: number, place, 0. Place is 0 but where a table is refused.
+    pub const REFUSED: u64 = 6;
+}
+
+pub type Answer = [u64; 4];
+
+/// One answer for the start of the run, then one for each call.
+pub fn trace(table: &[u8], calls: &[Call]) -> Vec<Answer> {
+    let (mut run, refusal) = Run::start(table);
+    let started = match refusal {
+        None => [kind::STARTED, 0, 0, 0],
+        Some(refusal) => [kind::REFUSED, refusal.reason.number().into(), refusal.place as u64, 0],
+    };
+    let played = calls.iter().map(|&call| play(&mut run, call));
+    [started].into_iter().chain(played).collect()
+}
+
+fn play(run: &mut Run, call: Call) -> Answer {
+    let answer = match call {
+        Call::Release { row, cost } => run.release(row, cost).map(|job| [kind::RELEASED, job.serial, job.due, 0]),
+        Call::Tick => run.tick().map(|ticked| match ticked.given {
+            Given::Idle => [kind::IDLE, 0, 0, ticked.late],
+            Given::Ran { serial, finished: false } => [kind::RAN, serial, 0, ticked.late],
+            Given::Ran { serial, finished: true } => [kind::FINISHED, serial, 0, ticked.late],
+        }),
+    };
+    answer.unwrap_or_else(|reason| [kind::REFUSED, reason.number().into(), 0, 0])
+}
+
+#[cfg(test)]
+mod tests {
+    use super::*;
+
+    #[test]
+    fn every_kind_of_answer() {
+        let release = |row, cost| Call::Release { row, cost };
+        let calls = [Call::Tick, release(0, 2), release(1, 1), release(0, 3), Call::Tick, Call::Tick];
+        let v7_with_cost_2 = [1, 2, 1, 1, 2];
+        assert_eq!(
+            trace(&v7_with_cost_2, &calls),
+            [
+                [kind::STARTED, 0, 0, 0],
+                [kind::IDLE, 0, 0, 0],
+                [kind::RELEASED, 0, 2, 0],
+                [kind::REFUSED, 6, 0, 0],
+                [kind::REFUSED, 7, 0, 0],
+                [kind::RAN, 0, 0, 1],
+                [kind::FINISHED, 0, 0, 0],
+            ]
+        );
+    }
+
+    #[test]
+    fn a_refused_table_is_answered_and_played_as_the_empty_one() {
+        let calls = [Call::Release { row: 0, cost: 1 }, Call::Tick];
+        let answers = [[kind::REFUSED, 4, 1, 0], [kind::REFUSED, 6, 0, 0], [kind::IDLE, 0, 0, 0]];
+        assert_eq!(trace(&[0, 0], &calls), answers);
+    }
+}

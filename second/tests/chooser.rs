@@ -1,0 +1,131 @@
+//! Compares the chooser over two scripts.
+
+mod support;
+
+use second::chooser::choose;
+use second::run::LAST_TICK;
+use std::collections::BTreeSet;
+use support::case::hex;
+use support::fenced::Fenced;
+use support::random::Random;
+use support::{damage, scripts, settings};
+
+/// At least: with fewer some answers might not be met.
+const CHOICES: u64 = 100_000;
+
+/// All that this file knows of the library's side. It returns 1 with a record, whose bytes it puts at the start of
+/// the buffer for the part, or the refusal. The answer's two numbers, eight bytes each, lowest byte first, are the
+/// part's length and 0; of a refusal, place and which script, 1 or 2.
+mod library {
+    extern "C" {
+        pub fn choose(
+            first: *const u8,
+            first_len: usize,
+            second: *const u8,
+            second_len: usize,
+            first_time: u64,
+            second_time: u64,
+            part: *mut u8,
+            part_len: usize,
+            answer: *mut u8,
+            answer_len: usize,
+        ) -> u32;
+    }
+}
+
+const A_RECORD: u32 = 1;
+
+/// Number returned, the answer's two numbers, and the buffer for the part.
+type Outcome = (u32, [u64; 2], Vec<u8>);
+
+fn by_library(lent: &[Vec<u8>; 2], times: [u64; 2], buffer: &[u8], random: &mut Random) -> Outcome {
+    let mut fenced = |content: &[u8]| Fenced::around(content, random);
+    let [mut first, mut second, mut part, mut answer] =
+        [fenced(&lent[0]), fenced(&lent[1]), fenced(buffer), fenced(&[0xee; 16])];
+    let before = [first.clone(), second.clone(), part.clone(), answer.clone()];
+    // SAFETY: each pointer and length is of a buffer of its own, or null and 0.
+    let number = unsafe {
+        library::choose(
+            first.pointer(),
+            first.len(),
+            second.pointer(),
+            second.len(),
+            times[0],
+            times[1],
+            part.pointer(),
+            part.len(),
+            answer.pointer(),
+            answer.len(),
+        )
+    };
+    assert!(first.same_whole_as(&before[0]) && second.same_whole_as(&before[1]));
+    assert!(part.same_fence_as(&before[2]) && answer.same_fence_as(&before[3]));
+    let answer = answer.content();
+    let said = [0, 8].map(|start| u64::from_le_bytes(answer[start..start + 8].try_into().unwrap()));
+    (number, said, part.content())
+}
+
+fn by_second_program(lent: &[Vec<u8>; 2], times: [u64; 2], buffer: &[u8]) -> Outcome {
+    let mut buffer = buffer.to_vec();
+    match choose(&lent[0], &lent[1], times[0], times[1]) {
+        Ok(part) => {
+            buffer[..part.len()].copy_from_slice(part);
+            (A_RECORD, [part.len() as u64, 0], buffer)
+        }
+        Err((which, refusal)) => (refusal.reason.number(), [refusal.place as u64, which as u64], buffer),
+    }
+}
+
+fn random_script(random: &mut Random) -> Vec<u8> {
+    let count = random.below(3);
+    let records: Vec<_> = (0..count)
+        .map(|_| {
+            let gap = if random.one_in(5) { random.below(2 * LAST_TICK) } else { random.below(6) };
+            [gap, random.below(20), random.below(300)]
+        })
+        .collect();
+    match random.below(6) {
+        0 => damage::mutate(&scripts::spell(&records), random),
+        1 => damage::misspell_one(&scripts::numbers_of(&records), random),
+        _ => scripts::spell(&records),
+    }
+}
+
+fn random_times(random: &mut Random) -> [u64; 2] {
+    let time = match random.below(8) {
+        0 => LAST_TICK - 2,
+        1 => random.below(LAST_TICK),
+        2 => u64::MAX - 8,
+        _ => random.below(9),
+    };
+    [time + random.below(6), time + random.below(6)]
+}
+
+#[test]
+fn chooser() {
+    let seed = settings::number("JYRMEKKO_SEED", 1);
+    let mut met = BTreeSet::new();
+    for index in 0..settings::number("JYRMEKKO_COMPARISONS", 0).max(CHOICES) {
+        let mut random = Random::of(seed, index);
+        let lent = [random_script(&mut random), random_script(&mut random)];
+        let times = random_times(&mut random);
+        let buffer = random.bytes(20);
+        let expected = by_second_program(&lent, times, &buffer);
+        let found = by_library(&lent, times, &buffer, &mut random);
+        assert_eq!(
+            found,
+            expected,
+            "comparison {index}, seed {seed}, times {times:?}\nfirst {}\nsecond {}",
+            hex(&lent[0]),
+            hex(&lent[1])
+        );
+        let ended = (lent[0].is_empty(), lent[1].is_empty());
+        met.insert(match expected {
+            (A_RECORD, _, _) => (A_RECORD, u64::from(ended.0) + 2 * u64::from(ended.1)),
+            (number, [_, which], _) => (number, which),
+        });
+    }
+    let refusals = [(10, 1), (10, 2), (14, 1), (14, 2)];
+    let records = [0, 1, 2, 3].map(|ended| (A_RECORD, ended));
+    assert_eq!(met, [records, refusals].into_iter().flatten().collect());
+}

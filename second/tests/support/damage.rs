@@ -1,0 +1,60 @@
+//! Damage to bytes that were right: a number misspelled, a bit flipped, a part lost, put in or doubled.
+
+use super::random::Random;
+use second::numbers;
+
+/// The spelling of a list of numbers, of which one is wrong.
+pub fn misspell_one(list: &[u64], random: &mut Random) -> Vec<u8> {
+    let bad = random.index(list.len().max(1));
+    let mut bytes = vec![];
+    for (index, &number) in list.iter().enumerate() {
+        let good = numbers::spell(number).unwrap();
+        bytes.extend(if index == bad { misspelled(&good, random) } else { good });
+    }
+    if random.one_in(3) {
+        bytes.truncate(random.index(bytes.len() + 1));
+    }
+    bytes
+}
+
+fn misspelled(good: &[u8], random: &mut Random) -> Vec<u8> {
+    let lengthened_to = |groups: usize| {
+        let mut bytes = good.to_vec();
+        *bytes.last_mut().unwrap() |= 0x80;
+        bytes.resize(groups.max(good.len() + 1), 0x80);
+        *bytes.last_mut().unwrap() = 0;
+        bytes
+    };
+    match random.below(8) {
+        0 => vec![0x80, 0x00],
+        1 => lengthened_to(0),
+        2 => lengthened_to(random.within(3, 7) as usize),
+        3 => [random.bytes(6).iter().map(|byte| byte | 0x80).collect(), vec![0x01]].concat(),
+        4 => random.bytes(6).iter().map(|byte| byte | 0x80).collect(),
+        5 => [random.bytes(5).iter().map(|byte| byte | 0x80).collect(), vec![random.within(0, 0x7f) as u8]].concat(),
+        6 => good[..good.len() - 1].to_vec(),
+        _ => good.iter().map(|byte| byte | 0x80).collect(),
+    }
+}
+
+/// One to three changes to the bytes, wherever they fall.
+pub fn mutate(good: &[u8], random: &mut Random) -> Vec<u8> {
+    let mut bytes = good.to_vec();
+    for _ in 0..random.within(1, 3) {
+        let place = random.index(bytes.len() + 1);
+        let end = (place + random.index(5)).min(bytes.len());
+        let telling = random.pick(&[0x00, 0x01, 0x10, 0x11, 0x40, 0x41, 0x7f, 0x80, 0x81, 0xff]);
+        match random.below(6) {
+            0 if place < bytes.len() => bytes[place] ^= 1 << random.below(8),
+            1 if place < bytes.len() => bytes[place] = telling,
+            2 => bytes.truncate(place),
+            3 => bytes.insert(place, telling),
+            4 => drop(bytes.drain(place..end)),
+            _ => {
+                let doubled = bytes[place..end].to_vec();
+                drop(bytes.splice(place..place, doubled));
+            }
+        }
+    }
+    bytes
+}

@@ -1,0 +1,199 @@
+//! The named cases: every example, and each limit from both sides. They reach every status without any luck.
+
+use super::case::Case;
+use super::scripts::{self, Record};
+use super::tables::{self, Row};
+use second::run::LAST_TICK;
+use second::table::{self, MOST_C, MOST_D, MOST_X, MOST_Y};
+use second::{numbers, replay};
+
+const V3: [Row; 2] = [[1, 4, 4, 2], [1, 6, 6, 3]];
+const R1: [Record; 3] = [[0, 0, 2], [0, 1, 3], [4, 0, 2]];
+
+pub fn all() -> Vec<Case> {
+    let mut cases = vec![];
+    for table in edge_tables() {
+        cases.push(Case::verdict(table.clone(), vec![0x5a; 16]));
+        cases.extend(replays(&table, &scripts::spell(&R1)));
+    }
+    for (rows, script) in edge_scripts() {
+        cases.extend(replays(&tables::spell(&rows), &script));
+    }
+    for size in [0, 1, 8, 15, 17, 32] {
+        for table in [tables::spell(&V3), vec![17], vec![]] {
+            cases.push(Case::verdict(table.clone(), vec![0x5a; size]));
+            cases.push(Case::replay(table, scripts::spell(&R1), vec![0xa5; 20], vec![0x5a; size]));
+        }
+    }
+    cases
+}
+
+/// One replay with each size of log that matters.
+fn replays(table: &[u8], script: &[u8]) -> Vec<Case> {
+    let length =
+        table::read(table).and_then(|table| replay::replay(&table, script)).map_or(10, |done| done.log().len());
+    let mut sizes = vec![0, length.saturating_sub(9), length.saturating_sub(1), length, length + 1, 10 * script.len()];
+    sizes.sort();
+    sizes.dedup();
+    let case = |size| Case::replay(table.to_vec(), script.to_vec(), vec![0xa5; size], vec![0x5a; 16]);
+    sizes.into_iter().map(case).collect()
+}
+
+fn edge_tables() -> Vec<Vec<u8>> {
+    let v3 = tables::spell(&V3);
+    let mut tables: Vec<Vec<u8>> = edge_rows().iter().map(|rows| tables::spell(rows)).collect();
+    tables.extend((0..v3.len()).map(|cut| v3[..cut].to_vec()));
+    tables.extend((0..v3.len()).flat_map(|place| misspellings().map(|bad| replaced(&v3, place, &bad))));
+    tables.extend([17, 127, 128, 1 << 32, 1 << 41, numbers::LARGEST].map(|count| numbers::spell(count).unwrap()));
+    for extra in [&[0x00][..], &[0x80], &[0x80, 0x00], &[1, 1, 1, 1]] {
+        tables.push([&v3, extra].concat());
+        tables.push([&tables::spell(&[[1, 1_141, 1, 1], [1, 919, 1, 1]]), extra].concat());
+    }
+    tables
+}
+
+fn edge_rows() -> Vec<Vec<Row>> {
+    let mut lists = vec![
+        vec![],
+        vec![[1, 2, 6, 1]],
+        V3.to_vec(),
+        vec![[1, 4, 3, 2], [1, 6, 5, 3]],
+        vec![[3, 6, 6, 2]],
+        vec![[3, 6, 5, 2]],
+        vec![[2, 1, 1, 1]],
+        vec![[1, 2, 10, 3]],
+        vec![[1, 64, 1, 1]; 15],
+        vec![[1, 64, 1, 1]; 16],
+        vec![[1, 64, 64, 4]; 16],
+        vec![[1, 64, 64, 4]; 17],
+        vec![[64, 1, 16_384, 4_096]; 16],
+        // The longest period that is allowed and the shortest that isn't.
+        vec![[1, 1_023, 1_023, 500], [1, 1_025, 1_025, 500]],
+        vec![[1, 1_023, 1_023, 512], [1, 1_025, 1_025, 512]],
+        vec![[1, 1_141, 1, 1], [1, 919, 1, 1]],
+        vec![[1, 919, 1, 1], [1, 1_141, 1, 1]],
+        vec![[1, 4_093, 1, 1]; 16],
+        [4_093, 4_091, 4_079, 4_073, 4_057, 4_051, 4_049, 4_027].map(|y| [1, y, 1, 1]).to_vec(),
+        // Witnesses far past H and the largest d.
+        vec![[1, 2, 1_000, 3]],
+        vec![[1, 100, 16_384, 101]],
+        vec![[1, 30, 1_000, 30], [1, 64, 1_000, 1]],
+        vec![[1, 255, 4_000, 255], [1, 256, 4_000, 1]],
+        // Just in use: exactly 1, where one unit less of d is too little.
+        vec![[1, 2, 2, 1], [1, 4, 4, 2]],
+        vec![[1, 2, 2, 1], [1, 4, 3, 2]],
+        vec![[1, 2, 1, 1], [1, 4, 4, 2]],
+    ];
+    let limits = [MOST_X, MOST_Y, MOST_D, MOST_C];
+    for (index, most) in limits.into_iter().enumerate() {
+        for value in [0, 1, most - 1, most, most + 1, most + (1 << 8), most + (1 << 16), most + (1 << 32), 1 << 41] {
+            let mut row = [1, 8, 8, 1];
+            row[index] = value;
+            lists.push(vec![row]);
+            lists.push(vec![[1, 4, 4, 1], row]);
+        }
+    }
+    lists
+}
+
+fn misspellings() -> [Vec<u8>; 8] {
+    [
+        vec![0x80, 0x00],
+        vec![0x81, 0x80, 0x00],
+        vec![0x81, 0x80, 0x80, 0x80, 0x80, 0x00],
+        vec![0x81, 0x80, 0x80, 0x80, 0x80, 0x80, 0x00],
+        vec![0x81, 0x80, 0x80, 0x80, 0x80, 0x80, 0x01],
+        vec![0xff, 0xff, 0xff, 0xff, 0xff, 0xff],
+        // Rightly spelled, but far out of range.
+        vec![0xff, 0xff, 0xff, 0xff, 0xff, 0x7f],
+        vec![0x80, 0x80, 0x80, 0x80, 0x80, 0x01],
+    ]
+}
+
+fn replaced(bytes: &[u8], place: usize, by: &[u8]) -> Vec<u8> {
+    [&bytes[..place], by, &bytes[place + 1..]].concat()
+}
+
+fn edge_scripts() -> Vec<(Vec<Row>, Vec<u8>)> {
+    let mut list: Vec<(Vec<Row>, Vec<u8>)> =
+        edge_records().into_iter().map(|(rows, records)| (rows, scripts::spell(&records))).collect();
+    let r1 = scripts::spell(&R1);
+    for place in 0..r1.len() {
+        list.push((V3.to_vec(), r1[..place].to_vec()));
+        list.extend(misspellings().map(|bad| (V3.to_vec(), replaced(&r1, place, &bad))));
+    }
+    let past_the_last_tick = scripts::spell(&[[0, 0, 1], [LAST_TICK + 1, 0, 1]]);
+    list.extend((3..past_the_last_tick.len()).map(|cut| (V3.to_vec(), past_the_last_tick[..cut].to_vec())));
+    let at_the_last_tick = scripts::spell(&[[0, 0, 1], [LAST_TICK, 0, 1]]);
+    list.extend((3..at_the_last_tick.len()).map(|cut| (V3.to_vec(), at_the_last_tick[..cut].to_vec())));
+    list
+}
+
+fn edge_records() -> Vec<(Vec<Row>, Vec<Record>)> {
+    let d1 = vec![[1, 2, 6, 9]];
+    let d2 = vec![[3, 6, 6, 9]];
+    let v2 = vec![[1, 2, 6, 1]];
+    let wide = vec![[64, 1, 8, 9]];
+    let hopeless = vec![[1, 1, 2, 3]];
+    let as_in_the_paper = vec![[0, 0, 1], [0, 0, 1], [0, 0, 1], [3, 0, 1], [0, 0, 1], [3, 0, 1]];
+    let burst = |count, gap| {
+        let mut records = vec![[0, 0, 1]; count];
+        records[0][0] = gap;
+        records
+    };
+    let then = |mut records: Vec<Record>, record| {
+        records.push(record);
+        records
+    };
+    vec![
+        (vec![], vec![]),
+        (vec![], vec![[0, 0, 1]]),
+        (V3.to_vec(), vec![]),
+        (d1.clone(), as_in_the_paper.clone()),
+        (d2, as_in_the_paper),
+        (d1, vec![[0, 0, 1], [20, 0, 1]]),
+        // Rows and costs past their limits, and far enough to look right in fewer bits.
+        (v2.clone(), vec![[0, 1, 1]]),
+        (v2.clone(), vec![[0, 1 << 8, 1]]),
+        (v2.clone(), vec![[0, 1 << 32, 1]]),
+        (v2.clone(), vec![[0, 0, 0]]),
+        (v2.clone(), vec![[0, 0, 2]]),
+        (v2.clone(), vec![[0, 0, 257]]),
+        (v2.clone(), vec![[0, 0, (1 << 32) + 1]]),
+        // The last place, the one after it, and the one that a finished job makes free.
+        (wide.clone(), burst(64, 0)),
+        (wide.clone(), burst(65, 0)),
+        (wide.clone(), then(burst(64, 0), [1, 0, 1])),
+        (wide.clone(), then(then(burst(64, 0), [1, 0, 1]), [0, 0, 1])),
+        (wide.clone(), then(burst(64, LAST_TICK - 8), [0, 0, 1])),
+        (wide.clone(), then(burst(64, LAST_TICK - 7), [0, 0, 1])),
+        (vec![[64, 1, 8, 9], [1, 1, 9, 9]], then(burst(64, LAST_TICK - 8), [0, 1, 1])),
+        (vec![[64, 1, 8, 9], [1, 1, 9, 9]], then(burst(63, LAST_TICK - 8), [0, 1, 1])),
+        // Time and due time at the last tick and past it.
+        (v2.clone(), vec![[LAST_TICK, 0, 1]]),
+        (v2.clone(), vec![[LAST_TICK, 1, 1]]),
+        (v2.clone(), vec![[LAST_TICK, 0, 2]]),
+        (v2.clone(), vec![[LAST_TICK + 1, 0, 1]]),
+        (v2.clone(), vec![[numbers::LARGEST, 0, 1]]),
+        (v2.clone(), vec![[0, 0, 1], [LAST_TICK, 0, 1]]),
+        (v2.clone(), vec![[1, 0, 1], [LAST_TICK, 0, 1]]),
+        (v2.clone(), vec![[LAST_TICK - 6, 0, 1]]),
+        (v2.clone(), vec![[LAST_TICK - 5, 0, 1]]),
+        (v2.clone(), vec![[LAST_TICK - 8, 0, 1], [0, 0, 1]]),
+        (v2.clone(), vec![[LAST_TICK - 7, 0, 1], [0, 0, 1]]),
+        (v2, vec![[LAST_TICK - 8, 0, 1], [0, 0, 1], [0, 0, 1]]),
+        // The clock stops the final ticks, or just doesn't.
+        (hopeless.clone(), vec![[LAST_TICK - 2, 0, 2]]),
+        (hopeless.clone(), vec![[LAST_TICK - 2, 0, 3]]),
+        (hopeless, vec![[0, 0, 3], [LAST_TICK - 2, 0, 3]]),
+        // On time to the tick, and one tick late.
+        (vec![[2, 1, 1, 1]], vec![[0, 0, 1]]),
+        (vec![[2, 1, 1, 1]], vec![[0, 0, 1], [0, 0, 1]]),
+        // The last record is shorter than those before it: nine bytes less of log and it still fits, but they don't.
+        (vec![[1, 1, 16_000, 1], [64, 1, 1, 1]], [&[[0, 0, 1], [0, 1, 1]][..], &[[1, 1, 1]; 139]].concat()),
+        // Serials and times of three groups, and due times far past their releases.
+        (vec![[64, 80, 8, 1]], vec![[1, 0, 1]; 20_000]),
+        // Equal due times go by serial.
+        (vec![[9, 9, 9, 9], [9, 9, 5, 9]], vec![[0, 0, 2], [4, 1, 3], [0, 0, 1], [0, 1, 2]]),
+    ]
+}

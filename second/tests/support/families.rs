@@ -1,0 +1,124 @@
+//! The families of random calls, each named after what it tries.
+
+use super::case::Case;
+use super::random::Random;
+use super::{damage, scripts, tables};
+use second::{replay, table};
+
+pub type Family = (&'static str, fn(&mut Random) -> Case);
+
+pub const ALL: [Family; 11] = [
+    ("verdicts", |random| {
+        let rows = tables::any(random);
+        judge(tables::spell(&rows), random)
+    }),
+    ("verdicts with late witnesses", |random| {
+        let rows = tables::late_witness(random);
+        judge(tables::spell(&rows), random)
+    }),
+    ("verdicts of damaged tables", |random| {
+        let rows = tables::any(random);
+        let table = damaged(&tables::numbers_of(&rows), random);
+        judge(table, random)
+    }),
+    ("replays", |random| {
+        let rows = tables::to_replay(random);
+        let records = scripts::any(&rows, random);
+        play(tables::spell(&rows), scripts::spell(&records), random)
+    }),
+    ("replays to the last place", |random| {
+        let rows = tables::to_replay(random);
+        let records = scripts::burst(&rows, random);
+        play(tables::spell(&rows), scripts::spell(&records), random)
+    }),
+    ("replays near the last tick", |random| {
+        let rows = tables::to_replay(random);
+        let records = scripts::near_the_end(&rows, random);
+        play(tables::spell(&rows), scripts::spell(&records), random)
+    }),
+    ("replays that end on a short record", |random| {
+        let (rows, records) = scripts::waiting_job(random);
+        play(tables::spell(&rows), scripts::spell(&records), random)
+    }),
+    ("replays refused after an overflow", |random| {
+        let rows = tables::to_replay(random);
+        let mut records = scripts::any(&rows, random);
+        let last = records.len().saturating_sub(1);
+        scripts::spoil_a_value(&rows, &mut records[last..], random);
+        let mut case = play(tables::spell(&rows), scripts::spell(&records), random);
+        case.log.truncate(random.index(12));
+        case
+    }),
+    ("replays of damaged scripts", |random| {
+        let rows = tables::to_replay(random);
+        let records = scripts::any(&rows, random);
+        let script = damaged(&scripts::numbers_of(&records), random);
+        play(tables::spell(&rows), script, random)
+    }),
+    ("replays on damaged tables", |random| {
+        let rows = tables::any(random);
+        let table = damaged(&tables::numbers_of(&rows), random);
+        let records = scripts::any(&rows, random);
+        play(table, scripts::spell(&records), random)
+    }),
+    ("noise", |random| {
+        let table = noise(random);
+        let script = noise(random);
+        if random.one_in(2) {
+            judge(table, random)
+        } else {
+            play(table, script, random)
+        }
+    }),
+];
+
+/// A verdict, where a program that looks at every length can be waited for; otherwise a replay on the same table.
+fn judge(table: Vec<u8>, random: &mut Random) -> Case {
+    let patience = if random.one_in(200) { 1_100_000 } else { 20_000 };
+    if tables::lengths_to_look_at(&table) <= patience {
+        Case::verdict(table, answer(random))
+    } else {
+        play(table, vec![0, 0, 1], random)
+    }
+}
+
+fn play(table: Vec<u8>, script: Vec<u8>, random: &mut Random) -> Case {
+    let log = log(&table, &script, random);
+    Case::replay(table, script, log, answer(random))
+}
+
+/// A log that is just right, too short by a little or by a lot, or longer than it need be.
+fn log(table: &[u8], script: &[u8], random: &mut Random) -> Vec<u8> {
+    let outcome = table::read(table).and_then(|table| replay::replay(&table, script));
+    let length = outcome.map_or_else(|_| random.index(60), |replayed| replayed.log().len());
+    let size = match random.below(9) {
+        0 | 1 => length,
+        2 => length.saturating_sub(1),
+        3 => length.saturating_sub(random.index(40)),
+        4 => random.index(length + 1),
+        5 => 0,
+        6 => length + 1,
+        7 => length + random.index(40),
+        _ => 10 * script.len(),
+    };
+    random.bytes(size)
+}
+
+fn answer(random: &mut Random) -> Vec<u8> {
+    let size = if random.one_in(50) { random.pick(&[0, 1, 8, 15, 17, 32]) } else { 16 };
+    random.bytes(size)
+}
+
+fn damaged(numbers: &[u64], random: &mut Random) -> Vec<u8> {
+    if random.one_in(2) {
+        damage::misspell_one(numbers, random)
+    } else {
+        damage::mutate(&tables::spell_numbers(numbers), random)
+    }
+}
+
+fn noise(random: &mut Random) -> Vec<u8> {
+    let most = random.pick(&[3, 20, 256]);
+    let length = random.index(40);
+    (0..length).map(|_| random.below(most) as u8).collect()
+}

@@ -1,0 +1,136 @@
+//! Scripts for a table: quiet, crowded, and at the end of time.
+
+use super::random::Random;
+use super::tables::{spell_numbers, Row};
+use second::run::LAST_TICK;
+use second::table::MOST_C;
+
+/// Gap, row, cost.
+pub type Record = [u64; 3];
+
+pub fn spell(records: &[Record]) -> Vec<u8> {
+    spell_numbers(&numbers_of(records))
+}
+
+pub fn numbers_of(records: &[Record]) -> Vec<u64> {
+    records.iter().flatten().copied().collect()
+}
+
+pub fn any(rows: &[Row], random: &mut Random) -> Vec<Record> {
+    let kinds = [quiet, quiet, crowded, burst, near_the_end, far_apart];
+    let mut records = random.pick(&kinds)(rows, random);
+    if random.one_in(4) {
+        spoil_a_value(rows, &mut records, random);
+    }
+    records
+}
+
+fn job(rows: &[Row], gap: u64, most_cost: u64, random: &mut Random) -> Record {
+    if rows.is_empty() {
+        return [gap, 0, 1];
+    }
+    let row = random.index(rows.len());
+    let c = rows[row][3].clamp(1, MOST_C);
+    [gap, row as u64, random.within(1, c.min(most_cost))]
+}
+
+fn jobs(rows: &[Row], count: u64, most_gap: u64, most_cost: u64, random: &mut Random) -> Vec<Record> {
+    (0..count)
+        .map(|_| {
+            let gap = random.within(0, most_gap);
+            job(rows, gap, most_cost, random)
+        })
+        .collect()
+}
+
+fn quiet(rows: &[Row], random: &mut Random) -> Vec<Record> {
+    let count = random.below(12);
+    let most_cost = random.pick(&[3, 30, MOST_C]);
+    jobs(rows, count, 10, most_cost, random)
+}
+
+fn crowded(rows: &[Row], random: &mut Random) -> Vec<Record> {
+    let count = if random.one_in(30) { random.within(300, 2_000) } else { random.within(20, 140) };
+    let most_gap = random.within(1, 6);
+    jobs(rows, count, most_gap, 5, random)
+}
+
+/// Up to the last free place and just past it, once or with a few finished in between.
+pub fn burst(rows: &[Row], random: &mut Random) -> Vec<Record> {
+    let count = random.within(62, 66);
+    let mut records = jobs(rows, count, 0, random.pick(&[1, 2, 9]), random);
+    for _ in 0..random.below(3) {
+        let pause = random.within(1, 4);
+        let again = random.within(1, 4);
+        records.push(job(rows, pause, 2, random));
+        records.extend(jobs(rows, again, 0, 2, random));
+    }
+    records
+}
+
+/// Due times, script times or final ticks that reach the last tick or just miss it.
+pub fn near_the_end(rows: &[Row], random: &mut Random) -> Vec<Record> {
+    let d = if rows.is_empty() { 1 } else { random.pick(rows)[2] };
+    let from_the_end = match random.below(4) {
+        0 => random.below(4),
+        1 => d.saturating_add(random.below(4)).saturating_sub(1),
+        2 => d.saturating_mul(random.within(1, 3)),
+        _ => random.below(200),
+    };
+    let count = random.pick(&[1, 2, 3, 6, 64, 65]);
+    let most_gap = random.pick(&[0, 0, 1, 3]);
+    let most_cost = random.pick(&[1, 3, 40]);
+    let mut records = jobs(rows, count, most_gap, most_cost, random);
+    records[0][0] = LAST_TICK.saturating_sub(from_the_end);
+    if random.one_in(3) {
+        let before = random.within(1, 3);
+        let mut early = jobs(rows, before, 2, 3, random);
+        let passed: u64 = early.iter().map(|record| record[0]).sum();
+        records[0][0] = records[0][0].saturating_sub(passed);
+        early.extend(records);
+        records = early;
+    }
+    if random.one_in(3) {
+        let passed: u64 = records.iter().map(|record| record[0]).sum();
+        let to_the_end = LAST_TICK.saturating_sub(passed);
+        records.push(job(rows, to_the_end + random.below(2), 3, random));
+    }
+    records
+}
+
+/// Long idle times, which have to be crossed in one go.
+fn far_apart(rows: &[Row], random: &mut Random) -> Vec<Record> {
+    let count = random.within(1, 20);
+    (0..count)
+        .map(|_| {
+            let bits = random.within(1, 41);
+            let gap = random.below(1 << bits);
+            job(rows, gap, 20, random)
+        })
+        .collect()
+}
+
+/// No such row, a cost that is not allowed, or a time past the last tick.
+pub fn spoil_a_value(rows: &[Row], records: &mut [Record], random: &mut Random) {
+    if records.is_empty() {
+        return;
+    }
+    let record = random.index(records.len());
+    let count = rows.len() as u64;
+    let c = rows.get(records[record][1] as usize).map_or(1, |row| row[3].min(MOST_C));
+    let [gap, row, cost] = &mut records[record];
+    match random.below(3) {
+        0 => *gap = random.pick(&[LAST_TICK, LAST_TICK + 1, 2 * LAST_TICK, 4 * LAST_TICK - 1]),
+        1 => *row = random.pick(&[count, count + 1, 16, 17, 1 << 8, 1 << 16, 1 << 32, 1 << 41]),
+        _ => *cost = random.pick(&[0, c + 1, c + (1 << 8), c + (1 << 16), c + (1 << 32), 1 << 41]),
+    }
+}
+
+/// A job of a row that is never in a hurry waits for many short ones. Its record comes last and is the shortest for a
+/// long time: it would still fit where theirs no longer did.
+pub fn waiting_job(random: &mut Random) -> (Vec<Row>, Vec<Record>) {
+    let rows = vec![[1, 1, 16_000, 4], [64, 1, random.within(1, 3), 1]];
+    let mut records = vec![[0, 0, random.within(1, 4)], [0, 1, 1]];
+    records.resize(random.within(130, 160) as usize, [1, 1, 1]);
+    (rows, records)
+}

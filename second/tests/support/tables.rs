@@ -1,0 +1,170 @@
+//! Tables: ordinary ones, ones on the edge of feasible, and ones at the limits.
+
+use super::random::Random;
+use second::numbers;
+use second::table::{self, Table};
+use second::verdict::{verdict, Verdict};
+
+/// x, y, d, c.
+pub type Row = [u64; 4];
+
+pub fn spell(rows: &[Row]) -> Vec<u8> {
+    spell_numbers(&numbers_of(rows))
+}
+
+pub fn spell_numbers(numbers: &[u64]) -> Vec<u8> {
+    numbers.iter().flat_map(|&number| numbers::spell(number).unwrap()).collect()
+}
+
+pub fn numbers_of(rows: &[Row]) -> Vec<u64> {
+    [rows.len() as u64].into_iter().chain(rows.iter().flatten().copied()).collect()
+}
+
+/// How many lengths a program looks at that goes through them from 1 up. Above 1 in use there is no telling but by
+/// the witness.
+pub fn lengths_to_look_at(bytes: &[u8]) -> u64 {
+    match table::read(bytes) {
+        Err(_) => 0,
+        Ok(table) => match verdict(&table) {
+            Verdict::Feasible => last_of_first_period(&table),
+            Verdict::Overloaded { length, .. } => length,
+        },
+    }
+}
+
+pub fn last_of_first_period(table: &Table) -> u64 {
+    table.period + table.largest_d()
+}
+
+/// Rows of any kind below.
+pub fn any(random: &mut Random) -> Vec<Row> {
+    let kinds = [small, balanced, balanced, balanced, many, late_witness, long_period, at_limits];
+    random.pick(&kinds)(random)
+}
+
+/// A table to replay on: accepted, with room for many jobs.
+pub fn to_replay(random: &mut Random) -> Vec<Row> {
+    random.pick(&[small, small, hasty, hasty, balanced, many, wide])(random)
+}
+
+pub fn small(random: &mut Random) -> Vec<Row> {
+    let count = if random.one_in(12) { 0 } else { random.within(1, 5) };
+    (0..count).map(|_| [random.within(1, 3), random.within(1, 12), random.within(1, 24), random.within(1, 4)]).collect()
+}
+
+/// Rows that take just about the whole processor: the last one fills it up, but for a unit or so.
+pub fn balanced(random: &mut Random) -> Vec<Row> {
+    let period: u64 = random.pick(&[6, 12, 24, 60, 120, 210, 1_024]);
+    let divisors: Vec<u64> = (1..=period).filter(|divisor| period.is_multiple_of(*divisor)).collect();
+    let mut free = period;
+    let mut rows = vec![];
+    for _ in 0..random.below(5) {
+        let y = random.pick(&divisors);
+        let x = random.within(1, 3);
+        let c = random.within(1, y.div_ceil(2));
+        let taken = x * c * (period / y);
+        if taken < free {
+            free -= taken;
+            rows.push([x, y, due_near(y, random), c]);
+        }
+    }
+    let c = (free + random.below(4)).saturating_sub(2).max(1);
+    rows.push([1, period, due_near(period, random), c]);
+    let last = rows.len() - 1;
+    rows.swap(random.index(last + 1), last);
+    rows
+}
+
+fn due_near(y: u64, random: &mut Random) -> u64 {
+    match random.below(5) {
+        0 => y,
+        1 => (y + random.below(3)).saturating_sub(1).max(1),
+        2 => random.within(1, y),
+        3 => y + random.below(40),
+        _ => y * random.within(1, 4),
+    }
+}
+
+fn many(random: &mut Random) -> Vec<Row> {
+    let ys = random.pick(&[[4, 8, 16, 32], [60, 90, 120, 180], [100, 200, 250, 500], [512, 1_024, 2_048, 4_096]]);
+    let count = random.within(5, 17);
+    (0..count)
+        .map(|_| {
+            let y = random.pick(&ys);
+            [random.within(1, 2), y, due_near(y, random), random.within(1, (y / 8).clamp(1, 40))]
+        })
+        .collect()
+}
+
+/// Rows that ask for a little more than there is, but are due so late that it takes long to show.
+pub fn late_witness(random: &mut Random) -> Vec<Row> {
+    let y = random.within(1, 40);
+    let d = random.pick(&[20, 100, 400, 2_000]) + random.below(50);
+    let mut rows = vec![[1, y, d, y]];
+    match random.below(3) {
+        0 => rows[0][3] += 1,
+        1 => rows.push([1, y * random.within(1, 4), random.within(1, d), 1]),
+        _ => rows.push([1, random.within(1, 40), d, 1]),
+    }
+    rows
+}
+
+/// Around the longest period: 1023 with 1025 is just allowed, 1141 with 919 just not.
+pub fn long_period(random: &mut Random) -> Vec<Row> {
+    let (one, other) = random.pick(&[
+        (1_023, 1_025),
+        (1_141, 919),
+        (4_095, 256),
+        (4_096, 255),
+        (4_096, 257),
+        (4_093, 256),
+        (4_093, 257),
+        (4_093, 4_091),
+        (729, 1_438),
+        (729, 1_439),
+        (2_048, 511),
+        (625, 512),
+    ]);
+    let row = |y, random: &mut Random| [random.within(1, 2), y, due_near(y, random), random.within(1, y / 3)];
+    let mut rows = vec![row(one, random), row(other, random)];
+    if random.one_in(3) {
+        rows.insert(random.index(3), row(random.pick(&[1, 3, 16, 31, 64]).max(3), random));
+    }
+    rows
+}
+
+/// Each value at one of its limits, and now and then past it.
+pub fn at_limits(random: &mut Random) -> Vec<Row> {
+    let count = random.pick(&[1, 1, 2, 3, 15, 16, 17]);
+    (0..count)
+        .map(|_| {
+            let mut at = |most: u64| match random.below(60) {
+                0 => 0,
+                1 => most + 1,
+                2 => random.pick(&[127, 128, 16_383, 16_384, 1 << 32, 1 << 41, numbers::LARGEST]),
+                3..=15 => most,
+                16..=25 => most - 1,
+                26..=40 => random.within(1, most),
+                _ => random.within(1, 4),
+            };
+            [at(table::MOST_X), at(table::MOST_Y), at(table::MOST_D), at(table::MOST_C)]
+        })
+        .collect()
+}
+
+/// Rows that are due sooner than they can all be served.
+fn hasty(random: &mut Random) -> Vec<Row> {
+    let count = random.within(1, 3);
+    (0..count).map(|_| [random.within(1, 4), random.within(1, 3), random.within(1, 6), random.within(1, 4)]).collect()
+}
+
+/// Few rows with many places before the spacing by y sets in.
+fn wide(random: &mut Random) -> Vec<Row> {
+    let count = random.within(1, 3);
+    (0..count)
+        .map(|_| {
+            let d = random.pick(&[1, 2, 8, 100, 16_000, 16_384]);
+            [random.pick(&[1, 2, 63, 64]), random.pick(&[1, 2, 100, 4_096]), d, random.pick(&[1, 2, 20, 4_096])]
+        })
+        .collect()
+}
