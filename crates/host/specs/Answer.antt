@@ -1,33 +1,26 @@
 -- What the host's calls return and write. (docs/RULES.md, section 9.)
-use Prim.Native.Nat.{ℕ, zero, suc, _/_, _%_, _^_, _<_, _≤_}
+use Prim.Native.Nat.{ℕ, _^_, _<_, _≤_}
 use mathlib.Core.Path.{_≡_}
 use mathlib.Core.Logic.{_≢_}
 use mathlib.Core.Bool.{cond}
-use mathlib.Core.List.{List, [], _∷_, _++_}
+use mathlib.Core.List.{List, _++_}
 use lib.Dec.{eqb}
 use lib.ListN.{length}
 use Rattle.kinds.specs.Numbering.{Said, refusalNumber}
 use Rattle.kinds.specs.declared.Refusal.the-variants.{AnswerSize}
+use Rattle.words.specs.Words.{wordLength, lowestFirst}
 use Rattle.verdict.specs.declared.Verdict.{Verdict}
 use Rattle.verdict.specs.Verdict.{Judged, verdictSays}
 use Rattle.replay.specs.Play.{played}
 use Rattle.replay.specs.Outcome.{finishedIn, replayOf, logAfter, replaySays}
 
--- An answer buffer has so many bytes, and so has each of its two numbers.
+-- An answer buffer has so many bytes. (9.4)
 abbrev pub answerLength : ℕ
 answerLength = 16
 
-abbrev pub numberLength : ℕ
-numberLength = 8
-
--- A number in so many bytes, lowest first. (9.4)
-unfoldable pub lowestFirst : (bytes n : ℕ) → List ℕ
-lowestFirst zero n = []
-lowestFirst (suc k) n = n % 256 ∷ lowestFirst k (n / 256)
-
--- The answer buffer: the two numbers that are said. (9.5)
+-- What is in it: the two numbers that are said, each in the bytes of a word, lowest first. (9.5)
 abbrev pub answerBytes : Said → List ℕ
-answerBytes s = lowestFirst numberLength (s .first) ++ lowestFirst numberLength (s .second)
+answerBytes s = lowestFirst wordLength (s .first) ++ lowestFirst wordLength (s .second)
 
 -- ---- the verdict
 
@@ -66,11 +59,7 @@ VerdictNeverZero = (table answer : List ℕ) (status : ℕ) (after : List ℕ) �
 abbrev pub ReplayNeverZero : Type 0
 ReplayNeverZero = (table script : List ℕ) (room size : ℕ) → 1 ≤ replayStatus table script room size
 
--- Eight bytes say one number of 64 bits only ..
-abbrev pub BytesSayTheNumber : Type 0
-BytesSayTheNumber = (n m : ℕ) → n < 2 ^ 64 → m < 2 ^ 64 → lowestFirst numberLength n ≡ lowestFirst numberLength m → n ≡ m
-
--- .. so an answer buffer settles its two numbers.
+-- An answer buffer settles its two numbers, which have 64 bits.
 abbrev pub AnswerSaysItsNumbers : Type 0
 AnswerSaysItsNumbers = (s t : Said) → (s .first < 2 ^ 64) × (s .second < 2 ^ 64) → (t .first < 2 ^ 64) × (t .second < 2 ^ 64)
     → answerBytes s ≡ answerBytes t → (s .first ≡ t .first) × (s .second ≡ t .second)

@@ -5,10 +5,8 @@ use kinds::RefusedAt;
 use replay::Replayed;
 use verdict::Verdict;
 ghost use mathlib.Core.Path.{_≡_};
-ghost use Prim.Native.Nat.{_+_, _≤_};
-ghost use lib.ListN.{length, take, drop};
-ghost use mathlib.Core.List.{_++_};
-ghost use Rattle.host.specs.Answer.{numberLength, lowestFirst, answerBytes, VerdictAnswered, answerLength};
+ghost use lib.ListN.{length};
+ghost use Rattle.host.specs.Answer.{answerBytes, VerdictAnswered, answerLength};
 ghost use Rattle.host.specs.Answer.{replayStatus, replayAnswer, replayLog};
 ghost use Rattle.kinds.specs.Numbering.{refusedSays};
 
@@ -24,27 +22,13 @@ const IN_TIME: u32 = 22;
 
 const LATE: u32 = 23;
 
-// Writes a number into eight bytes of the answer, lowest first.
-fn write_number(answer: &mut [u8], at: usize, value: u64)
-    requires { ⌜ at + numberLength ≤ length (now answer) ⌝ }
-    ensures { λ r. ⌜ now (answer .exit) ≡ take at (now (answer .entry)) ++ (lowestFirst numberLength value ++ drop (at + numberLength) (now (answer .entry))) ⌝ }
-{
-    let mut rest = value;
-    let mut i: usize = 0;
-    while i < 8 {
-        answer[at + i] = (rest % 256) as u8;
-        rest = rest / 256;
-        i += 1;
-    }
-}
-
 // Writes the two numbers of an answer, and hands back its status.
 fn say(answer: &mut [u8], status: u32, first: u64, second: u64) -> u32
     requires { ⌜ length (now answer) ≡ answerLength ⌝ }
     ensures { λ r. ⌜ (r ≡ status) × (now (answer .exit) ≡ answerBytes (record { number = status; first = first; second = second })) ⌝ }
 {
-    write_number(answer, 0, first);
-    write_number(answer, 8, second);
+    words::put(answer, first);
+    words::put(&mut answer[8..], second);
     status
 }
 

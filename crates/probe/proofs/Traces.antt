@@ -6,7 +6,7 @@ use mathlib.Core.Bool.{true, false}
 use mathlib.Core.List.{List, [], _∷_, _++_, flatten, map, reverse, reverseAux, append-assoc, append-nil, reverse-cons}
 use native.Mathlib.Nat.{zero-add}
 use native.Mathlib.Omega.{arith}
-use lib.ListN.{length, take, drop, length-append}
+use lib.ListN.{length, take, length-append}
 use lib.Seq.{take-all, sets, sets-eq, length-sets}
 use Rattle.run.specs.declared.Run.{Run}
 use Rattle.run.specs.declared.StartAnswer.{StartAnswer}
@@ -15,10 +15,10 @@ use Rattle.run.specs.Runs.{started}
 use Rattle.promise.specs.Answers.{accepted, idle, ran}
 use Rattle.promise.specs.Answers as says
 use Rattle.promise.specs.Traces.{Call, Event, runAfter, eventOf, runAt, trace}
-use Rattle.words.specs.Words.{wordLength}
 use Rattle.words.proofs.Laws.{sets-append}
 use Rattle.probe.specs.Words.{mostWords, wordsBytes}
-use Rattle.probe.specs.Traced.{callLength, callAt, callsFrom, eventsFrom, startWords, eventWords, answerLength, traceWords, answersAfter, EventsAreTheTrace}
+use Rattle.probe.specs.Traced.{callLength, callAt, callsFrom, eventsFrom, startWords, eventWords}
+use Rattle.probe.specs.Traced.{answerLength, traceWords, answersAfter, EventsAreTheTrace}
 use Rattle.probe.proofs.Words.{words-length}
 
 -- ---- the promises' traces
@@ -79,7 +79,9 @@ first-answers : (k n : ℕ) (run : Run) (calls : List ℕ) (at : ℕ) → k ≤ 
 unfolding eventsFrom callsFrom
 first-answers zero n run calls at h = refl
 first-answers (suc k) zero run calls at h = absurd (omega arith)
-first-answers (suc k) (suc n) run calls at h = ap (λ l. eventWords (eventOf run (callAt calls at)) ∷ l) (first-answers k n (runAfter run (callAt calls at)) calls (at + callLength) (omega arith))
+first-answers (suc k) (suc n) run calls at h =
+    let c = callAt calls at in
+    ap (λ l. eventWords (eventOf run c) ∷ l) (first-answers k n (runAfter run c) calls (at + callLength) (omega arith))
 
 -- No calls, no answers.
 answered-none : (run : Run) (calls : List ℕ) (at : ℕ) → answered run 0 calls at ≡ []
@@ -92,7 +94,9 @@ shown-answers : (table calls : List ℕ) (shown : ℕ) → 1 ≤ shown → shown
     ≡ wordsBytes (startWords (started table .answer)) ++ answered (started table .run) (shown - 1) calls 0
 unfolding flatten
 shown-answers table calls zero h there = absurd (omega arith)
-shown-answers table calls (suc k) h there = let less : suc k - 1 ≡ k = omega arith in rw (less, first-answers k (length calls / callLength) (started table .run) calls 0 (omega arith))
+shown-answers table calls (suc k) h there =
+    let less : suc k - 1 ≡ k = omega arith in
+    rw (less, first-answers k (length calls / callLength) (started table .run) calls 0 (omega arith))
 
 -- ---- the loop
 
@@ -113,24 +117,25 @@ start-standing calls answers shown run h most room =
     record { begun = omega arith; not-past = h; countable = most; has-room = room; same-length = refl; completes = refl }
 
 -- Then one more.
-pub one-standing : {calls answers₀ : List ℕ} {shown : ℕ} {run₀ : Run} {answers : List ℕ} {run : Run} {i : ℕ} → Standing calls answers₀ shown run₀ answers run i → i < shown
-    → (let c = callAt calls ((i - 1) * callLength) in
-    Standing calls answers₀ shown run₀ (sets answers (i * answerLength) (wordsBytes (take mostWords (eventWords (eventOf run c))))) (runAfter run c) (i + 1))
-one-standing {calls} {answers₀} {shown} {run₀} {answers} {run} {i} p h =
-    let at = (i - 1) * callLength in
-    let e = eventOf run (callAt calls at) in
-    let four = four-are-all (eventWords e) (event-is-four e) in
-    let more = answered-more run (shown - i) (shown - (i + 1)) calls at (omega arith) in
-    let next : (i + 1) * answerLength ≡ i * answerLength + answerLength = omega arith in
-    let after : (i + 1 - 1) * callLength ≡ at + callLength = omega (arith, p .begun) in
-    record {
-      begun = omega arith;
-      not-past = omega arith;
-      countable = p .countable;
-      has-room = p .has-room;
-      same-length = simp length-sets (p .same-length);
-      completes = rw (four .0, next, after) (rw (more, sets-append, four .1) at (p .completes));
-    }
+module _ {calls answers₀ : List ℕ} {shown : ℕ} {run₀ : Run} {answers : List ℕ} {run : Run} {i : ℕ} (p : Standing calls answers₀ shown run₀ answers run i) where
+  pub one-standing : i < shown
+      → (let c = callAt calls ((i - 1) * callLength) in
+      Standing calls answers₀ shown run₀ (sets answers (i * answerLength) (wordsBytes (take mostWords (eventWords (eventOf run c))))) (runAfter run c) (i + 1))
+  one-standing h =
+      let at = (i - 1) * callLength in
+      let e = eventOf run (callAt calls at) in
+      let four = four-are-all (eventWords e) (event-is-four e) in
+      let more = answered-more run (shown - i) (shown - (i + 1)) calls at (omega arith) in
+      let next : (i + 1) * answerLength ≡ i * answerLength + answerLength = omega arith in
+      let after : (i + 1 - 1) * callLength ≡ at + callLength = omega (arith, p .begun) in
+      record {
+        begun = omega arith;
+        not-past = omega arith;
+        countable = p .countable;
+        has-room = p .has-room;
+        same-length = simp length-sets (p .same-length);
+        completes = rw (four .0, next, after) (rw (more, sets-append, four .1) at (p .completes));
+      }
 
 -- At last all stand there, and what comes after them is as it was.
 pub all-standing : (table calls answers : List ℕ) (shown : ℕ) {after : List ℕ} {run : Run} {i : ℕ}
@@ -147,4 +152,6 @@ all-standing table calls answers shown {after} {run} {i} p h there =
     length-append bytes later ∙ omega (arith, four .1, answered-length (started table .run) (shown - 1) calls 0, p .begun, p .not-past) in
     let stored : after ≡ sets answers 0 (bytes ++ later) =
     rw (over, answered-none) at (p .completes) ∙ rw (four .0, sets-append, four .1, zero-add) in
-    stored ∙ sets-eq (bytes ++ later) answers 0 (omega (arith, rw (four .0, length-sets) at (p .has-room))) ∙ rw (zero-add, long, shown-answers table calls shown (omega (arith, p .begun, p .not-past)) there)
+    let room = rw (four .0, length-sets) at (p .has-room) in
+    let all = shown-answers table calls shown (omega (arith, p .begun, p .not-past)) there in
+    stored ∙ sets-eq (bytes ++ later) answers 0 (omega (arith, room)) ∙ rw (zero-add, long, all)

@@ -1,13 +1,12 @@
 -- Words one after another: how many bytes they take, and one more of them. (docs/RULES.md, 9.4.)
 use Prim.Native.Nat.{ℕ, suc, _*_, _<_, _≤_}
-use mathlib.Core.Path.{_≡_, refl, ap, _∙_}
-use mathlib.Core.List.{List, [], _∷_, _++_, flatten, append-nil}
-use native.Mathlib.Nat.{zero-add}
+use mathlib.Core.Path.{_≡_, refl, _∙_}
+use mathlib.Core.List.{List, [], _∷_, _++_, flatten}
 use native.Mathlib.Omega.{arith}
-use lib.ListN.{length, getD, length-append, drop-of-length-le}
-use lib.Seq.{slice, slice-cons, sets, sets-eq}
+use lib.ListN.{length, getD, length-append}
+use lib.Seq.{slice, slice-cons, sets}
 use Rattle.words.specs.Words.{wordLength, lowestFirst}
-use Rattle.words.proofs.Laws.{lowest-first-length}
+use Rattle.words.proofs.Laws.{lowest-first-length, sets-whole}
 use Rattle.probe.specs.Words.{wordsBytes}
 
 -- Each word takes eight bytes.
@@ -24,6 +23,4 @@ words-next ws count k h room = rw (slice-cons k count ws 0 h room)
 
 -- Words that are as long as a buffer fill it.
 pub words-fill : (buffer ws : List ℕ) → length buffer ≡ wordLength * length ws → sets buffer 0 (wordsBytes ws) ≡ wordsBytes ws
-words-fill buffer ws h =
-    let long = words-length ws in
-    sets-eq (wordsBytes ws) buffer 0 (omega arith) ∙ rw (zero-add, drop-of-length-le buffer {i = length (wordsBytes ws)} (omega arith), append-nil)
+words-fill buffer ws h = sets-whole (wordsBytes ws) buffer (omega (arith, words-length ws))

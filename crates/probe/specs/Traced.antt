@@ -1,5 +1,5 @@
--- A trace as bytes: the calls that words say, and the answers in words. The answers are those of the promises' traces (crate promise, specs/Traces.antt), listed
--- oldest first. (docs/RULES.md, section 6.)
+-- A trace as bytes: the calls that words say, and the answers in words. The answers are those of the promises' traces (crate promise, specs/Traces.antt),
+-- listed oldest first. (docs/RULES.md, section 6.)
 use Prim.Native.Nat.{ℕ, zero, suc, _+_, _-_, _*_, _/_, _^_, min}
 use mathlib.Core.Path.{_≡_}
 use mathlib.Core.Bool.{true, false, cond}

@@ -248,8 +248,8 @@ pub extern "C" fn trace(table: &[u8], calls: &[u8], answers: &mut [u8]) -> u32
             word_at(calls, at + WORD),
             word_at(calls, at + 2 * WORD),
         );
-        let after = step.run;
-        run = after;
+        let next = step.run;
+        run = next;
         let words = step.answer;
         put_words(answers, i * ANSWER, words, 4);
         i += 1;

@@ -3,9 +3,9 @@ use Prim.Native.Nat.{ℕ, zero, suc, _+_, _-_, _*_, _/_, _%_, _<_, _≤_}
 use mathlib.Core.Path.{_≡_, refl, sym, ap, _∙_}
 use mathlib.Core.List.{List, [], _∷_, _++_, append-nil, append-assoc}
 use native.Mathlib.Omega.{arith}
-use native.Mathlib.Nat.{le-refl}
+use native.Mathlib.Nat.{le-refl, zero-add}
 use native.Mathlib.Decide.{le-ind}
-use lib.ListN.{length, getD, take, drop, length-append, length-drop}
+use lib.ListN.{length, getD, take, drop, length-append, length-drop, drop-of-length-le}
 use lib.Seq.{take-at, take-length, drop-cons, drop-drop, drop-length, drop-append-seam, sets, sets-eq}
 use borrow.Author.Tests.{le-leb}
 use borrow.Rule.Slice.PartMut.{midOf, putMid}
@@ -13,7 +13,7 @@ use Rattle.numbers.specs.Laws.{Bytes}
 use Rattle.numbers.specs.declared.Written.{Written}
 use Rattle.numbers.specs.declared.Written.the-variants.{Length}
 use Rattle.words.specs.Words.{wordLength, lowestFirst, fromLowestFirst, putWord, restWith}
-use Rattle.words.specs.Laws.{WordReadsBack, PutReadsBack}
+use Rattle.words.specs.Laws.{WordReadsBack, PutReadsBack, BytesSayTheNumber}
 
 -- A number takes as many bytes as it is given.
 pub lowest-first-length : (bytes n : ℕ) → length (lowestFirst bytes n) ≡ bytes
@@ -68,6 +68,9 @@ word-reads-back front n rest h =
 pub put-reads-back : PutReadsBack
 put-reads-back n rest h room = simp (le-leb _ _ room) (word-reads-back [] n _ h)
 
+pub bytes-say-the-number : BytesSayTheNumber
+bytes-say-the-number n m h j e = sym (said-by-its-bytes wordLength n h) ∙ ap fromLowestFirst e ∙ said-by-its-bytes wordLength m j
+
 -- ---- words one behind another
 
 -- Two lists stored one behind the other are one list stored.
@@ -75,7 +78,19 @@ pub sets-append : (s t l : List ℕ) (i : ℕ) → sets l i (s ++ t) ≡ sets (s
 sets-append [] t l i = ap (λ (k : ℕ). sets l k t) (omega arith)
 sets-append (v ∷ s) t l i = sets-append s t _ (suc i) ∙ ap (λ (k : ℕ). sets (sets l i (v ∷ s)) k t) (omega arith)
 
--- A word that is put into the rest of a buffer, from a place on, is stored there.
+-- A list that is as long as a buffer fills it.
+pub sets-whole : (s l : List ℕ) → length s ≡ length l → sets l 0 s ≡ s
+sets-whole s l h = sets-eq s l 0 (omega arith) ∙ rw (zero-add, drop-of-length-le l {i = length s} (omega arith), append-nil s)
+
+-- A word that is put at a buffer's start is stored there, ..
+pub put-stores-first : (buffer : List ℕ) (value : ℕ) {answer : Written} {last : List ℕ} → wordLength ≤ length buffer
+    → (answer ≡ putWord (length buffer)) × (last ≡ restWith answer value buffer) → last ≡ sets buffer 0 (lowestFirst wordLength value)
+put-stores-first buffer value h e =
+    let bytes = lowestFirst wordLength value in
+    let long = lowest-first-length wordLength value in
+    simp (e .0, le-leb wordLength (length buffer) h) at (e .1) ∙ sym (rw long at (sets-eq bytes buffer 0 (omega arith)))
+
+-- .. and so is one that is put into the rest of a buffer, from a place on.
 pub put-stores : (buffer : List ℕ) (at value : ℕ) {answer : Written} {last : List ℕ} → at + wordLength ≤ length buffer
     → (let rest = midOf at (length buffer - at) buffer in (answer ≡ putWord (length rest)) × (last ≡ restWith answer value rest))
     → putMid at (length buffer - at) buffer last ≡ sets buffer at (lowestFirst wordLength value)

@@ -1,25 +1,40 @@
 -- `host::say` meets its contract: the two numbers fill the buffer.
-use mathlib.Core.Path.{refl}
+use mathlib.Core.Path.{refl, _∙_}
 use native.Mathlib.Omega.{arith}
 use borrow.Author.Needs.{needs}
+use Rattle.words.specs.Words.{wordLength}
+use Rattle.words.proofs.Laws.{put-stores-first, put-stores}
 use Rattle.host.proofs.Bytes.{both-numbers}
 use Rattle.host.proofs.say.Statement.{statement}
 use Rattle.host.proofs.say.Tie as tie
 
-write-number-requires : tie.Need-write-number-requires
-write-number-requires c κs = search needs
+put-requires : tie.Need-put-requires
+put-requires c κs = search needs
 
-write-number-requires-2 : tie.Need-write-number-requires-2
-write-number-requires-2 c κs = search needs
+sub-put : tie.Need-sub-put
+sub-put c = search needs
+
+part-put-start : tie.Need-part-put-start
+part-put-start c = search needs
+
+part-put-end : tie.Need-part-put-end
+part-put-end c = search needs
+
+put-requires-2 : tie.Need-put-requires-2
+put-requires-2 c κs = search needs
 
 same-length : tie.Need-same-length
 same-length c = search needs
 
 returns : tie.Need-returns
 returns c =
+    let half = c .before .before .before .before .before .before .put in
     let a = c .before .before .before .before .before .before .before .before .before .args in
-    let both = both-numbers (a .answer .now) (a .first) (a .second) (omega arith) in
-    (refl, rw (c .before .before .write-number2 .ensures, c .before .before .before .before .before .before .write-number .ensures) both)
+    let first = put-stores-first (a .answer .now) (a .first) (omega arith) (half .ensures) in
+    let second = put-stores (half .last .0) wordLength (a .second) (omega arith) (c .before .before .put2 .ensures) in
+    (refl, second ∙ rw first (both-numbers (a .answer .now) (a .first) (a .second) (omega arith)))
 
 pub say-spec : {M : Type 1} → statement M
-say-spec = tie.close (tie.spec write-number-requires write-number-requires-2 same-length returns)
+say-spec =
+    tie.close
+    (tie.spec put-requires sub-put part-put-start part-put-end put-requires-2 same-length returns)

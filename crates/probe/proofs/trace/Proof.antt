@@ -76,8 +76,14 @@ loop-less c = omega arith
 
 loop-again : tie.Need-loop-again Inv-loop μ-loop
 loop-again c =
-    let one = one-standing (c .before .before .before .before .before .before .before .before .before .before .before .loop .inv) (c .before .before .before .before .before .before .before .before .before .before .loop-test .taken) in
-    rw (c .before .before .put-words2 .ensures, c .before .before .before .before .before .before .play .ensures, c .before .before .before .before .before .before .before .before .before .word-at .ensures, c .before .before .before .before .before .before .before .before .word-at2 .ensures, c .before .before .before .before .before .before .before .word-at3 .ensures) one
+    let put = c .before .before in
+    let play = put .before .before .before .before in
+    let third = play .before in
+    let second = third .before in
+    let first = second .before in
+    let test = first .before in
+    rw (put .put-words2 .ensures, play .play .ensures, first .word-at .ensures, second .word-at2 .ensures, third .word-at3 .ensures)
+    (one-standing (test .before .loop .inv) (test .loop-test .taken))
 
 cast-result : tie.Need-cast-result Inv-loop μ-loop
 cast-result c = omega arith
@@ -87,9 +93,13 @@ same-length c = omega arith
 
 returns-2 : tie.Need-returns-2 Inv-loop μ-loop
 returns-2 c =
-    let shown = c .before .before .before .before .before .before .before .before .before .before .answers-shown .ensures in
-    let p = rw (c .before .before .before .before .put-words .ensures, c .before .before .before .before .before .start-words .ensures, c .before .before .before .before .before .before .before .before .start .ensures) at (c .before .loop .inv) in
-    let a = c .before .before .before .before .before .before .before .before .before .before .before .before .before .before .args in
+    let put = c .before .before .before .before in
+    let said = put .before in
+    let begun = said .before .before .before in
+    let count = begun .before .before in
+    let a = count .before .before .before .before .args in
+    let shown = count .answers-shown .ensures in
+    let p = rw (put .put-words .ensures, said .start-words .ensures, begun .start .ensures) at (c .before .loop .inv) in
     (shown, all-standing (a .table .now) (a .calls .now) (a .answers .now) _ p (c .loop-test .left) (omega (arith, shown)))
 
 pub trace-spec : {M : Type 1} → statement M
