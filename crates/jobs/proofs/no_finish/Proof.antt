@@ -10,7 +10,7 @@ finish-of-requires : tie.Need-finish-of-requires
 finish-of-requires c κs = search needs
 
 returns : tie.Need-returns
-returns c = cc
+returns c = rw (c .finish-of .ensures, c .before .no-job .ensures)
 
 pub no-finish-spec : {M : Type 1} → statement M
 no-finish-spec = tie.close (tie.spec no-job-requires finish-of-requires returns)

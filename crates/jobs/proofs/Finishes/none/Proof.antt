@@ -7,7 +7,7 @@ no-finish-requires : tie.Need-no-finish-requires
 no-finish-requires c κs = search needs
 
 returns : tie.Need-returns
-returns c = cc
+returns c = rw (c .no-finish .ensures)
 
 pub none-spec : {M : Type 1} → statement M
 none-spec = tie.close (tie.spec no-finish-requires returns)

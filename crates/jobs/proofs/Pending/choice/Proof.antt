@@ -55,10 +55,13 @@ loop-again : tie.Need-loop-again Inv-loop μ-loop
 loop-again c =
     let p = c .before .before .before .before .before .before .before .before .args .t1 in
     let k = c .before .before .before .before .loop in
-    let next = first-next (p .count) (p .places) (k .i) (k .at) (k .best) noJob (omega arith) in
+    let next = first-next (p .count) (p .places) (k .i) (k .at) (k .best) noJob (omega (arith, k .inv .0, c .before .before .before .loop-test .taken)) in
     let e = c .before .goes-before .ensures in (
       k .inv .0,
-      ⊎-elim (λ w. cc (next true (sym e ∙ w .0 .taken))) (λ w. cc (next false (sym e ∙ w .0 .left))) (c .if2 .came),
+      ⊎-elim
+          (λ w. rw (w .1, w .2) (sym (next true (sym e ∙ w .0 .taken)) ∙ k .inv .1))
+          (λ w. rw (w .1, w .2) (sym (next false (sym e ∙ w .0 .left)) ∙ k .inv .1))
+          (c .if2 .came),
     )
 
 returns-2 : tie.Need-returns-2 Inv-loop μ-loop

@@ -7,7 +7,7 @@ no-job-requires : tie.Need-no-job-requires
 no-job-requires c κs = search needs
 
 returns : tie.Need-returns
-returns c = cc
+returns c = rw (c .no-job .ensures)
 
 pub empty-spec : {M : Type 1} → statement M
 empty-spec = tie.close (tie.spec no-job-requires returns)

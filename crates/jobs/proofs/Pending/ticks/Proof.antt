@@ -103,11 +103,12 @@ loop2-again : tie.Need-loop2-again Inv-loop2 μ-loop2 Inv-loop3 μ-loop3 Inv-loo
 loop2-again c =
     let l = c .before .before .before .before .before .before .before .before .before .loop in
     let k = c .before .before .before .before .loop2 in
-    let next = first-next (l .count) (l .p .places) (k .i) (k .at) (k .best) noJob (omega (arith, l .inv .in-use)) in
+    let more = c .before .before .before .loop2-test .taken in
+    let next = first-next (l .count) (l .p .places) (k .i) (k .at) (k .best) noJob (omega (arith, l .inv .in-use, more)) in
     let e = c .before .goes-before .ensures in
     ⊎-elim
-    (λ w. (omega arith, cc, cc (next true (sym e ∙ w .0 .taken))))
-    (λ w. (omega arith, cc, cc (next false (sym e ∙ w .0 .left))))
+    (λ w. (omega (arith, w .1, more), rw (w .1, w .2), rw (w .1, w .2) (sym (next true (sym e ∙ w .0 .taken)) ∙ k .inv .2)))
+    (λ w. (omega (arith, w .1, k .inv .0), rw (w .1, w .2) (k .inv .1), rw (w .1, w .2) (sym (next false (sym e ∙ w .0 .left)) ∙ k .inv .2)))
     (c .if3 .came)
 
 finish-of-requires : tie.Need-finish-of-requires Inv-loop2 μ-loop2 Inv-loop3 μ-loop3 Inv-loop4 μ-loop4 Inv-loop μ-loop
@@ -131,51 +132,56 @@ loop3-holds c =
     (omega arith, omega arith, omega arith, moved-none (l .p .places) (c .before .before .before .before .before .loop2 .at))
 
 add-later : tie.Need-add-later Inv-loop2 μ-loop2 Inv-loop3 μ-loop3 Inv-loop4 μ-loop4 Inv-loop μ-loop
-add-later c = omega arith
+add-later c = omega (arith, c .loop3-test .taken, c .before .loop3 .inv .2)
 
 mul-later : tie.Need-mul-later Inv-loop2 μ-loop2 Inv-loop3 μ-loop3 Inv-loop4 μ-loop4 Inv-loop μ-loop
-mul-later c = omega arith
+mul-later c = omega (arith, c .loop3-test .taken, c .before .loop3 .inv .2)
 
 element-copy-out-later : tie.Need-element-copy-out-later Inv-loop2 μ-loop2 Inv-loop3 μ-loop3 Inv-loop4 μ-loop4 Inv-loop μ-loop
-element-copy-out-later c = omega arith
+element-copy-out-later c = omega (arith, c .loop3-test .taken, c .before .loop3 .inv .2)
 
 mul-later-2 : tie.Need-mul-later-2 Inv-loop2 μ-loop2 Inv-loop3 μ-loop3 Inv-loop4 μ-loop4 Inv-loop μ-loop
-mul-later-2 c = omega arith
+mul-later-2 c = omega (arith, c .before .loop3-test .taken, c .before .before .loop3 .inv .2)
 
 element-set-from-later : tie.Need-element-set-from-later Inv-loop2 μ-loop2 Inv-loop3 μ-loop3 Inv-loop4 μ-loop4 Inv-loop μ-loop
-element-set-from-later c = omega arith
+element-set-from-later c = omega (arith, c .before .loop3-test .taken, c .before .before .loop3 .inv .2)
 
 add-k : tie.Need-add-k Inv-loop2 μ-loop2 Inv-loop3 μ-loop3 Inv-loop4 μ-loop4 Inv-loop μ-loop
-add-k c = omega arith
+add-k c = omega (arith, c .before .loop3-test .taken, c .before .before .loop3 .inv .2)
 
 loop3-less : tie.Need-loop3-less Inv-loop2 μ-loop2 Inv-loop3 μ-loop3 Inv-loop4 μ-loop4 Inv-loop μ-loop
-loop3-less c = omega arith
+loop3-less c = omega (arith, c .before .loop3-test .taken)
 
 loop3-again : tie.Need-loop3-again Inv-loop2 μ-loop2 Inv-loop3 μ-loop3 Inv-loop4 μ-loop4 Inv-loop μ-loop
 loop3-again c =
     let l = head (c .before .before .before .before .before) .loop in
     let at = c .before .before .before .before .before .before .before .before .loop2 .at in
     let k = c .before .before .loop3 in
-    let h : k .k + 1 < length (l .p .places) = omega (arith, l .inv .places) in
-    (omega arith, omega arith, omega arith, rw (k .inv .3) (moved-more (l .p .places) at (k .k) noJob (k .inv .0) h))
+    let more = c .before .loop3-test .taken in
+    let h : k .k + 1 < length (l .p .places) = omega (arith, more, k .inv .2, l .inv .places) in
+    (omega (arith, k .inv .0), omega (arith, more), k .inv .2, rw (k .inv .3) (moved-more (l .p .places) at (k .k) noJob (k .inv .0) h))
 
 no-job-requires : tie.Need-no-job-requires Inv-loop2 μ-loop2 Inv-loop3 μ-loop3 Inv-loop4 μ-loop4 Inv-loop μ-loop
 no-job-requires c κs = search needs
 
 mul-nobody : tie.Need-mul-nobody Inv-loop2 μ-loop2 Inv-loop3 μ-loop3 Inv-loop4 μ-loop4 Inv-loop μ-loop
-mul-nobody c = omega arith
+mul-nobody c = omega (arith, c .before .before .loop3 .inv .2)
 
 element-set-from-nobody : tie.Need-element-set-from-nobody Inv-loop2 μ-loop2 Inv-loop3 μ-loop3 Inv-loop4 μ-loop4 Inv-loop μ-loop
-element-set-from-nobody c = omega arith
+element-set-from-nobody c = omega (arith, c .before .before .loop3 .inv .2)
 
 sub-best : tie.Need-sub-best Inv-loop2 μ-loop2 Inv-loop3 μ-loop3 Inv-loop4 μ-loop4 Inv-loop μ-loop
-sub-best c = omega arith
+sub-best c = omega (arith, c .before .if4 .left)
+
+-- The job that goes first is at one of the places.
+at-place : (c : tie.After-struct-known2 Inv-loop2 μ-loop2 Inv-loop3 μ-loop3 Inv-loop4 μ-loop4 Inv-loop μ-loop) → c .before .before .before .loop2 .at < maxPlaces
+at-place c = omega (arith, c .before .before .before .loop2 .inv .0, head c .loop .inv .room)
 
 mul-best : tie.Need-mul-best Inv-loop2 μ-loop2 Inv-loop3 μ-loop3 Inv-loop4 μ-loop4 Inv-loop μ-loop
-mul-best c = omega arith
+mul-best c = omega (arith, at-place (c .before .before))
 
 element-set-from-best : tie.Need-element-set-from-best Inv-loop2 μ-loop2 Inv-loop3 μ-loop3 Inv-loop4 μ-loop4 Inv-loop μ-loop
-element-set-from-best c = omega arith
+element-set-from-best c = omega (arith, at-place (c .before .before))
 
 -- One tick more was made, but for counting those that it made late.
 ticked : (c : tie.Joined4 Inv-loop2 μ-loop2 Inv-loop3 μ-loop3 Inv-loop4 μ-loop4 Inv-loop μ-loop)
@@ -187,13 +193,14 @@ ticked c =
     let l = head (c .before) .loop in
     let k = c .before .before .before .before .loop2 in
     let p : Pending = withCount (l .p) (l .count) in
-    let e = first-end (jobsOf p) (k .i) (k .at) (k .best) (omega (arith, l .inv .in-use)) (k .inv .2) in
+    let e = first-end (jobsOf p) (k .i) (k .at) (k .best) (omega (arith, l .inv .in-use, c .before .before .before .loop2-test .left)) (k .inv .2) in
     let more = c .before .before .before .before .before .before .before .if1 .taken in
     ⊎-elim
     (λ w.
     let n : w .2 .k ≡ l .count - 1 = omega (arith, w .2 .inv .1, w .3 .left) in
+    let out = moved-is-taken-out p (k .at) (l .count - 1) (omega (arith, k .inv .0)) (omega (arith, k .inv .0, l .inv .in-use)) in
     reached-last (l .inv) more (k .at) (k .best) e (k .inv .1) (k .inv .0) _ _ _ (w .0 .taken)
-    (rw (w .5, w .6, w .2 .inv .3, n, w .4 .ensures) (moved-is-taken-out p (k .at) (l .count - 1) (omega arith) (omega (arith, l .inv .in-use))))
+    (rw (w .5, w .6, w .2 .inv .3, n, w .4 .ensures) out)
     (w .7)
     (rw (w .8, w .1 .ensures)))
     (λ w. reached-unit (l .inv) more (k .at) (k .best) e (k .inv .1) (k .inv .0) _ _ _ (w .0 .left) (rw (w .2, w .3)) (w .4) (w .5))
@@ -203,7 +210,7 @@ loop4-holds : tie.Need-loop4-holds Inv-loop2 μ-loop2 Inv-loop3 μ-loop3 Inv-loo
 loop4-holds c = let r = ticked c in (r .in-use, omega (arith, r .room), omega (arith, r .few-late), refl)
 
 loop-less : tie.Need-loop-less Inv-loop2 μ-loop2 Inv-loop3 μ-loop3 Inv-loop4 μ-loop4 Inv-loop μ-loop
-loop-less c = omega arith
+loop-less c = omega (arith, c .before .before .before .before .before .before .before .before .before .if1 .taken)
 
 loop-again : tie.Need-loop-again Inv-loop2 μ-loop2 Inv-loop3 μ-loop3 Inv-loop4 μ-loop4 Inv-loop μ-loop
 loop-again c =
@@ -211,35 +218,45 @@ loop-again c =
     let k = c .before .loop4 in
     let l = head (c .before .before .before) .loop in
     let js : List Job = take (q .count) (q .p .places) in
-    let e : k .late ≡ l .late + lateCount (l .now + 1) js = omega (arith, late-end js (k .k) (l .now + 1) (omega arith)) in
+    let e : k .late ≡ l .late + lateCount (l .now + 1) js =
+    omega (arith, k .inv .3, late-end js (k .k) (l .now + 1) (omega (arith, k .inv .0, c .loop4-test .left)))
+    in
     rw e (ticked (c .before .before))
 
 mul-pending : tie.Need-mul-pending Inv-loop2 μ-loop2 Inv-loop3 μ-loop3 Inv-loop4 μ-loop4 Inv-loop μ-loop
-mul-pending c = omega arith
+mul-pending c = omega (arith, c .loop4-test .taken, c .before .loop4 .inv .1)
 
 element-copy-out-pending : tie.Need-element-copy-out-pending Inv-loop2 μ-loop2 Inv-loop3 μ-loop3 Inv-loop4 μ-loop4 Inv-loop μ-loop
-element-copy-out-pending c = omega arith
+element-copy-out-pending c = omega (arith, c .loop4-test .taken, c .before .loop4 .inv .1)
 
 is-late-requires : tie.Need-is-late-requires Inv-loop2 μ-loop2 Inv-loop3 μ-loop3 Inv-loop4 μ-loop4 Inv-loop μ-loop
 is-late-requires c κs = search needs
 
 add-late : tie.Need-add-late Inv-loop2 μ-loop2 Inv-loop3 μ-loop3 Inv-loop4 μ-loop4 Inv-loop μ-loop
-add-late c = omega arith
+add-late c = omega (arith, c .before .before .before .before .loop4 .inv .2, c .before .before .before .before .loop4 .inv .3)
 
 add-k-2 : tie.Need-add-k-2 Inv-loop2 μ-loop2 Inv-loop3 μ-loop3 Inv-loop4 μ-loop4 Inv-loop μ-loop
-add-k-2 c = omega arith
+add-k-2 c = omega (arith, c .before .before .before .loop4-test .taken, c .before .before .before .before .loop4 .inv .1)
 
 loop4-less : tie.Need-loop4-less Inv-loop2 μ-loop2 Inv-loop3 μ-loop3 Inv-loop4 μ-loop4 Inv-loop μ-loop
-loop4-less c = omega arith
+loop4-less c = omega (arith, c .before .before .before .loop4-test .taken)
 
 loop4-again : tie.Need-loop4-again Inv-loop2 μ-loop2 Inv-loop3 μ-loop3 Inv-loop4 μ-loop4 Inv-loop μ-loop
 loop4-again c =
     let q = c .before .before .before .before .before .if4 in
     let k = c .before .before .before .before .loop4 in
     let l = head (c .before .before .before .before .before .before) .loop in
-    let next = late-next (q .count) (q .p .places) (k .k) (l .now + 1) noJob (omega arith) in
-    let e = c .before .is-late .ensures in
-    ⊎-elim (λ w. omega (arith, next true (sym e ∙ w .0 .taken))) (λ w. omega (arith, next false (sym e ∙ w .0 .left))) (c .if5 .came)
+    let more = c .before .before .before .loop4-test .taken in
+    let next = late-next (q .count) (q .p .places) (k .k) (l .now + 1) noJob (omega (arith, k .inv .0, more)) in
+    let e = c .before .is-late .ensures in (
+      k .inv .0,
+      k .inv .1,
+      k .inv .2,
+      ⊎-elim
+          (λ w. omega (arith, w .1, k .inv .3, next true (sym e ∙ w .0 .taken)))
+          (λ w. omega (arith, w .1, k .inv .3, next false (sym e ∙ w .0 .left)))
+          (c .if5 .came),
+    )
 
 returns : tie.Need-returns Inv-loop2 μ-loop2 Inv-loop3 μ-loop3 Inv-loop4 μ-loop4 Inv-loop μ-loop
 returns c = rw (counted (c .before .before .before .before)) at (reached-until (c .before .before .loop .inv) (c .if1 .left))
