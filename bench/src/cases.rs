@@ -7,6 +7,8 @@ pub struct Case {
     pub size: String,
     pub work: Work,
     pub status: u32,
+    /// The answer's first number, where the case is about it.
+    pub first: Option<u64>,
     /// The most that the proved program may take, in times of the plain one.
     pub target: f64,
 }
@@ -40,16 +42,26 @@ fn verdicts() -> Vec<Case> {
     let mut sixteen_late = [[1, 64, 16_384, 4]; 16];
     sixteen_late[15][3] = 5;
     vec![
-        verdict("feasible, 2 rows", &two, 1_048_575 + 1_025, 20),
-        verdict("feasible, 16 rows", &sixteen, 1_048_575 + 1_025, 20),
-        verdict("late witness, 2 rows", &two_late, 1_060_800, 21),
-        verdict("late witness, 16 rows", &sixteen_late, 1_060_800, 21),
+        feasible("feasible, 2 rows", &two, 1_048_575 + 1_025),
+        feasible("feasible, 16 rows", &sixteen, 1_048_575 + 1_025),
+        overloaded("late witness, 2 rows", &two_late, 1_060_864),
+        overloaded("late witness, 16 rows", &sixteen_late, 1_060_864),
     ]
 }
 
-fn verdict(name: &'static str, rows: &[Row], lengths: usize, status: u32) -> Case {
-    let work = Work::Verdicts(vec![table(rows)]);
-    Case { group: "verdict", name, size: format!("{} lengths", grouped(lengths)), work, status, target: 1.3 }
+/// All lengths are looked at, up to H and the largest d.
+fn feasible(name: &'static str, rows: &[Row], lengths: u64) -> Case {
+    Case { status: 20, first: Some(0), ..verdict(name, rows, lengths) }
+}
+
+/// The lengths are looked at up to the witness.
+fn overloaded(name: &'static str, rows: &[Row], witness: u64) -> Case {
+    Case { status: 21, first: Some(witness), ..verdict(name, rows, witness) }
+}
+
+fn verdict(name: &'static str, rows: &[Row], lengths: u64) -> Case {
+    let size = format!("{} lengths", grouped(lengths));
+    Case { group: "verdict", name, size, work: Work::Verdicts(vec![table(rows)]), status: 0, first: None, target: 1.3 }
 }
 
 fn replays() -> Vec<Case> {
@@ -89,9 +101,9 @@ fn replay(name: &'static str, rows: &[Row], records: &[(u64, u64, u64)]) -> Case
         }
     }
     let units: u64 = records.iter().map(|record| record.2).sum();
-    let size = format!("{} records, {} units", grouped(records.len()), grouped(units as usize));
+    let size = format!("{} records, {} units", grouped(records.len() as u64), grouped(units));
     let work = Work::Replay { table: table(rows), script };
-    Case { group: "replay", name, size, work, status: 22, target: 2.0 }
+    Case { group: "replay", name, size, work, status: 22, first: None, target: 2.0 }
 }
 
 /// Numbers are read in tables of 65 with a byte too many: all are read and tested, and then comes refusal 4.
@@ -113,8 +125,8 @@ fn reading(name: &'static str, most: Row) -> Case {
             bytes
         })
         .collect();
-    let size = format!("{} numbers", grouped(65 * count));
-    Case { group: "reading", name, size, work: Work::Verdicts(tables), status: 4, target: 1.5 }
+    let size = format!("{} numbers", grouped(65 * count as u64));
+    Case { group: "reading", name, size, work: Work::Verdicts(tables), status: 4, first: None, target: 1.5 }
 }
 
 fn table(rows: &[Row]) -> Vec<u8> {
@@ -137,7 +149,7 @@ fn spell(bytes: &mut Vec<u8>, mut number: u64) {
 }
 
 /// 1,048,576 for 1048576.
-fn grouped(number: usize) -> String {
+fn grouped(number: u64) -> String {
     let digits = number.to_string();
     let mut said = String::new();
     for (i, digit) in digits.chars().enumerate() {

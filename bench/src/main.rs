@@ -68,7 +68,11 @@ fn measure(case: &Case, rounds: usize) -> String {
     make(&PLAIN, &case.work, &mut plain);
     let Case { group, name, size, target, .. } = case;
     assert!(proved == plain, "{group}, {name}: the answers differ");
-    assert!(proved.answers.iter().all(|said| said.0 == case.status), "{group}, {name}: status {}", proved.answers[0].0);
+    for (status, answer) in &proved.answers {
+        let first = u64::from_le_bytes(answer[..8].try_into().unwrap());
+        let expected = *status == case.status && case.first.is_none_or(|number| number == first);
+        assert!(expected, "{group}, {name}: status {status} with {first}");
+    }
 
     let mut best = [Duration::MAX; 2];
     let mut together = Duration::ZERO;
