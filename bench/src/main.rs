@@ -1,0 +1,113 @@
+//! Times of the proved program beside those of plain ones: each pair on the same input, by turns in one run, the best
+//! of several rounds of each. Prints a Markdown table. A pair is timed only after its answers were found the same.
+//! What is measured is processor time, so that other programs on the machine count for less.
+
+mod cases;
+mod clock;
+mod library;
+mod plain;
+
+use cases::{Case, Work};
+use std::env;
+use std::hint::black_box;
+use std::time::Duration;
+
+/// The least number of rounds, and the least time that the rounds of a pair take together.
+const ROUNDS: usize = 11;
+const TOGETHER: Duration = Duration::from_millis(1_000);
+/// Where this still stands in a log, nothing was written.
+const UNTOUCHED: u8 = 0xA5;
+
+/// The two calls of one of the programs.
+struct Program {
+    verdict: fn(&[u8], &mut [u8]) -> u32,
+    replay: fn(&[u8], &[u8], &mut [u8], &mut [u8]) -> u32,
+}
+
+const LIBRARY: Program = Program { verdict: library::verdict, replay: library::replay };
+const PLAIN: Program = Program { verdict: plain::verdict, replay: plain::replay };
+
+/// What the calls answered: the status and the answer of each, and the log.
+#[derive(PartialEq)]
+struct Said {
+    answers: Vec<(u32, [u8; 16])>,
+    log: Vec<u8>,
+}
+
+impl Said {
+    fn nothing(work: &Work) -> Said {
+        let (calls, room) = match work {
+            Work::Verdicts(tables) => (tables.len(), 0),
+            Work::Replay { script, .. } => (1, 10 * script.len()),
+        };
+        Said { answers: vec![(0, [UNTOUCHED; 16]); calls], log: vec![UNTOUCHED; room] }
+    }
+}
+
+fn main() {
+    let words: Vec<String> = env::args().skip(1).collect();
+    let rounds = match env::var("JYRMEKKO_ROUNDS") {
+        Ok(said) => said.parse().ok().filter(|&n| n > 0).expect("JYRMEKKO_ROUNDS is a number above 0"),
+        Err(_) => ROUNDS,
+    };
+    println!("| | case | size | proved, ms | plain, ms | ratio | at most | |");
+    println!("|---|---|---|--:|--:|--:|--:|---|");
+    for case in cases::all() {
+        if words.is_empty() || words.iter().any(|word| case.group == word || case.name.contains(word.as_str())) {
+            println!("{}", measure(&case, rounds));
+        }
+    }
+    println!("\nBest of at least {rounds} rounds, by turns; processor time.");
+}
+
+/// One line of the table.
+fn measure(case: &Case, rounds: usize) -> String {
+    let mut proved = Said::nothing(&case.work);
+    let mut plain = Said::nothing(&case.work);
+    make(&LIBRARY, &case.work, &mut proved);
+    make(&PLAIN, &case.work, &mut plain);
+    let Case { group, name, size, target, .. } = case;
+    assert!(proved == plain, "{group}, {name}: the answers differ");
+    for (status, answer) in &proved.answers {
+        let first = u64::from_le_bytes(answer[..8].try_into().unwrap());
+        let expected = *status == case.status && case.first.is_none_or(|number| number == first);
+        assert!(expected, "{group}, {name}: status {status} with {first}");
+    }
+
+    let mut best = [Duration::MAX; 2];
+    let mut together = Duration::ZERO;
+    let mut done = 0;
+    while done < rounds || together < TOGETHER {
+        let taken = [time(&LIBRARY, &case.work, &mut proved), time(&PLAIN, &case.work, &mut plain)];
+        best = [best[0].min(taken[0]), best[1].min(taken[1])];
+        together += taken[0] + taken[1];
+        done += 1;
+    }
+    assert!(proved == plain, "{group}, {name}: the answers differ after the rounds");
+    let [proved, plain] = best.map(|duration| duration.as_secs_f64() * 1e3);
+    let ratio = proved / plain;
+    let met = if ratio <= *target { "met" } else { "**missed**" };
+    format!("| {group} | {name} | {size} | {proved:.2} | {plain:.2} | {ratio:.2} | {target:.1} | {met} |")
+}
+
+fn time(program: &Program, work: &Work, said: &mut Said) -> Duration {
+    let start = clock::now();
+    make(program, black_box(work), said);
+    black_box(said);
+    clock::now() - start
+}
+
+/// Makes the calls.
+fn make(program: &Program, work: &Work, said: &mut Said) {
+    match work {
+        Work::Verdicts(tables) => {
+            for (table, (status, answer)) in tables.iter().zip(&mut said.answers) {
+                *status = black_box(program.verdict)(table, answer);
+            }
+        }
+        Work::Replay { table, script } => {
+            let (status, answer) = &mut said.answers[0];
+            *status = black_box(program.replay)(table, script, &mut said.log, answer);
+        }
+    }
+}

@@ -1,0 +1,41 @@
+//! The plain programs: the two calls as one would write them in Rust without a proof in mind. They keep every rule and
+//! every refusal, so that they do the same work, and take no short cut that the rules don't name.
+
+mod numbers;
+mod replay;
+mod table;
+mod verdict;
+
+/// A refusal: its number, and its place.
+pub struct Refused(pub u32, pub usize);
+
+pub fn verdict(table: &[u8], answer: &mut [u8]) -> u32 {
+    if answer.len() != 16 {
+        return 13;
+    }
+    match verdict::judge(table) {
+        Ok(None) => say(answer, 20, 0, 0),
+        Ok(Some((length, demand))) => say(answer, 21, length, demand),
+        Err(Refused(number, place)) => say(answer, number, place as u64, 0),
+    }
+}
+
+pub fn replay(table: &[u8], script: &[u8], log: &mut [u8], answer: &mut [u8]) -> u32 {
+    if answer.len() != 16 {
+        return 13;
+    }
+    match replay::replay(table, script, log) {
+        Ok((length, 0)) => say(answer, 22, length as u64, 0),
+        Ok((length, late)) => say(answer, 23, length as u64, late),
+        Err(Refused(number, place)) => {
+            log.fill(0);
+            say(answer, number, place as u64, 0)
+        }
+    }
+}
+
+fn say(answer: &mut [u8], status: u32, first: u64, second: u64) -> u32 {
+    answer[..8].copy_from_slice(&first.to_le_bytes());
+    answer[8..].copy_from_slice(&second.to_le_bytes());
+    status
+}

@@ -1,0 +1,31 @@
+//! Numbers in groups of seven bits, the lowest first.
+
+const GROUPS: usize = 6;
+
+/// The number at a place and the place after it, or none where it is misspelled, too long or cut off.
+pub fn read(bytes: &[u8], at: usize) -> Option<(u64, usize)> {
+    let mut value = 0;
+    for i in 0..GROUPS {
+        let byte = *bytes.get(at + i)?;
+        value |= u64::from(byte & 127) << (7 * i);
+        if byte < 128 {
+            if i > 0 && byte == 0 {
+                return None;
+            }
+            return Some((value, at + i + 1));
+        }
+    }
+    None
+}
+
+/// Writes a number at the start of a buffer, and says how long it is.
+pub fn write(buffer: &mut [u8], mut value: u64) -> usize {
+    let mut i = 0;
+    while value >= 128 {
+        buffer[i] = value as u8 | 128;
+        value >>= 7;
+        i += 1;
+    }
+    buffer[i] = value as u8;
+    i + 1
+}

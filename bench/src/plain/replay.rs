@@ -1,0 +1,142 @@
+//! Replay: pending jobs in a vector, the due times of each row in a queue, a linear scan for the job that is due first.
+
+use super::numbers::{read, write};
+use super::table::{read_table, Row};
+use super::Refused;
+use std::collections::VecDeque;
+
+const LATEST: u64 = 1 << 40;
+const PLACES: usize = 64;
+/// Five numbers of six groups.
+const RECORD: usize = 30;
+
+struct Job {
+    serial: u64,
+    row: usize,
+    release: u64,
+    due: u64,
+    left: u64,
+}
+
+struct Run<'a> {
+    clock: u64,
+    pending: Vec<Job>,
+    log: &'a mut [u8],
+    length: usize,
+    full: bool,
+    late: u64,
+}
+
+/// The log's length, and how many jobs were late.
+pub fn replay(table: &[u8], script: &[u8], log: &mut [u8]) -> Result<(usize, u64), Refused> {
+    let rows = read_table(table)?.rows;
+    let mut kept: Vec<VecDeque<u64>> = rows.iter().map(|_| VecDeque::new()).collect();
+    let mut run = Run { clock: 0, pending: Vec::new(), log, length: 0, full: false, late: 0 };
+    let mut serial = 0;
+    let mut at = 0;
+    while at < script.len() {
+        let start = at;
+        let gap = number(script, &mut at)?;
+        let time = run.clock + gap;
+        if time > LATEST {
+            return Err(Refused(10, start));
+        }
+        let place = at;
+        let number_of_row = number(script, &mut at)?;
+        if number_of_row >= rows.len() as u64 {
+            return Err(Refused(6, place));
+        }
+        let row = number_of_row as usize;
+        let place = at;
+        let cost = number(script, &mut at)?;
+        if cost < 1 || cost > rows[row].c {
+            return Err(Refused(7, place));
+        }
+        while run.clock < time {
+            if run.pending.is_empty() {
+                run.clock = time;
+            } else {
+                run.tick();
+            }
+        }
+        if run.pending.len() == PLACES {
+            return Err(Refused(8, start));
+        }
+        let due = due_time(&rows[row], &mut kept[row], time).ok_or(Refused(9, start))?;
+        run.pending.push(Job { serial, row, release: time, due, left: cost });
+        serial += 1;
+    }
+    while !run.pending.is_empty() {
+        if run.clock == LATEST {
+            return Err(Refused(10, script.len()));
+        }
+        run.tick();
+    }
+    if run.full {
+        return Err(Refused(12, script.len()));
+    }
+    Ok((run.length, run.late))
+}
+
+fn number(script: &[u8], at: &mut usize) -> Result<u64, Refused> {
+    let (value, next) = read(script, *at).ok_or(Refused(14, *at))?;
+    *at = next;
+    Ok(value)
+}
+
+/// The due time of a row's next job, which is kept; none where it is too late.
+fn due_time(row: &Row, kept: &mut VecDeque<u64>, release: u64) -> Option<u64> {
+    let mut due = release + row.d;
+    let spaced = kept.len() as u64 == row.x;
+    if spaced {
+        due = due.max(kept[0] + row.y);
+    }
+    if due > LATEST {
+        return None;
+    }
+    if spaced {
+        kept.pop_front();
+    }
+    kept.push_back(due);
+    Some(due)
+}
+
+impl Run<'_> {
+    /// One unit for the pending job that is due first, the lowest serial among equals.
+    fn tick(&mut self) {
+        self.clock += 1;
+        let mut at = 0;
+        for i in 1..self.pending.len() {
+            let (job, best) = (&self.pending[i], &self.pending[at]);
+            if (job.due, job.serial) < (best.due, best.serial) {
+                at = i;
+            }
+        }
+        self.pending[at].left -= 1;
+        if self.pending[at].left == 0 {
+            let job = self.pending.remove(at);
+            self.finish(job);
+        }
+    }
+
+    fn finish(&mut self, job: Job) {
+        if job.due < self.clock {
+            self.late += 1;
+        }
+        if self.full {
+            return;
+        }
+        let mut record = [0; RECORD];
+        let mut n = 0;
+        for value in [job.serial, job.row as u64, job.release, job.due, self.clock] {
+            n += write(&mut record[n..], value);
+        }
+        match self.log.get_mut(self.length..self.length + n) {
+            Some(rest) => {
+                rest.copy_from_slice(&record[..n]);
+                self.length += n;
+            }
+            None => self.full = true,
+        }
+    }
+}
