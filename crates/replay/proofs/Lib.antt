@@ -1,6 +1,10 @@
+pub mod Places
+pub mod Rings
 pub mod Writing
 pub mod Logging
 pub mod Playing
+pub mod Ticking
+pub mod Arriving
 pub mod Replaying
 pub mod Through
 pub mod Moves

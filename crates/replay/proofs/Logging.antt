@@ -2,7 +2,7 @@
 use Prim.Native.Nat.{ℕ, _+_, _-_, _≤_, _<_}
 use mathlib.Core.Path.{_≡_, refl, sym, _∙_}
 use mathlib.Core.Bool.{true, false, cond}
-use mathlib.Core.List.{List, [], _∷_, _++_, flatten, append-nil, append-assoc, List·Memᴰ·head, List·Memᴰ·tail}
+use mathlib.Core.List.{List, [], _∷_, _++_, flatten}
 use native.Mathlib.Nat.{add-assoc}
 use native.Mathlib.Omega.{arith}
 use lib.ListN.{length, length-append, take-append-drop}
@@ -11,22 +11,14 @@ use Rattle.theory.proofs.Cases.{by-lt, by-test}
 use Rattle.kinds.specs.declared.Finish.{Finish}
 use Rattle.kinds.specs.declared.Refusal.the-variants.{NoRoom}
 use Rattle.log.specs.Log.{valuesOf, spelledFinish, allInRange}
-use Rattle.log.specs.Laws.{spelledLog, EachInRange, Holds}
+use Rattle.log.specs.Laws.{spelledLog, Holds}
 use Rattle.log.proofs.Records.{answers-no-room, answers-length}
 use Rattle.log.proofs.Laws.{log-grows}
 use Rattle.replay.specs.declared.Logged.{Logged}
 use Rattle.replay.specs.declared.Replayed.the-variants as replayed
 use Rattle.replay.specs.Play.{Progress, whole}
 use Rattle.replay.specs.Outcome.{finishedLate, lateFinishes, answerOf}
-use Rattle.replay.specs.Inside.{oneLogged, loggedAfter, oneWritten, logWith}
-
--- So far these jobs have finished. Their late ones are counted; and the log holds them all, or has no room for them.
-pub record Logs (fs : List Finish) (log₀ log : List ℕ) (l : Logged) : Type 0 where
-  pub late : l .late ≡ lateFinishes fs
-  pub within : l .length ≤ length log
-  pub same-length : length log ≡ length log₀
-  pub holds : l .full ≡ false → Holds fs log₀ log (l .length)
-  pub no-room : l .full ≡ true → length log₀ < length (spelledLog fs)
+use Rattle.replay.specs.Inside.{oneLogged, oneWritten, Logs}
 
 -- Before the first.
 pub logs-none : (log : List ℕ) → Logs [] log log (record { length = 0; late = 0; full = false })
@@ -102,23 +94,10 @@ module _ {fs : List Finish} {log₀ log : List ℕ} {l : Logged} (w : Logs fs lo
         })
 
   -- One of the three.
-  logs-one-more : Logs (fs ++ (f ∷ [])) log₀ (oneWritten l f log) (oneLogged (length log) l f)
+  pub logs-one-more : Logs (fs ++ (f ∷ [])) log₀ (oneWritten l f log) (oneLogged (length log) l f)
   logs-one-more =
       by-test (l .full) logs-full λ not-full.
       by-lt (length log - l .length) (length (spelledFinish f)) (logs-overflows not-full) (logs-fits not-full)
-
--- ---- many more
-
--- So it goes for as many as finish.
-pub logs-more : {fs : List Finish} {log₀ log : List ℕ} {l : Logged} (gs : List Finish) → Logs fs log₀ log l → EachInRange gs
-    → Logs (fs ++ gs) log₀ (logWith l gs log) (loggedAfter (length log) l gs)
-unfolding logWith loggedAfter
-logs-more {fs} [] w r = rw append-nil w
-logs-more {fs} {log₀} {log} {l} (g ∷ gs) w r =
-    let one = logs-one-more w g (r g (List·Memᴰ·head refl)) in
-    let same : length (oneWritten l g log) ≡ length log = one .same-length ∙ sym (w .same-length) in
-    let all = logs-more gs one (λ f m. r f (List·Memᴰ·tail m)) in
-    rw (append-assoc, same) at all
 
 -- ---- the answer, once all have finished
 

@@ -1,59 +1,62 @@
--- What the functions inside replay do, for their contracts: one record by the run's own calls, and the records of a log as they are written.
-use Prim.Native.Nat.{ℕ, _+_, _-_}
+-- What the functions inside replay do, for their contracts: pending jobs and kept due times as arrays of numbers, and the records of a log as they are written.
+use Prim.Native.Nat.{ℕ, _+_, _-_, _*_, _≤_, _<_}
 use mathlib.Core.Path.{_≡_}
-use mathlib.Core.Bool.{true, false, cond}
-use mathlib.Core.List.{List, [], _∷_, _++_}
-use lib.ListN.{length, take, drop}
+use mathlib.Core.Bool.{Bool, true, false, cond}
+use mathlib.Core.List.{List, _++_, map}
+use lib.Dec.{ltb}
+use lib.ListN.{length, take, drop, getD}
+use Rattle.kinds.specs.Numbering.{maxTime}
 use Rattle.kinds.specs.declared.Finish.{Finish}
-use Rattle.kinds.specs.declared.RefusedAt.{RefusedAt}
+use Rattle.kinds.specs.declared.Tick.{Tick}
 use Rattle.numbers.specs.declared.Written.{Written}
 use Rattle.numbers.specs.declared.Written.the-variants as written
-use Rattle.jobs.specs.declared.Finishes.{Finishes}
-use Rattle.jobs.specs.Turns.{finishesOf}
+use Rattle.table.specs.declared.Row.{Row}
+use Rattle.table.specs.Limits.{maxRows}
+use Rattle.table.specs.Rows.{rowInRange}
+use Rattle.due.specs.declared.Kept.{Kept}
+use Rattle.due.specs.declared.Due.{Due}
+use Rattle.due.specs.declared.Due.the-variants as due
+use Rattle.due.specs.Kept.{maxKept, keptTimes, dueOf, keptWith}
+use Rattle.jobs.specs.declared.Job.{Job}
+use Rattle.jobs.specs.Places.{maxPlaces, jobsOf, without}
+use Rattle.jobs.specs.Choice.{firstPlace}
 use Rattle.run.specs.declared.Run.{Run}
-use Rattle.run.specs.declared.Advanced.{Advanced}
-use Rattle.run.specs.declared.Released.{Released}
-use Rattle.run.specs.declared.Released.the-variants as release
-use Rattle.run.specs.Release.{released}
-use Rattle.run.specs.Advance.{advanced}
+use Rattle.run.specs.Runs.{rowAt, keptOf}
+use Rattle.run.specs.Sound.{soundOf, Whole}
+use Rattle.run.specs.Advance.{Since, ticksWhilePending}
 use Rattle.log.specs.Log.{writtenRecord, restAfter}
-use Rattle.replay.specs.declared.Numbers.{Numbers}
-use Rattle.replay.specs.declared.Ready.{Ready}
-use Rattle.replay.specs.declared.Tested.{Tested}
-use Rattle.replay.specs.declared.Tested.the-variants as tested
-use Rattle.replay.specs.declared.Stepped.{Stepped}
-use Rattle.replay.specs.declared.StepAnswer.the-variants as answer
+use Rattle.log.specs.Laws.{spelledLog, EachInRange, Holds}
 use Rattle.replay.specs.declared.Replayed.{Replayed}
 use Rattle.replay.specs.declared.Replayed.the-variants as replayed
 use Rattle.replay.specs.declared.Logged.{Logged}
-use Rattle.replay.specs.Numbers.{testedNumbers}
-use Rattle.replay.specs.Outcome.{finishedLate, logAfter}
+use Rattle.replay.specs.Outcome.{finishedLate, lateFinishes, logAfter}
 
--- ---- one record
+-- ---- jobs as lists of numbers
 
-abbrev pub stoppedStep : Run → Finishes → RefusedAt → Stepped
-stoppedStep run fs r = record { run = run; finishes = fs; answer = answer.Refused r }
+-- Jobs, and the same a field to a list.
+pub record Columns (js : List Job) (serials rows releases dues left : List ℕ) : Type 0 where
+  pub serial-is : map (λ (j : Job). j .serial .0) js ≡ serials
+  pub row-is : map (λ (j : Job). j .row .0) js ≡ rows
+  pub release-is : map (λ (j : Job). j .release .0) js ≡ releases
+  pub due-is : map (λ (j : Job). j .due .0) js ≡ dues
+  pub left-is : map (λ (j : Job). j .left) js ≡ left
 
-abbrev pub afterReleased : (place next : ℕ) → Finishes → Run → Released → Stepped
-afterReleased place next fs run (release.Accepted a) = record { run = run; finishes = fs; answer = answer.Next next }
-afterReleased place next fs run (release.Refused r) = stoppedStep run fs (record { refusal = r; place = place })
+-- One due time and serial go before others.
+abbrev pub before : (due serial other its : ℕ) → Bool
+before due serial other its = cond (ltb due other) true (cond (ltb other due) false (ltb serial its))
 
-abbrev pub releaseAfter : (place : ℕ) → Ready → Advanced → Stepped
-releaseAfter place r a = let step = released (a .run) (r .row .0) (r .cost) in afterReleased place (r .next) (a .finishes) (step .run) (step .answer)
+-- The place is one of the first n, and that of the job that goes first, of whatever n jobs have these due times and serials.
+pub record IsFirstOf (dues serials : List ℕ) (n at : ℕ) : Type 0 where
+  pub inside : at < n
+  pub first : (js : List Job) → length js ≡ n → map (λ (j : Job). j .due .0) js ≡ dues → map (λ (j : Job). j .serial .0) js ≡ serials
+      → at ≡ firstPlace js
 
-abbrev pub onTested : (place : ℕ) → Run → Tested → Stepped
-onTested place run (tested.Ready r) = releaseAfter place r (advanced run (r .time .0))
-onTested place run (tested.Refused r) = stoppedStep run (finishesOf []) r
-
--- One record by the calls that a run has: the time crossed in one go, and the release.
-abbrev pub stepOf : Run → Numbers → Stepped
-stepOf run n = onTested (n .gap .place) run (testedNumbers (run .table) (run .clock .0) n)
+-- What stood at a place of a list up to the last is taken out: those after it stand one place lower. The list stays as long.
+pub record ClosedUp (at last : ℕ) (l after : List ℕ) : Type 0 where
+  pub same-length : length after ≡ length l
+  pub gone : last < length l → take last after ≡ without (take (last + 1) l) at
 
 -- ---- the log as it is written
-
--- The jobs that were handed out, in order.
-abbrev pub finishesIn : Finishes → List Finish
-finishesIn fs = take (fs .count) (fs .records)
 
 abbrev pub lateOr : Logged → Finish → ℕ
 lateOr l f = l .late + cond (finishedLate f) 1 0
@@ -67,18 +70,130 @@ abbrev pub oneLogged : (room : ℕ) → Logged → Finish → Logged
 oneLogged room l f =
     cond (l .full) (record { length = l .length; late = lateOr l f; full = true }) (moreWritten l f (writtenRecord f (room - l .length)))
 
-unfoldable pub loggedAfter : (room : ℕ) → Logged → List Finish → Logged
-loggedAfter room l [] = l
-loggedAfter room l (f ∷ fs) = loggedAfter room (oneLogged room l f) fs
-
 -- The log with one record more.
 abbrev pub oneWritten : Logged → Finish → List ℕ → List ℕ
 oneWritten l f log =
     cond (l .full) log (take (l .length) log ++ restAfter (writtenRecord f (length log - l .length)) f (drop (l .length) log))
 
-unfoldable pub logWith : Logged → List Finish → List ℕ → List ℕ
-logWith l [] log = log
-logWith l (f ∷ fs) log = logWith (oneLogged (length log) l f) fs (oneWritten l f log)
+-- One record more is logged, within the log's length, and at most one more is late.
+pub record OneLogged (l : Logged) (f : Finish) (log after : List ℕ) (m : Logged) : Type 0 where
+  pub says : m ≡ oneLogged (length log) l f
+  pub holds : after ≡ oneWritten l f log
+  pub same-length : length after ≡ length log
+  pub within : m .length ≤ length log
+  pub few-late : m .late ≤ l .late + 1
+
+-- So far these jobs have finished. Their late ones are counted; and the log holds them all, or has no room for them.
+pub record Logs (fs : List Finish) (log₀ log : List ℕ) (l : Logged) : Type 0 where
+  pub late : l .late ≡ lateFinishes fs
+  pub within : l .length ≤ length log
+  pub same-length : length log ≡ length log₀
+  pub holds : l .full ≡ false → Holds fs log₀ log (l .length)
+  pub no-room : l .full ≡ true → length log₀ < length (spelledLog fs)
+
+-- ---- ticks on arrays
+
+-- What holds of a replay on its way: its run is sound, the jobs that finished have numbers with spellings, and all that have a serial finished or are pending.
+pub record OnItsWay (s : Since) : Type 0 where
+  pub good : (soundOf (s .run) ≡ true) × Whole (s .run)
+  pub in-range : EachInRange (s .finishes)
+  pub all-there : length (s .finishes) + s .run .pending .count ≡ s .run .next .0
+
+-- Pending jobs in arrays, a field to an array, in the first `count` places; the clock; a log, and what is written of it.
+pub record Held : Type 0 where
+  pub serials : List ℕ
+  pub rows : List ℕ
+  pub releases : List ℕ
+  pub dues : List ℕ
+  pub left : List ℕ
+  pub log : List ℕ
+  pub count : ℕ
+  pub clock : ℕ
+  pub logged : Logged
+
+abbrev pub held : (serials rows releases dues left log : List ℕ) (count clock : ℕ) (logged : Logged) → Held
+held serials rows releases dues left log count clock logged = record {
+  serials = serials;
+  rows = rows;
+  releases = releases;
+  dues = dues;
+  left = left;
+  log = log;
+  count = count;
+  clock = clock;
+  logged = logged;
+}
+
+-- Every array has all the places.
+pub record AllPlaces (h : Held) : Type 0 where
+  pub of-serials : length (h .serials) ≡ maxPlaces
+  pub of-rows : length (h .rows) ≡ maxPlaces
+  pub of-releases : length (h .releases) ≡ maxPlaces
+  pub of-dues : length (h .dues) ≡ maxPlaces
+  pub of-left : length (h .left) ≡ maxPlaces
+
+-- They hold the pending jobs of a replay on its way, its clock, and the jobs that finished so far.
+pub record Stands (s : Since) (log₀ : List ℕ) (h : Held) : Type 0 where
+  pub on-its-way : OnItsWay s
+  pub all-places : AllPlaces h
+  pub counts : s .run .pending .count ≡ h .count
+  pub clocks : s .run .clock .0 ≡ h .clock
+  pub columns : Columns (jobsOf (s .run .pending)) (take (h .count) (h .serials)) (take (h .count) (h .rows)) (take (h .count) (h .releases))
+      (take (h .count) (h .dues)) (take (h .count) (h .left))
+  pub logs : Logs (s .finishes) log₀ (h .log) (h .logged)
+
+-- Whatever replay they hold, after it they hold the same one after its ticks until a time, or until nothing is pending.
+abbrev pub LeadsTo : (until : ℕ) → Held → Held → Type 0
+LeadsTo until h g = (s : Since) (log₀ : List ℕ) → Stands s log₀ h → Stands (ticksWhilePending (until - h .clock) s) log₀ g
+
+-- ---- kept due times in arrays
+
+-- The kept due times of all rows: each row's stand in its own part of the times, in a ring; how many there are, and at which place of the ring the oldest stands.
+pub record Ring : Type 0 where
+  pub times : List ℕ
+  pub many : List ℕ
+  pub oldest : List ℕ
+
+abbrev pub ring : (times many oldest : List ℕ) → Ring
+ring times many oldest = record { times = times; many = many; oldest = oldest }
+
+-- The places of a row's ring that are in use ..
+abbrev pub placesOf : Ring → (row : ℕ) → List ℕ
+placesOf g row = take (getD (g .many) row 0) (drop (row * maxKept) (g .times))
+
+-- .. and what stands there, from the oldest on.
+abbrev pub inOrder : Ring → (row : ℕ) → List ℕ
+inOrder g row = drop (getD (g .oldest) row 0) (placesOf g row) ++ take (getD (g .oldest) row 0) (placesOf g row)
+
+-- A row's kept due times stand so. The oldest stands at the first place until as many as x are kept.
+pub record KeptAt (g : Ring) (row x : ℕ) (k : Kept) : Type 0 where
+  pub room : row * maxKept + maxKept ≤ length (g .times)
+  pub counted : row < length (g .many)
+  pub turned : row < length (g .oldest)
+  pub counts : k .count ≡ getD (g .many) row 0
+  pub few : getD (g .many) row 0 ≤ x
+  pub inside : getD (g .oldest) row 0 < x
+  pub starts : getD (g .many) row 0 < x → getD (g .oldest) row 0 ≡ 0
+  pub stands : map (λ (t : Tick). t .0) (keptTimes k) ≡ inOrder g row
+
+-- Those of every row of a run in use do.
+abbrev pub KeptIn : Ring → Run → Type 0
+KeptIn g run = (row : ℕ) → row < run .table .count → KeptAt g row (rowAt (run .table) row .x) (keptOf run row)
+
+-- What keeps the numbers in range when a row's next job is given its due time.
+pub record Fits (g : Ring) (number : ℕ) (row : Row) (clock : ℕ) : Type 0 where
+  pub in-use : number < maxRows
+  pub in-range : rowInRange row ≡ true
+  pub clock-in-time : clock ≤ maxTime
+  pub few : getD (g .many) number 0 ≤ row .x
+  pub inside : getD (g .oldest) number 0 < row .x
+  pub in-time : row .x ≤ getD (g .many) number 0 → getD (g .times) (number * maxKept + getD (g .oldest) number 0) 0 ≤ maxTime
+
+-- The due time is the one by what is kept of the row, and is kept; and what is kept of other rows stays.
+pub record Gives (g : Ring) (number : ℕ) (row : Row) (clock : ℕ) (r : Due) (after : Ring) : Type 0 where
+  pub by-kept : (k : Kept) → KeptAt g number (row .x) k → r ≡ dueOf k row clock
+  pub keeps : (k : Kept) (t : Tick) → KeptAt g number (row .x) k → r ≡ due.At t → KeptAt after number (row .x) (keptWith k row t)
+  pub others : (other x : ℕ) (k : Kept) → (other ≡ number → ⊥) → x ≤ maxKept → KeptAt g other x k → KeptAt after other x k
 
 -- What a play leaves of a log: its records where it answers a length, and something as long as before where it refuses.
 abbrev pub LeftIn : Replayed → List Finish → (log₀ log : List ℕ) → Type 0

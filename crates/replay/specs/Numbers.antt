@@ -1,8 +1,8 @@
 -- The three numbers of a record, and the tests of them that need only the table and the time reached. (docs/RULES.md, section 8.5, steps 1 to 6.)
 use Prim.Native.Nat.{ℕ, _+_}
-use mathlib.Core.Bool.{cond}
+use mathlib.Core.Bool.{Bool, cond}
 use mathlib.Core.List.{List}
-use lib.Dec.{leb}
+use lib.Dec.{leb, ltb}
 use Rattle.kinds.specs.Numbering.{maxTime}
 use Rattle.kinds.specs.declared.Refusal.{Refusal}
 use Rattle.kinds.specs.declared.Refusal.the-variants.{NoSuchRow, CostOutOfRange, TimeTooLate}
@@ -10,7 +10,7 @@ use Rattle.numbers.specs.declared.Number.{Number}
 use Rattle.numbers.specs.declared.NumberRead.{NumberRead}
 use Rattle.numbers.specs.declared.NumberRead.the-variants as number
 use Rattle.table.specs.declared.Table.{Table}
-use Rattle.run.specs.Runs.{rowInUse, costLimit}
+use Rattle.run.specs.Runs.{costLimit}
 use Rattle.run.specs.Sound.{fromOneTo}
 use Rattle.script.specs.Records.{scriptNumber}
 use Rattle.replay.specs.declared.Placed.{Placed}
@@ -42,16 +42,20 @@ abbrev pub onNumber : NumberRead → (Number → Tested) → Tested
 onNumber (number.Number n) k = k n
 onNumber (number.Refused r) k = tested.Refused r
 
--- The tests in their order, each number before the next is looked at: gap 14, 10, row number 14, 6, cost 14, 7.
-abbrev pub testedNumbers : Table → (time : ℕ) → Numbers → Tested
-testedNumbers t time n =
+-- The tests in their order, each number before the next is looked at: gap 14, 10, row number 14, 6, cost 14, 7. They know how many rows there are, and what a job of
+-- a row may cost.
+abbrev pub testedBy : (rows : ℕ) (allowed : (row cost : ℕ) → Bool) (time : ℕ) → Numbers → Tested
+testedBy rows allowed time n =
     onNumber (n .gap .read) λ gap.
     cond (leb (time + gap .value) maxTime)
     (onNumber (n .row .read) λ row.
-    cond (rowInUse t (row .value))
+    cond (ltb (row .value) rows)
     (onNumber (n .cost .read) λ cost.
-    cond (fromOneTo (costLimit t (row .value)) (cost .value))
+    cond (allowed (row .value) (cost .value))
     (tested.Ready (record { time = record { 0 = time + gap .value }; row = record { 0 = row .value }; cost = cost .value; next = cost .next }))
     (refusedAt CostOutOfRange (n .cost .place)))
     (refusedAt NoSuchRow (n .row .place)))
     (refusedAt TimeTooLate (n .gap .place))
+
+abbrev pub testedNumbers : Table → (time : ℕ) → Numbers → Tested
+testedNumbers t time n = testedBy (t .count) (λ row cost. fromOneTo (costLimit t row) cost) time n

@@ -2,23 +2,24 @@
 use native.Mathlib.Omega.{arith}
 use mathlib.Core.Path.{_∙_}
 use borrow.Author.Needs.{needs}
-use Rattle.replay.proofs.Writing.{GapFits, RowFits, gap-unread, time-too-late, row-unread, no-such-row, cost-unread, no-cost, cost-too-high, ready}
+use borrow.Author.Tests.{le-leb, lt-leb}
+use Rattle.replay.proofs.Writing.{GapFits, RowFits, gap-unread, time-too-late, row-unread, no-such-row, cost-unread, not-allowed, ready, someCost}
 use Rattle.replay.proofs.test_numbers.Statement.{statement}
 use Rattle.replay.proofs.test_numbers.Tie as tie
 
 -- Past the first test the gap fits ..
 gap-fits : (c : tie.Else1)
-    → (let read = c .before .before .before .before in
+    → (let read = c .before .before .before in
     let a = read .before .before .before .before .before .args in
-    GapFits (a .t2) (a .time .0) (a .numbers) (read .gap-read .given .0 .0))
-gap-fits c = record { gap-read = c .before .before .before .before .gap-read .given .1; in-time = omega arith }
+    GapFits (a .time) (a .numbers) (read .gap-read .given .0 .0))
+gap-fits c = record { gap-read = c .before .before .before .gap-read .given .1; in-time = omega arith }
 
 -- .. and past the second the row number.
 row-fits : (c : tie.Else2)
     → (let read = c .before .before .before in
-    let gap = read .before .before .before .before .before .before in
+    let gap = read .before .before .before .before .before in
     let a = gap .before .before .before .before .before .args in
-    RowFits (a .t2) (a .time .0) (a .numbers) (gap .gap-read .given .0 .0) (read .row-read .given .0 .0))
+    RowFits (a .rows) (a .time) (a .numbers) (gap .gap-read .given .0 .0) (read .row-read .given .0 .0))
 row-fits c =
     let read = c .before .before .before in
     record { gap-fits = gap-fits (read .before .before); row-read = read .row-read .given .1; in-use = c .if2 .left }
@@ -30,7 +31,9 @@ enum-known-gap-read-2 : tie.Need-enum-known-gap-read-2
 enum-known-gap-read-2 c = search needs
 
 returns : tie.Need-returns
-returns c = let a = c .before .before .before .before .before .before .args in gap-unread (a .t2) (a .time .0) (a .numbers) (c .before .gap-read2 .given .1)
+returns c =
+    let a = c .before .before .before .before .before .before .args in
+    gap-unread (a .rows) someCost (a .time) (a .numbers) (c .before .gap-read2 .given .1)
 
 sub-if1 : tie.Need-sub-if1
 sub-if1 c = search needs
@@ -40,9 +43,9 @@ refused-at-requires c κs = search needs
 
 returns-2 : tie.Need-returns-2
 returns-2 c =
-    let read = c .before .before .before .before .before in
+    let read = c .before .before .before .before in
     let a = read .before .before .before .before .before .args in
-    c .refused-at .ensures ∙ time-too-late (a .t2) (a .time .0) (a .numbers) (read .gap-read .given .1) (omega arith)
+    c .refused-at .ensures ∙ time-too-late (a .rows) someCost (a .time) (a .numbers) (read .gap-read .given .1) (omega arith)
 
 enum-known-row-read : tie.Need-enum-known-row-read
 enum-known-row-read c = search needs
@@ -51,7 +54,7 @@ enum-known-row-read-2 : tie.Need-enum-known-row-read-2
 enum-known-row-read-2 c = search needs
 
 returns-3 : tie.Need-returns-3
-returns-3 c = row-unread (gap-fits (c .before .before .before)) (c .before .row-read2 .given .1)
+returns-3 c = row-unread _ someCost (gap-fits (c .before .before .before)) (c .before .row-read2 .given .1)
 
 refused-at-requires-2 : tie.Need-refused-at-requires-2
 refused-at-requires-2 c κs = search needs
@@ -59,13 +62,7 @@ refused-at-requires-2 c κs = search needs
 returns-4 : tie.Need-returns-4
 returns-4 c =
     let read = c .before .before .before .before in
-    c .refused-at2 .ensures ∙ no-such-row (gap-fits (read .before .before)) (read .row-read .given .1) (c .before .if2 .taken)
-
-mul-its : tie.Need-mul-its
-mul-its c = search needs
-
-element-copy-out-its : tie.Need-element-copy-out-its
-element-copy-out-its c = search needs
+    c .refused-at2 .ensures ∙ no-such-row _ someCost (gap-fits (read .before .before)) (read .row-read .given .1) (c .before .if2 .taken)
 
 enum-known-cost-read : tie.Need-enum-known-cost-read
 enum-known-cost-read c = search needs
@@ -74,7 +71,7 @@ enum-known-cost-read-2 : tie.Need-enum-known-cost-read-2
 enum-known-cost-read-2 c = search needs
 
 returns-5 : tie.Need-returns-5
-returns-5 c = cost-unread (row-fits (c .before .before .before .before)) (c .before .cost-read2 .given .1)
+returns-5 c = cost-unread _ someCost (row-fits (c .before .before .before)) (c .before .cost-read2 .given .1)
 
 refused-at-requires-3 : tie.Need-refused-at-requires-3
 refused-at-requires-3 c κs = search needs
@@ -82,23 +79,15 @@ refused-at-requires-3 c κs = search needs
 returns-6 : tie.Need-returns-6
 returns-6 c =
     let read = c .before .before .before .before in
-    c .refused-at3 .ensures ∙ no-cost (row-fits (read .before .before .before)) (read .cost-read .given .1) (omega arith)
+    c .refused-at3 .ensures ∙ not-allowed _ someCost (row-fits (read .before .before)) (read .cost-read .given .1) (lt-leb 1 _ (c .before .if3 .taken))
 
-refused-at-requires-4 : tie.Need-refused-at-requires-4
-refused-at-requires-4 c κs = search needs
+add-t22 : tie.Need-add-t22
+add-t22 c = search needs
 
 returns-7 : tie.Need-returns-7
 returns-7 c =
-    let read = c .before .before .before .before .before .before .before in
-    c .refused-at4 .ensures ∙ cost-too-high (row-fits (read .before .before .before)) (read .cost-read .given .1) (omega arith) (c .before .if4 .taken)
-
-add-t24 : tie.Need-add-t24
-add-t24 c = search needs
-
-returns-8 : tie.Need-returns-8
-returns-8 c =
-    let read = c .before .before .before .before .before .before .before .before in
-    ready (row-fits (read .before .before .before)) (read .cost-read .given .1) (omega arith) (c .before .before .if4 .left)
+    let read = c .before .before .before .before in
+    ready _ someCost (row-fits (read .before .before)) (read .cost-read .given .1) (le-leb 1 _ (c .before .if3 .left))
 
 pub test-numbers-spec : {M : Type 1} → statement M
 test-numbers-spec =
@@ -115,14 +104,10 @@ test-numbers-spec =
     returns-3
     refused-at-requires-2
     returns-4
-    mul-its
-    element-copy-out-its
     enum-known-cost-read
     enum-known-cost-read-2
     returns-5
     refused-at-requires-3
     returns-6
-    refused-at-requires-4
-    returns-7
-    add-t24
-    returns-8)
+    add-t22
+    returns-7)

@@ -6,7 +6,7 @@ use mathlib.Core.List.{List, [], _∷_, _++_, map}
 use native.Mathlib.Numerals.{add-one}
 use native.Mathlib.Omega.{arith}
 use lib.Dec.{ltb}
-use lib.ListN.{length, take, drop, getD, set, length-map, length-take, drop-of-length-le}
+use lib.ListN.{length, take, drop, getD, set, drop-of-length-le}
 use lib.Seq.{drop-cons, take-at, take-set-le, length-take-le, map-set-same}
 use borrow.Author.Tests.{lt-ltb, le-ltb}
 use Rattle.jobs.specs.declared.Job.{Job}
@@ -83,16 +83,12 @@ pub record Searched (dues serials : List ℕ) (n at due serial i : ℕ) : Type 0
   pub within : i ≤ n
   pub due-is : due ≡ getD dues at 0
   pub serial-is : serial ≡ getD serials at 0
-  pub first : (js : List Job) → map (λ (j : Job). j .due .0) js ≡ dues → map (λ (j : Job). j .serial .0) js ≡ serials
+  pub first : (js : List Job) → length js ≡ n → map (λ (j : Job). j .due .0) js ≡ dues → map (λ (j : Job). j .serial .0) js ≡ serials
       → firstFrom i at (getD js at noJob) (drop i js) ≡ firstPlace js
 
-module _ (dues serials : List ℕ) (n : ℕ) (all : length dues ≡ n) where
+module _ (dues serials : List ℕ) (n : ℕ) where
   pub searched-one : 1 ≤ n → Searched dues serials n 0 (getD dues 0 0) (getD serials 0 0) 1
-  searched-one h = record { inside = omega arith; within = h; due-is = refl; serial-is = refl; first = λ js e f. first-start js }
-
-  -- (As many jobs as due times.)
-  as-many : (js : List Job) → map (λ (j : Job). j .due .0) js ≡ dues → length js ≡ n
-  as-many js e = sym (length-map js (λ (j : Job). j .due .0)) ∙ ap length e ∙ all
+  searched-one h = record { inside = omega arith; within = h; due-is = refl; serial-is = refl; first = λ js m e f. first-start js }
 
   module _ {at due serial i : ℕ} (p : Searched dues serials n at due serial i) where
     goes-so : (b : Bool) → before (getD dues i 0) (getD serials i 0) due serial ≡ b → (js : List Job)
@@ -108,7 +104,7 @@ module _ (dues serials : List ℕ) (n : ℕ) (all : length dues ≡ n) where
         within = omega arith;
         due-is = refl;
         serial-is = refl;
-        first = λ js e f. sym (first-next js i at true (omega (arith, as-many js e)) (goes-so true g js e f)) ∙ p .first js e f;
+        first = λ js m e f. sym (first-next js i at true (omega arith) (goes-so true g js e f)) ∙ p .first js m e f;
       }
 
       pub searched-worse : before (getD dues i 0) (getD serials i 0) due serial ≡ false → Searched dues serials n at due serial (i + 1)
@@ -117,17 +113,17 @@ module _ (dues serials : List ℕ) (n : ℕ) (all : length dues ≡ n) where
         within = omega arith;
         due-is = p .due-is;
         serial-is = p .serial-is;
-        first = λ js e f. sym (first-next js i at false (omega (arith, as-many js e)) (goes-so false g js e f)) ∙ p .first js e f;
+        first = λ js m e f. sym (first-next js i at false (omega arith) (goes-so false g js e f)) ∙ p .first js m e f;
       }
 
     -- No job is left.
     pub searched-all : n ≤ i → IsFirstOf dues serials n at
     searched-all h = record {
       inside = omega (arith, p .inside, p .within);
-      first = λ js e f.
-          let over : length js ≤ i = omega (arith, as-many js e) in
+      first = λ js m e f.
+          let over : length js ≤ i = omega arith in
           let none : drop i js ≡ [] = drop-of-length-le js over in
-          rw none at (p .first js e f);
+          rw none at (p .first js m e f);
     }
 
 -- ---- one taken out

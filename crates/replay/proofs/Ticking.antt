@@ -1,26 +1,26 @@
 -- Ticks on pending jobs that stand in arrays: each is one of the run's own. (docs/RULES.md, sections 6.10 to 6.17, 8.2 and 8.3.)
 use Prim.Native.Nat.{ℕ, zero, suc, _+_, _-_, _≤_, _<_}
-use mathlib.Core.Path.{_≡_, refl, sym, ap, _∙_}
+use mathlib.Core.Path.{_≡_, refl, sym, _∙_}
 use mathlib.Core.Bool.{true, false}
 use mathlib.Core.List.{List, [], _∷_, append-nil, List·Memᴰ·head}
 use native.Mathlib.Omega.{arith}
-use lib.ListN.{length, take, getD, set}
+use lib.ListN.{length, take, getD, set, length-set}
 use lib.Seq.{getD-take, take-set-lt}
 use borrow.Author.Tests.{le-leb, lt-leb, lt-ltb, eq-eqb, ne-eqb}
 use Rattle.kinds.specs.Numbering.{maxTime}
 use Rattle.kinds.specs.declared.Finish.{Finish}
 use Rattle.jobs.specs.declared.Job.{Job}
-use Rattle.jobs.specs.Places.{noJob, jobsOf, without}
+use Rattle.jobs.specs.Places.{maxPlaces, noJob, jobsOf, without}
 use Rattle.jobs.specs.Choice.{firstPlace}
 use Rattle.jobs.specs.Units.{lastUnit, worked}
 use Rattle.jobs.specs.Turns.{firstJob, finishAt}
 use Rattle.jobs.specs.Laws.{unitAt}
 use Rattle.run.specs.Ticking.{ticked}
 use Rattle.run.specs.Advance.{finishedBy, Since, oneMore, ticksWhilePending}
-use Rattle.run.proofs.Ticking.{Good, counted, tick-gives-one-unit}
+use Rattle.run.proofs.Ticking.{Good, facts, counted, tick-gives-one-unit}
 use Rattle.log.specs.Log.{valuesOf, allInRange}
 use Rattle.replay.specs.declared.Logged.{Logged}
-use Rattle.replay.specs.Inside.{IsFirstOf, OneLogged, OnItsWay, Held, held, Stands, LeadsTo}
+use Rattle.replay.specs.Inside.{IsFirstOf, ClosedUp, OneLogged, OnItsWay, Held, held, AllPlaces, Stands, LeadsTo}
 use Rattle.replay.proofs.Places.{serial-at, row-at, release-at, due-at, left-at, columns-without, columns-worked}
 use Rattle.replay.proofs.Logging.{logs-one-more}
 use Rattle.replay.proofs.Playing.{first-is-pending, tick-conserves, finished-in-range, tick-clock, one-tick-keeps, on-its-way-ticked}
@@ -52,9 +52,15 @@ module _ {s : Since} {log₀ : List ℕ} {h : Held} (w : Stands s log₀ h) (in-
   early : s .run .clock .0 < maxTime
   early = omega (arith, w .clocks)
 
+  places : AllPlaces h
+  places = w .all-places
+
+  few : h .count ≤ maxPlaces
+  few = omega (arith, facts (s .run) good .few-pending, w .counts)
+
   -- The place is that of the job that goes first, ..
   at-first : at ≡ firstPlace js
-  at-first = first .first js (w .columns .due-is) (w .columns .serial-is)
+  at-first = first .first js (counted (s .run) good ∙ w .counts) (w .columns .due-is) (w .columns .serial-is)
 
   its-job : firstJob (s .run .pending) ≡ getD js at noJob
   its-job = rw at-first (first-is-pending (s .run) good busy)
@@ -107,17 +113,28 @@ module _ {s : Since} {log₀ : List ℕ} {h : Held} (w : Stands s log₀ h) (in-
 
     -- .. it is taken out of all arrays, and recorded.
     module _ (n : ℕ) (less : h .count ≡ n + 1) {serials rows releases dues left log : List ℕ} {l : Logged}
-        (a : take n serials ≡ without (take (n + 1) (h .serials)) at) (b : take n rows ≡ without (take (n + 1) (h .rows)) at)
-        (c : take n releases ≡ without (take (n + 1) (h .releases)) at) (d : take n dues ≡ without (take (n + 1) (h .dues)) at)
-        (e : take n left ≡ without (take (n + 1) (h .left)) at) (o : OneLogged (h .logged) (recordedAt h at) (h .log) log l) where
-      pub stands-finished : Stands (oneMore s) log₀ (held serials rows releases dues left log n (h .clock + 1) l)
+        (a : ClosedUp at n (h .serials) serials) (b : ClosedUp at n (h .rows) rows) (c : ClosedUp at n (h .releases) releases)
+        (d : ClosedUp at n (h .dues) dues) (e : ClosedUp at n (h .left) left) (o : OneLogged (h .logged) (recordedAt h at) (h .log) log l) where
+      stands-finished : Stands (oneMore s) log₀ (held serials rows releases dues left log n (h .clock + 1) l)
       stands-finished = record {
         on-its-way = still-on;
+        all-places = record {
+          of-serials = a .same-length ∙ places .of-serials;
+          of-rows = b .same-length ∙ places .of-rows;
+          of-releases = c .same-length ∙ places .of-releases;
+          of-dues = d .same-length ∙ places .of-dues;
+          of-left = e .same-length ∙ places .of-left;
+        };
         counts = omega (arith, one-less, w .counts);
         clocks = later;
         columns =
             let gone : jobsOf (ticked (s .run) .run .pending) ≡ without js at = jobs-after ∙ rw last-unit in
-            rw (gone, a, b, c, d, e, ← less) (columns-without (w .columns) at);
+            let serials-so = a .gone (omega (arith, few, places .of-serials)) in
+            let rows-so = b .gone (omega (arith, few, places .of-rows)) in
+            let releases-so = c .gone (omega (arith, few, places .of-releases)) in
+            let dues-so = d .gone (omega (arith, few, places .of-dues)) in
+            let left-so = e .gone (omega (arith, few, places .of-left)) in
+            rw (gone, serials-so, rows-so, releases-so, dues-so, left-so, ← less) (columns-without (w .columns) at);
         logs = rw (finished-so, o .holds, o .says) (logs-one-more (w .logs) (recordedAt h at) in-range);
       }
 
@@ -131,16 +148,23 @@ module _ {s : Since} {log₀ : List ℕ} {h : Held} (w : Stands s log₀ h) (in-
         let so : lastUnit (firstJob (s .run .pending)) ≡ false = rw its-job not-last in
         rw (lt-ltb 0 (s .run .pending .count) busy, so)
 
-    pub stands-worked : {left : List ℕ} → left ≡ set (h .left) at (getD (h .left) at 0 - 1)
-        → Stands (oneMore s) log₀ (held (h .serials) (h .rows) (h .releases) (h .dues) left (h .log) (h .count) (h .clock + 1) (h .logged))
-    stands-worked {left} e = record {
+    stands-worked : Stands (oneMore s) log₀ (held (h .serials) (h .rows) (h .releases) (h .dues) (set (h .left) at (getD (h .left) at 0 - 1))
+        (h .log) (h .count) (h .clock + 1) (h .logged))
+    stands-worked = record {
       on-its-way = still-on;
+      all-places = record {
+        of-serials = places .of-serials;
+        of-rows = places .of-rows;
+        of-releases = places .of-releases;
+        of-dues = places .of-dues;
+        of-left = length-set (h .left) at _ ∙ places .of-left;
+      };
       counts = omega (arith, rw none-finished at (tick-conserves (s .run) good early), w .counts);
       clocks = later;
       columns =
           let stays : jobsOf (ticked (s .run) .run .pending) ≡ set js at (worked (getD js at noJob)) = jobs-after ∙ rw not-last in
-          let less : take (h .count) left ≡ set (take (h .count) (h .left)) at (getD js at noJob .left - 1) =
-          rw (e, left-here) (take-set-lt (h .count) (h .left) at _ (first .inside)) in
+          let less : take (h .count) (set (h .left) at (getD (h .left) at 0 - 1)) ≡ set (take (h .count) (h .left)) at (getD js at noJob .left - 1) =
+          rw left-here (take-set-lt (h .count) (h .left) at _ (first .inside)) in
           rw (stays, less) (columns-worked (w .columns) at);
       logs = rw (none-finished, append-nil) (w .logs);
     }
@@ -167,11 +191,12 @@ pub record Came (until : ℕ) (s : Since) (log₀ : List ℕ) (h₀ h : Held) : 
   pub stands : Stands by-now log₀ h
   pub leads-on : ticksWhilePending (until - h .clock) by-now ≡ ticksWhilePending (until - h₀ .clock) s
 
--- So it is with every replay that the arrays held at first. (The rest is what keeps the numbers in range.)
+-- So it is with every replay that the arrays held at first. (The rest is what keeps the numbers in range, and the log as long.)
 pub record TicksOn (until : ℕ) (h₀ h : Held) : Type 0 where
   pub fewer : h .count ≤ h₀ .count
   pub few-late : h .logged .late + h .count ≤ h₀ .logged .late + h₀ .count
   pub within : h .logged .length ≤ length (h .log)
+  pub same-length : length (h .log) ≡ length (h₀ .log)
   pub came : (s : Since) (log₀ : List ℕ) → Stands s log₀ h₀ → Came until s log₀ h₀ h
 
 pub no-ticks-yet : (until : ℕ) (h : Held) → h .logged .length ≤ length (h .log) → TicksOn until h h
@@ -179,27 +204,53 @@ no-ticks-yet until h room = record {
   fewer = omega arith;
   few-late = omega arith;
   within = room;
+  same-length = refl;
   came = λ s log₀ w. record { by-now = s; stands = w; leads-on = refl };
 }
 
 module _ {until : ℕ} {h₀ h : Held} (t : TicksOn until h₀ h) where
-  -- One tick more.
-  pub one-tick-on : {g : Held} → h .clock < until → 1 ≤ h .count → g .clock ≡ h .clock + 1 → g .count ≤ h .count
-      → g .logged .late + g .count ≤ h .logged .late + h .count → g .logged .length ≤ length (g .log)
-      → ((s : Since) (log₀ : List ℕ) → Stands s log₀ h → Stands (oneMore s) log₀ g) → TicksOn until h₀ g
-  one-tick-on early some clock fewer late room on = record {
-    fewer = omega (arith, t .fewer);
-    few-late = omega (arith, t .few-late);
-    within = room;
-    came = λ s log₀ w.
+  -- One tick more: ..
+  module _ (soon : until ≤ maxTime) (early : h .clock < until) (some : 1 ≤ h .count) {at : ℕ}
+      (first : IsFirstOf (take (h .count) (h .dues)) (take (h .count) (h .serials)) (h .count) at) where
+    in-time : h .clock < maxTime
+    in-time = omega arith
+
+    one-tick-on : {g : Held} → g .clock ≡ h .clock + 1 → ((s : Since) (log₀ : List ℕ) → Stands s log₀ h → Stands (oneMore s) log₀ g)
+        → (s : Since) (log₀ : List ℕ) → Stands s log₀ h₀ → Came until s log₀ h₀ g
+    one-tick-on clock on s log₀ w =
         let k = t .came s log₀ w in
         let pending : 1 ≤ k .by-now .run .pending .count = omega (arith, k .stands .counts) in
         record {
           by-now = oneMore (k .by-now);
           stands = on (k .by-now) log₀ (k .stands);
           leads-on = rw clock (sym (one-and-the-rest until (h .clock) (k .by-now) early pending) ∙ k .leads-on);
-        };
-  }
+        }
+
+    -- .. the job that goes first finishes in it, ..
+    pub finished-on : getD (h .left) at 0 ≤ 1 → {serials rows releases dues left log : List ℕ} {l : Logged}
+        → ClosedUp at (h .count - 1) (h .serials) serials → ClosedUp at (h .count - 1) (h .rows) rows
+        → ClosedUp at (h .count - 1) (h .releases) releases → ClosedUp at (h .count - 1) (h .dues) dues → ClosedUp at (h .count - 1) (h .left) left
+        → OneLogged (h .logged) (recordedAt h at) (h .log) log l
+        → TicksOn until h₀ (held serials rows releases dues left log (h .count - 1) (h .clock + 1) l)
+    finished-on last a b c d e o = record {
+      fewer = omega (arith, t .fewer);
+      few-late = omega (arith, t .few-late, o .few-late);
+      within = omega (arith, o .within, o .same-length);
+      same-length = o .same-length ∙ t .same-length;
+      came = one-tick-on refl (λ s log₀ w. stands-finished w in-time some first last (h .count - 1) (omega arith) a b c d e o);
+    }
+
+    -- .. or has a unit less to get.
+    pub worked-on : 1 < getD (h .left) at 0
+        → TicksOn until h₀ (held (h .serials) (h .rows) (h .releases) (h .dues) (set (h .left) at (getD (h .left) at 0 - 1))
+        (h .log) (h .count) (h .clock + 1) (h .logged))
+    worked-on more = record {
+      fewer = t .fewer;
+      few-late = t .few-late;
+      within = t .within;
+      same-length = t .same-length;
+      came = one-tick-on refl (λ s log₀ w. stands-worked w in-time some first more);
+    }
 
   -- The time is reached, ..
   pub time-reached : until ≤ h .clock → LeadsTo until h₀ h

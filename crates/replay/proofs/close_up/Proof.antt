@@ -1,21 +1,22 @@
 -- `replay::close_up` meets its contract. The loop has moved what stood at the places from `at` to i down by one.
-use Prim.Native.Nat.{_+_, _-_, _≤_, _<_}
-use mathlib.Core.Path.{_≡_}
+use Prim.Native.Nat.{_-_, _≤_, _<_}
+use mathlib.Core.Path.{_≡_, refl, _∙_}
 use native.Mathlib.Omega.{arith}
-use lib.ListN.{length}
+use lib.ListN.{length, length-set}
 use Rattle.jobs.proofs.Places.{moved, moved-none, moved-more}
 use Rattle.replay.proofs.Places.{closed-up}
 use Rattle.replay.proofs.close_up.Statement.{statement}
 use Rattle.replay.proofs.close_up.Tie as tie
 
 abbrev Inv-loop : tie.InvT-loop
-Inv-loop values₀ at last i₀ values i = (at ≤ i) × (i ≤ last) × (values ≡ moved values₀ at i)
+Inv-loop values₀ at last i₀ values i =
+    (at ≤ i) × (i ≤ last) × (length values ≡ length values₀) × (last < length values₀ → values ≡ moved values₀ at i)
 
 abbrev μ-loop : tie.MeasureT-loop
 μ-loop values₀ at last i₀ values i = last - i
 
 loop-holds : tie.Need-loop-holds Inv-loop μ-loop
-loop-holds c = (omega arith, omega arith, moved-none (c .args .values .now) (c .args .at))
+loop-holds c = (omega arith, omega arith, refl, λ h. moved-none (c .args .values .now) (c .args .at))
 
 add-values : tie.Need-add-values Inv-loop μ-loop
 add-values c = omega arith
@@ -41,16 +42,19 @@ loop-less c = omega arith
 loop-again : tie.Need-loop-again Inv-loop μ-loop
 loop-again c =
     let a = c .before .before .before .args in
-    let k = c .before .before .loop in
-    let h : k .i + 1 < length (a .values .now) = omega arith in
-    (omega arith, omega arith, rw (k .inv .2) (moved-more (a .values .now) (a .at) (k .i) 0 (k .inv .0) h))
+    let k = c .before .before .loop in (
+      omega arith,
+      omega arith,
+      length-set (k .values) (k .i) _ ∙ k .inv .2,
+      λ h. rw (k .inv .3 h) (moved-more (a .values .now) (a .at) (k .i) 0 (k .inv .0) (omega arith)),
+    )
 
 returns : tie.Need-returns Inv-loop μ-loop
 returns c =
     let a = c .before .before .args in
     let k = c .before .loop in
     let e : k .i ≡ a .last = omega arith in
-    rw (k .inv .2, e) (closed-up (a .values .now) (a .at) (a .last) (omega arith) (omega arith))
+    record { same-length = k .inv .2; gone = λ h. rw (k .inv .3 h, e) (closed-up (a .values .now) (a .at) (a .last) (omega arith) h) }
 
 pub close-up-spec : {M : Type 1} → statement M
 close-up-spec =

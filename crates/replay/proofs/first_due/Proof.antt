@@ -1,10 +1,10 @@
 -- `replay::first_due` meets its contract. The loop has looked at the jobs before the place i.
 use Prim.Native.Nat.{_-_, _<_}
-use mathlib.Core.Path.{_≡_, sym, _∙_}
+use mathlib.Core.Path.{sym, _∙_}
 use mathlib.Core.Logic.{⊎-elim}
 use native.Mathlib.Omega.{arith}
-use lib.ListN.{length, take}
-use lib.Seq.{length-take-le, getD-take}
+use lib.ListN.{take}
+use lib.Seq.{getD-take}
 use borrow.Author.Needs.{needs}
 use Rattle.replay.proofs.Places.{Searched, searched-one, searched-better, searched-worse, searched-all}
 use Rattle.replay.proofs.first_due.Statement.{statement}
@@ -26,9 +26,8 @@ loop-holds : tie.Need-loop-holds Inv-loop μ-loop
 loop-holds c =
     let a = c .before .before .args in
     let n = a .count in
-    let size : length (take n (a .dues .now)) ≡ n = length-take-le n (a .dues .now) (omega arith) in
     rw (← getD-take n (a .dues .now) 0 0 (omega arith), ← getD-take n (a .serials .now) 0 0 (omega arith))
-    (searched-one (take n (a .dues .now)) (take n (a .serials .now)) n size (omega arith))
+    (searched-one (take n (a .dues .now)) (take n (a .serials .now)) n (omega arith))
 
 mul-other : tie.Need-mul-other Inv-loop μ-loop
 mul-other c = omega arith
@@ -60,22 +59,20 @@ loop-again c =
     let ds = take n (a .dues .now) in
     let ss = take n (a .serials .now) in
     let h : k .i < n = omega arith in
-    let size : length ds ≡ n = length-take-le n (a .dues .now) (omega arith) in
     let due-here = getD-take n (a .dues .now) (k .i) 0 h in
     let serial-here = getD-take n (a .serials .now) (k .i) 0 h in
     let e = c .before .goes-before .ensures in
     ⊎-elim
     (λ w. rw (w .1, w .2, w .3, ← due-here, ← serial-here)
-    (searched-better ds ss n size (k .inv) h (rw (due-here, serial-here) (sym e ∙ w .0 .taken))))
-    (λ w. rw (w .1, w .2, w .3) (searched-worse ds ss n size (k .inv) h (rw (due-here, serial-here) (sym e ∙ w .0 .left))))
+    (searched-better ds ss n (k .inv) h (rw (due-here, serial-here) (sym e ∙ w .0 .taken))))
+    (λ w. rw (w .1, w .2, w .3) (searched-worse ds ss n (k .inv) h (rw (due-here, serial-here) (sym e ∙ w .0 .left))))
     (c .if1 .came)
 
 returns : tie.Need-returns Inv-loop μ-loop
 returns c =
     let a = c .before .before .before .before .args in
     let n = a .count in
-    let size : length (take n (a .dues .now)) ≡ n = length-take-le n (a .dues .now) (omega arith) in
-    searched-all (take n (a .dues .now)) (take n (a .serials .now)) n size (c .before .loop .inv) (omega arith)
+    searched-all (take n (a .dues .now)) (take n (a .serials .now)) n (c .before .loop .inv) (omega arith)
 
 pub first-due-spec : {M : Type 1} → statement M
 first-due-spec =
