@@ -3,7 +3,7 @@ use Prim.Native.Nat.{ℕ, zero, suc, _+_, _≤_, _<_}
 use mathlib.Core.Path.{_≡_, refl, ap}
 use mathlib.Core.List.{List, [], _∷_}
 use mathlib.Core.Bool.{Bool, true, false, cond}
-use native.Mathlib.Decide.{decLe}
+use native.Mathlib.Decide.{decLe, ℕ-discrete}
 use native.Mathlib.Omega.{arith}
 use lib.Dec.{ltb}
 use lib.ListN.{length, take, drop, getD, set, drop-of-length-le}
@@ -11,6 +11,7 @@ use borrow.Author.Tests.{lt-ltb, le-ltb, eq-eqb, ne-eqb}
 use Rattle.jobs.specs.declared.Job.{Job}
 use Rattle.jobs.specs.Places.{noJob, without}
 use Rattle.jobs.specs.Late.{isLate, lateCount}
+use Rattle.jobs.specs.Laws.{BecomesLate, LateMeans, NoneLate, LateAddsOne, OthersAddNone}
 use Rattle.jobs.proofs.Places.{rest-cons}
 
 -- A job that is due at the clock is late where it has a unit left ..
@@ -20,6 +21,37 @@ late-at-due t j e = rw (eq-eqb (j .due .0) t e)
 -- .. and no other is.
 pub late-at-due-alone : (t : ℕ) (j : Job) → (j .due .0 ≡ t → ⊥) → false ≡ isLate t j
 late-at-due-alone t j h = rw (ne-eqb (j .due .0) t h)
+
+-- ---- what the count says
+
+-- A job becomes late, and the test says so, or it does not, and the test says that.
+by-late : {G : Type 0} (t : ℕ) (j : Job) → (BecomesLate t j → isLate t j ≡ true → G) → ((BecomesLate t j → ⊥) → isLate t j ≡ false → G) → G
+by-late t j late other = elim (ℕ-discrete (j .due .0) t) [
+  | yes e ↦ elim (decLe 1 (j .left)) [
+    | yes l ↦ late (record { due-now = e; unfinished = l }) (simp (eq-eqb (j .due .0) t e, lt-ltb 0 (j .left) l))
+    | no l ↦ other (λ p. l (p .unfinished)) (simp (eq-eqb (j .due .0) t e, le-ltb 0 (j .left) (omega arith)))
+  ]
+  | no n ↦ other (λ p. n (p .due-now)) (simp (ne-eqb (j .due .0) t n))
+]
+
+pub late-means : LateMeans
+late-means t j = by-late t j
+    (λ p e. (λ _. p, λ _. e))
+    (λ other e. (λ f. absurd (let z : _≡_ {A = ℕ} 0 1 = cc in omega arith), λ p. absurd (other p)))
+
+pub none-late : NoneLate
+unfolding lateCount
+none-late t = refl
+
+pub late-adds-one : LateAddsOne
+unfolding lateCount
+late-adds-one t j js p = rw (late-means t j .1 p)
+
+pub others-add-none : OthersAddNone
+unfolding lateCount
+others-add-none t j js other = by-late t j (λ p e. absurd (other p)) (λ _ e. rw e (omega arith))
+
+-- ---- the count along the places
 
 -- The count of what is left is that of the next job and of the rest.
 pub late-next : (n : ℕ) (l : List Job) (i t : ℕ) (d : Job) → i < length (take n l) → (b : Bool) → isLate t (getD l i d) ≡ b

@@ -160,6 +160,12 @@ either P false x y f g = g
 pub empty-is-well-formed : laws.EmptyIsWellFormed
 empty-is-well-formed = record { all-places = length-replicate maxPlaces noJob; in-places = omega arith }
 
+pub many-places : laws.ManyPlaces
+many-places = length-replicate maxPlaces noJob
+
+pub nothing-pending : laws.NothingPending
+nothing-pending = refl
+
 pub put-keeps-form : laws.PutKeepsForm
 unfolding put
 put-keeps-form p j w = elim (decLt (p .count) maxPlaces) [

@@ -11,6 +11,7 @@ use Rattle.jobs.specs.Places.{maxPlaces, noJob, emptyPending, jobsOf, us
 use Rattle.jobs.specs.Choice.{firstPlace}
 use Rattle.jobs.specs.Units.{lastUnit, worked, after}
 use Rattle.jobs.specs.Serials.{distinctSerials, risingSerials}
+use Rattle.jobs.specs.Late.{isLate, lateCount}
 
 -- One job is due no later than another, and has no higher serial where they are due together.
 pub record NotAfter (a b : Job) : Type 0 where
@@ -40,7 +41,12 @@ pub record KeepsSerials (js next : List Job) : Type 0 where
   pub rising : risingSerials js ≡ true → risingSerials next ≡ true
   pub distinct : distinctSerials js ≡ true → distinctSerials next ≡ true
 
--- ---- what is proved (proofs/Laws.antt)
+-- A job becomes late: it is unfinished, and its due time is the clock. (6.14)
+pub record BecomesLate (clock : ℕ) (j : Job) : Type 0 where
+  pub due-now : j .due .0 ≡ clock
+  pub unfinished : 1 ≤ j .left
+
+-- ---- what is proved (proofs/Laws.antt; of late jobs in proofs/Late.antt)
 
 -- The choice is a job with the earliest due time, the lowest serial among equals.
 abbrev pub ChoiceIsFirst : Type 0
@@ -91,6 +97,13 @@ AfterAUnit = (p : Pending) (at : ℕ) → at < used p → jobsOf (after p at) �
 abbrev pub EmptyIsWellFormed : Type 0
 EmptyIsWellFormed = WellFormed emptyPending
 
+-- It has 64 places (6.1), and nothing is pending in it. (6.3)
+abbrev pub ManyPlaces : Type 0
+ManyPlaces = length (emptyPending .places) ≡ 64
+
+abbrev pub NothingPending : Type 0
+NothingPending = jobsOf emptyPending ≡ []
+
 abbrev pub PutKeepsForm : Type 0
 PutKeepsForm = (p : Pending) (j : Job) → WellFormed p → WellFormed (put p j)
 
@@ -122,3 +135,19 @@ TakenOutKeepsSerials = (p : Pending) (at : ℕ) → KeepsSerials (jobsOf p) (job
 -- .. and where it gets a unit. So the serials of a run that came from a fresh one are seen to be distinct in one look.
 abbrev pub AfterKeepsSerials : Type 0
 AfterKeepsSerials = (p : Pending) (at : ℕ) → at < used p → KeepsSerials (jobsOf p) (jobsOf (after p at))
+
+-- ---- late jobs
+
+-- The test of a job means that it becomes late ..
+abbrev pub LateMeans : Type 0
+LateMeans = (clock : ℕ) (j : Job) → (isLate clock j ≡ true) ↔ BecomesLate clock j
+
+-- .. and the count is of those that do: of no jobs it is 0, one that becomes late adds 1, and any other nothing. (6.14)
+abbrev pub NoneLate : Type 0
+NoneLate = (clock : ℕ) → lateCount clock [] ≡ 0
+
+abbrev pub LateAddsOne : Type 0
+LateAddsOne = (clock : ℕ) (j : Job) (js : List Job) → BecomesLate clock j → lateCount clock (j ∷ js) ≡ 1 + lateCount clock js
+
+abbrev pub OthersAddNone : Type 0
+OthersAddNone = (clock : ℕ) (j : Job) (js : List Job) → (BecomesLate clock j → ⊥) → lateCount clock (j ∷ js) ≡ lateCount clock js

@@ -2,33 +2,17 @@
 use Prim.Native.Nat.{ℕ}
 use mathlib.Core.Path.{_≡_, refl, sym, ap, _∙_}
 use mathlib.Core.Logic.{inl, inr}
-use mathlib.Core.List.{List, [], _∷_}
+use mathlib.Core.List.{List, _∷_}
 use native.Mathlib.Decide.{decLe}
 use native.Mathlib.Omega.{arith}
-use lib.ListN.{getD, List·getD-eq-default}
+use lib.ListN.{take, getD, List·getD-eq-default}
 use Rattle.kinds.specs.declared.Refusal.{Refusal}
 use Rattle.kinds.specs.declared.Refusal.the-variants as refusal
-use Rattle.kinds.specs.Numbering.{refusalNumber, NumbersDiffer, NeverZero, NeverAnAnswer}
+use Rattle.kinds.specs.Numbering.{refusalNumber, allRefusals, NumbersDiffer, NeverZero, NeverAnAnswer, LatestTime, NumbersInOrder, RefusalSays}
 
 -- The refusals from 1 to 14 in order. (Nothing is numbered 0: what stands there is never looked at.)
 inOrder : List Refusal
-inOrder =
-    refusal.Misspelled
-    ∷ refusal.Misspelled
-    ∷ refusal.TooManyRows
-    ∷ refusal.ValueOutOfRange
-    ∷ refusal.ExtraBytes
-    ∷ refusal.PeriodTooLong
-    ∷ refusal.NoSuchRow
-    ∷ refusal.CostOutOfRange
-    ∷ refusal.PlacesFull
-    ∷ refusal.DueTooLate
-    ∷ refusal.TimeTooLate
-    ∷ refusal.RunNotSound
-    ∷ refusal.NoRoom
-    ∷ refusal.AnswerSize
-    ∷ refusal.ScriptMisspelled
-    ∷ []
+inOrder = refusal.Misspelled ∷ take 14 allRefusals
 
 -- The refusal that has a number.
 numbered : ℕ → Refusal
@@ -74,3 +58,12 @@ never-an-answer r = elim (decLe 20 (refusalNumber r)) [
   | yes l ↦ inr (let e : refusalNumber r ≡ 25 = same r ∙ ap refusalNumber (List·getD-eq-default inOrder refusal.NumberTooBig {n = refusalNumber r} (omega arith)) in omega arith)
   | no l ↦ inl (omega arith)
 ]
+
+pub latest-time : LatestTime
+latest-time = refl
+
+pub numbers-in-order : NumbersInOrder
+numbers-in-order = refl
+
+pub refusal-says : RefusalSays
+refusal-says r place = refl

@@ -2,6 +2,7 @@
 use Prim.Native.Nat.{ℕ, _^_, _≤_, _<_}
 use mathlib.Core.Path.{_≡_}
 use mathlib.Core.Logic.{_⊎_}
+use mathlib.Core.List.{List, [], _∷_, map}
 use Rattle.kinds.specs.declared.Refusal.{Refusal}
 use Rattle.kinds.specs.declared.Refusal.the-variants as refusal
 use Rattle.kinds.specs.declared.RefusedAt.{RefusedAt}
@@ -51,3 +52,36 @@ NeverZero = (r : Refusal) → 1 ≤ refusalNumber r
 -- No refusal has the number of an answer, 20 to 23.
 abbrev pub NeverAnAnswer : Type 0
 NeverAnAnswer = (r : Refusal) → (refusalNumber r < 20) ⊎ (23 < refusalNumber r)
+
+-- The latest time of all is 2^40 = 1,099,511,627,776. (6.1)
+abbrev pub LatestTime : Type 0
+LatestTime = maxTime ≡ 1099511627776
+
+-- The refusals, in the order of their table. (10.3)
+abbrev pub allRefusals : List Refusal
+allRefusals =
+    refusal.Misspelled
+    ∷ refusal.TooManyRows
+    ∷ refusal.ValueOutOfRange
+    ∷ refusal.ExtraBytes
+    ∷ refusal.PeriodTooLong
+    ∷ refusal.NoSuchRow
+    ∷ refusal.CostOutOfRange
+    ∷ refusal.PlacesFull
+    ∷ refusal.DueTooLate
+    ∷ refusal.TimeTooLate
+    ∷ refusal.RunNotSound
+    ∷ refusal.NoRoom
+    ∷ refusal.AnswerSize
+    ∷ refusal.ScriptMisspelled
+    ∷ refusal.NumberTooBig
+    ∷ []
+
+-- In that order their numbers are 1 to 14, and 25. (10.3)
+abbrev pub NumbersInOrder : Type 0
+NumbersInOrder = map refusalNumber allRefusals ≡ 1 ∷ 2 ∷ 3 ∷ 4 ∷ 5 ∷ 6 ∷ 7 ∷ 8 ∷ 9 ∷ 10 ∷ 11 ∷ 12 ∷ 13 ∷ 14 ∷ 25 ∷ []
+
+-- A refusal at a place says its number, the place and 0. (9.5)
+abbrev pub RefusalSays : Type 0
+RefusalSays = (r : Refusal) (place : ℕ)
+    → refusedSays (record { refusal = r; place = place }) ≡ record { number = refusalNumber r; first = place; second = 0 }

@@ -11,7 +11,8 @@ use lib.ListN.{length, drop, length-append, length-drop}
 use lib.Seq.{getD-drop, drop-drop, drop-append-seam}
 use lib.Dec.{ltb, eqb}
 use borrow.Author.Tests.{lt-ltb, le-ltb, le-leb, lt-leb, ne-eqb}
-use Rattle.kinds.specs.declared.Refusal.the-variants.{NumberTooBig, NoRoom}
+use Rattle.kinds.specs.declared.Refusal.the-variants.{Misspelled, NumberTooBig, NoRoom}
+use Rattle.kinds.specs.declared.RefusedAt.{RefusedAt}
 use Rattle.numbers.specs.declared.Number.{Number}
 use Rattle.numbers.specs.declared.NumberRead.the-variants as answer
 use Rattle.numbers.specs.declared.Written.the-variants.{Length, Refused}
@@ -19,7 +20,7 @@ use Rattle.numbers.specs.Spelling.{maxGroups, maxNumber, groupsOf, spell
 use Rattle.numbers.specs.Reading.{Spelt, number, superfluous-zero, asks-for-more, cut-off, before, spelt, answered}
 use Rattle.numbers.specs.Writing.{written}
 use Rattle.numbers.specs.Laws.{Bytes, Spelled, LargestNumber, ReadsBack, LengthAnswered, RefusalAnswered, WrittenReadsBack, OneSpelling}
-use Rattle.numbers.specs.Laws.{SpellingLength, SpelledInBytes, SpellingsDiffer, NothingPastTheEnd}
+use Rattle.numbers.specs.Laws.{SpellingLength, SpelledInBytes, SpellingsDiffer, NothingPastTheEnd, RefusedAtItsStart}
 use Rattle.numbers.proofs.Reading.{limit, limit-pos, spelt-cut}
 
 pub largest-number : LargestNumber
@@ -223,6 +224,16 @@ one-spelling s at k h e =
 
 pub nothing-past-the-end : NothingPastTheEnd
 nothing-past-the-end s at h = rw (spelt-cut maxGroups s at (omega arith) h)
+
+-- Each fault is answered with 1, at the start.
+answered-refused : (start : ℕ) (r : Spelt) (q : RefusedAt) → answered start r ≡ answer.Refused q → q ≡ record { refusal = Misspelled; place = start }
+answered-refused start (number n next) q e = absurd (let z : _≡_ {A = ℕ} 0 1 = cc in omega arith)
+answered-refused start (superfluous-zero place) q e = cc
+answered-refused start (asks-for-more place) q e = cc
+answered-refused start (cut-off place) q e = cc
+
+pub refused-at-its-start : RefusedAtItsStart
+refused-at-its-start s at r e = answered-refused at (spelt maxGroups (drop at s) at) r e
 
 -- What a number reads as, with its spelling in front.
 front : (n : ℕ) (s : List ℕ) → n ≤ maxNumber → spelt maxGroups (spelling n ++ s) 0 ≡ number n (length (spelling n))

@@ -5,7 +5,8 @@ use mathlib.Core.Logic.{_⊎_}
 use mathlib.Core.List.{List, _++_}
 use lib.ListN.{length, getD, drop}
 use Rattle.kinds.specs.declared.Refusal.{Refusal}
-use Rattle.kinds.specs.declared.Refusal.the-variants.{NumberTooBig, NoRoom}
+use Rattle.kinds.specs.declared.Refusal.the-variants.{Misspelled, NumberTooBig, NoRoom}
+use Rattle.kinds.specs.declared.RefusedAt.{RefusedAt}
 use Rattle.numbers.specs.declared.Number.{Number}
 use Rattle.numbers.specs.declared.NumberRead.the-variants as answer
 use Rattle.numbers.specs.declared.Written.the-variants.{Length, Refused}
@@ -72,3 +73,7 @@ SpellingsDiffer = (m n : ℕ) (s t : List ℕ) → m ≤ maxNumber → n ≤ max
 -- A place at or past the end is refused there.
 abbrev pub NothingPastTheEnd : Type 0
 NothingPastTheEnd = (s : List ℕ) (at : ℕ) → length s ≤ at → readAt s at ≡ misspelledAt at
+
+-- Whatever is refused is refused with 1, at the number's start. (2.7, 2.9)
+abbrev pub RefusedAtItsStart : Type 0
+RefusedAtItsStart = (s : List ℕ) (at : ℕ) (r : RefusedAt) → readAt s at ≡ answer.Refused r → r ≡ record { refusal = Misspelled; place = at }

@@ -5,11 +5,17 @@ use mathlib.Core.Path.{refl}
 use mathlib.Core.Logic.{⊎-elim}
 use mathlib.Core.List.{List, [], _∷_, map, Memᴰ·of-map}
 use mathlib.Core.List.{List·Memᴰ, List·Memᴰ·head, List·Memᴰ·tail, List·Memᴰ·not-nil, List·Memᴰ·cases-cons}
-use lib.ListN.{take, getD}
+use lib.ListN.{length, take, getD}
 
 -- Each element has P.
 abbrev pub Each : {A : Type 0} (P : A → Type 0) → List A → Type 0
 Each {A} P l = (a : A) → List·Memᴰ a l → P a
+
+-- What stands at a place of a list is in it.
+pub stands-in : {A : Type 0} (l : List A) (i : ℕ) (d : A) → i < length l → List·Memᴰ (getD l i d) l
+stands-in [] i d h = absurd (omega arith)
+stands-in (a ∷ l) zero d h = List·Memᴰ·head refl
+stands-in (a ∷ l) (suc i) d h = List·Memᴰ·tail (stands-in l i d (omega arith))
 
 module _ {A : Type 0} {P : A → Type 0} {a : A} {l : List A} where
   -- Of one element and others each has it, where that one has it and each of the others.

@@ -66,19 +66,19 @@ pub number-stands : {s : List ℕ} (at : ℕ) (n : Number) → Bytes s → readA
 number-stands {s} at n b e = let o = one-spelling s at n b e in record { here = o .stands-here; ends = o .ends }
 
 -- So a value is read where its spelling stands, within its limit.
-value-read : {s : List ℕ} {at next : ℕ} (most v : ℕ) → most ≤ maxNumber → 1 ≤ v → v ≤ most → Stands s at (spelling v) next
+pub value-read : {s : List ℕ} {at next : ℕ} (most v : ℕ) → most ≤ maxNumber → 1 ≤ v → v ≤ most → Stands s at (spelling v) next
     → readValue (withinLimit most) s at ≡ number.Number (record { value = v; next = next })
 value-read {s} {at} most v m l h p = value-stands (withinLimit most) s at _ (record { reads = number-read v (omega arith) p; is-fine = within-fine most v l h })
 
 -- ---- a row
 
 -- Somewhere stands the spelling of a row within its limits.
-record RowStands (s : List ℕ) (at : ℕ) (r : Row) (next : ℕ) : Type 0 where
-  limits : WithinLimits r
-  stands : Stands s at (spelledRow r) next
+pub record RowStands (s : List ℕ) (at : ℕ) (r : Row) (next : ℕ) : Type 0 where
+  pub limits : WithinLimits r
+  pub stands : Stands s at (spelledRow r) next
 
 -- There the row is read.
-row-read : {s : List ℕ} {at next : ℕ} {r : Row} → RowStands s at r next → readRow s at ≡ row.Row (record { row = r; next = next })
+pub row-read : {s : List ℕ} {at next : ℕ} {r : Row} → RowStands s at r next → readRow s at ≡ row.Row (record { row = r; next = next })
 row-read {r} p =
     let w = p .limits in
     let x = parted (spelling (r .x)) (spelling (r .y) ++ (spelling (r .d) ++ spelling (r .c))) (p .stands) in
@@ -92,7 +92,7 @@ row-read {r} p =
     )
 
 -- Where a row is read, its spelling stands, within its limits.
-row-stands : {s : List ℕ} (at : ℕ) (r : RowAt) → Bytes s → readRow s at ≡ row.Row r → RowStands s at (r .row) (r .next)
+pub row-stands : {s : List ℕ} (at : ℕ) (r : RowAt) → Bytes s → readRow s at ≡ row.Row r → RowStands s at (r .row) (r .next)
 row-stands {s} at r b e =
     let v = four-values s at r e in
     let x = number-stands at (v .x) b (v .x-stands .reads) in

@@ -5,15 +5,16 @@ use mathlib.Core.Path.{_≡_}
 use mathlib.Core.Logic.{_↔_}
 use mathlib.Core.Bool.{true}
 use mathlib.Core.List.{List, _++_, flatten, map, List·Memᴰ}
-use lib.ListN.{length}
+use lib.ListN.{length, getD}
+use Rattle.kinds.specs.declared.RefusedAt.{RefusedAt}
 use Rattle.numbers.specs.Laws.{Bytes}
 use Rattle.numbers.specs.Spelling.{spelling}
 use Rattle.table.specs.declared.Row.{Row}
-use Rattle.table.specs.declared.TableAnswer.the-variants.{Accepted}
-use Rattle.table.specs.Limits.{maxRows, maxX, maxY, maxD, maxC, maxPeriod}
+use Rattle.table.specs.declared.TableAnswer.the-variants.{Accepted, Refused}
+use Rattle.table.specs.Limits.{maxRows, maxX, maxY, maxD, maxC, maxPeriod, limits}
 use Rattle.table.specs.Period.{leastCommonMultiple, periodOf}
 use Rattle.table.specs.Rows.{rowInRange}
-use Rattle.table.specs.Tables.{rowsOf, tableOf, tableRead}
+use Rattle.table.specs.Tables.{rowsOf, tableOf, emptyTable, noRow, InRange, tableRead}
 
 -- Each value of a row is from 1 to its limit. (3.2)
 pub record WithinLimits (r : Row) : Type 0 where
@@ -62,7 +63,11 @@ pub record UsableRows (s : List ℕ) (h : ℕ) (rows : List Row) : Type 0 where
   pub most-period : h ≤ maxPeriod
   pub divides-period : (r : Row) → List·Memᴰ r rows → r .y ∣ h
 
--- ---- what is proved (proofs/Laws.antt; PeriodIsLeast in proofs/Periods.antt)
+-- ---- what is proved (proofs/Laws.antt; PeriodIsLeast in proofs/Periods.antt, and of whatever is read in proofs/Tables.antt)
+
+-- The limits: 16 rows; 64 for x, 4,096 for y, 16,384 for d and 4,096 for c; 1,048,576 for H. (3.1, 3.2, 3.4)
+abbrev pub LimitsOfTables : Type 0
+LimitsOfTables = limits ≡ record { rows = 16; x = 64; y = 4096; d = 16384; c = 4096; period = 1048576 }
 
 -- The test of a row means that its values are within their limits.
 abbrev pub InRangeMeans : Type 0
@@ -91,3 +96,16 @@ SpellingsOfTablesDiffer = (rows others : List Row) → Acceptable rows → Accep
 -- .. and the rows in use of an accepted table are good for what is done with them.
 abbrev pub AcceptedRowsAreUsable : Type 0
 AcceptedRowsAreUsable = (s : List ℕ) (h : ℕ) → Bytes s → tableRead s .answer ≡ Accepted h → UsableRows s h (rowsOf (tableRead s .table))
+
+-- Whatever the bytes, the table that they are read as is in range ..
+abbrev pub ReadInRange : Type 0
+ReadInRange = (s : List ℕ) → Bytes s → InRange (tableRead s .table)
+
+-- .. and its unused rows hold zeros. (3.14)
+abbrev pub UnusedHoldZeros : Type 0
+UnusedHoldZeros = (s : List ℕ) → Bytes s → (i : ℕ) → tableRead s .table .count ≤ i
+    → getD (tableRead s .table .rows) i noRow ≡ record { x = 0; y = 0; d = 0; c = 0 }
+
+-- Where they are refused, it is the empty one. (10.5)
+abbrev pub RefusedIsEmpty : Type 0
+RefusedIsEmpty = (s : List ℕ) (r : RefusedAt) → tableRead s .answer ≡ Refused r → tableRead s .table ≡ emptyTable

@@ -3,3 +3,4 @@ pub mod Period
 pub mod Rows
 pub mod Tables
 pub mod Laws
+pub mod Refusals

@@ -10,8 +10,8 @@ use borrow.Author.Tests.{lt-ltb, le-ltb}
 use lib.ListN.{length, getD, take, drop, length-take, length-drop, length-map}
 use lib.Seq.{getD-take, getD-drop}
 use Rattle.theory.specs.Jobs.{Job}
-use Rattle.theory.specs.DueTimes.{dueTime, releases, dues, ByRule}
-use Rattle.theory.specs.DueTimes.{DueByRecurrenceOne, DueAtLeastD, DueSpacedByY, DueInOrder, NewestAreEnough}
+use Rattle.theory.specs.DueTimes.{dueTime, releases, dues, ByRule, RecurrenceOne}
+use Rattle.theory.specs.DueTimes.{DueByRecurrenceOne, RecurrenceSettles, DueAtLeastD, DueSpacedByY, DueInOrder, NewestAreEnough}
 use Rattle.theory.proofs.Cases.{by-lt}
 
 -- ---- one due time
@@ -95,6 +95,19 @@ due-by-recurrence-one x y d c js px r = record {
 
     many-releases : length (releases js) ≡ length js
     many-releases = length-map js (λ j. j .release)
+
+-- Two sequences that satisfy the recurrence agree on the first m jobs: past x each due time rests on that of the x-th job before.
+agree-up-to : (x y d n : ℕ) (t D E : ℕ → ℕ) → 1 ≤ x → RecurrenceOne x y d n t D → RecurrenceOne x y d n t E
+    → (m j : ℕ) → 1 ≤ j → j ≤ n → j ≤ m → D j ≡ E j
+agree-up-to x y d n t D E px p q zero j some few up = absurd (omega arith)
+agree-up-to x y d n t D E px p q (suc m) j some few up = by-lt x j
+    (λ h.
+    let before = agree-up-to x y d n t D E px p q m (j - x) (omega arith) (omega arith) (omega arith) in
+    omega (arith, p .past-x j h few, q .past-x j h few, before))
+    (λ h. omega (arith, p .up-to-x j some h few, q .up-to-x j some h few))
+
+pub recurrence-settles : RecurrenceSettles
+recurrence-settles x y d n t D E px p q j some few = agree-up-to x y d n t D E px p q n j some few few
 
 -- The due time at place i is at least d after the release ..
 pub due-at-least-d-at : (x y d c : ℕ) (js : List Job) → ByRule x y d c js → (i : ℕ) → i < length js → getD (releases js) i 0 + d ≤ getD (dues js) i 0

@@ -61,6 +61,11 @@ allAtZero x y d c source first (suc n) =
 abbrev pub DueByRecurrenceOne : Type 0
 DueByRecurrenceOne = (x y d c : ℕ) (js : List Job) → 1 ≤ x → ByRule x y d c js → RecurrenceOne x y d (length js) (jth (releases js)) (jth (dues js))
 
+-- The recurrence settles them: of the same releases there is one sequence of due times.
+abbrev pub RecurrenceSettles : Type 0
+RecurrenceSettles = (x y d n : ℕ) (t D E : ℕ → ℕ) → 1 ≤ x → RecurrenceOne x y d n t D → RecurrenceOne x y d n t E
+    → (j : ℕ) → 1 ≤ j → j ≤ n → D j ≡ E j
+
 -- Each job is due at least d after its release.
 abbrev pub DueAtLeastD : Type 0
 DueAtLeastD = (x y d c : ℕ) (js : List Job) → ByRule x y d c js → All (λ j. j .release + d ≤ j .due) js

@@ -17,6 +17,7 @@ use Rattle.verdict.specs.declared.Verdict.the-variants as verdict
 use Rattle.verdict.specs.declared.Scan.the-variants as scan
 use Rattle.verdict.specs.Demand.{tableDemand, tableGrowth, largestD}
 use Rattle.verdict.specs.Verdict.{RightOf, RightOfRead, verdictSays, Scanned, OneVerdict, SomeVerdict, NeverSaysZero, SaidApart}
+use Rattle.verdict.specs.Verdict.{FeasibleSays, OverloadedSays, RefusedVerdictSays}
 use Rattle.verdict.proofs.Accepted.{Known, accepted-is-known}
 
 -- A witness is its length and its demand.
@@ -96,3 +97,12 @@ same-said (verdict.Refused q) (verdict.Refused r) n f s =
 
 pub said-apart : SaidApart
 said-apart v w e = same-said v w (ap (λ (s : Said). s .number) e) (ap (λ (s : Said). s .first) e) (ap (λ (s : Said). s .second) e)
+
+pub feasible-says : FeasibleSays
+feasible-says = refl
+
+pub overloaded-says : OverloadedSays
+overloaded-says L demand = refl
+
+pub refused-verdict-says : RefusedVerdictSays
+refused-verdict-says r place = refl

@@ -3,7 +3,8 @@
 use Prim.Native.Nat.{ℕ, _≤_, _<_}
 use mathlib.Core.Path.{_≡_}
 use mathlib.Core.List.{List}
-use Rattle.kinds.specs.Numbering.{Said, refusedSays}
+use Rattle.kinds.specs.Numbering.{Said, refusedSays, refusalNumber}
+use Rattle.kinds.specs.declared.Refusal.{Refusal}
 use Rattle.numbers.specs.Laws.{Bytes}
 use Rattle.theory.specs.Curves.{EveryLengthFits, SmallestFailing}
 use Rattle.table.specs.declared.Table.{Table}
@@ -61,3 +62,16 @@ NeverSaysZero = (v : Verdict) → 1 ≤ verdictSays v .number
 -- .. and different verdicts say different things.
 abbrev pub SaidApart : Type 0
 SaidApart = (v w : Verdict) → verdictSays v ≡ verdictSays w → v ≡ w
+
+-- What each verdict says: feasible 20, 0 and 0; overloaded 21, the smallest length and its demand; ..
+abbrev pub FeasibleSays : Type 0
+FeasibleSays = verdictSays verdict.Feasible ≡ record { number = 20; first = 0; second = 0 }
+
+abbrev pub OverloadedSays : Type 0
+OverloadedSays = (L demand : ℕ)
+    → verdictSays (verdict.Overloaded (record { length = L; demand = demand })) ≡ record { number = 21; first = L; second = demand }
+
+-- .. a refusal its number, its place and 0. (9.5)
+abbrev pub RefusedVerdictSays : Type 0
+RefusedVerdictSays = (r : Refusal) (place : ℕ)
+    → verdictSays (verdict.Refused (record { refusal = r; place = place })) ≡ record { number = refusalNumber r; first = place; second = 0 }

@@ -1,0 +1,277 @@
+-- A value, a row or rows that are refused: good values stand up to a bad one, and the refusal is that of the bad one, at its start. Each level is shown from
+-- the one below, both ways. (docs/RULES.md, 3.7, 3.8 and 3.10.)
+use Prim.Native.Nat.{ℕ, zero, suc, _≤_, _<_}
+use native.Mathlib.Decide.{decLe}
+use native.Mathlib.Omega.{arith}
+use mathlib.Core.Path.{_≡_, refl, sym, ap, _∙_}
+use mathlib.Core.Logic.{_⊎_, inl, inr, ⊎-elim}
+use mathlib.Core.List.{List, [], _∷_, flatten, map}
+use lib.ListN.{length, getD}
+use borrow.Author.Tests.{le-leb, lt-leb}
+use Rattle.kinds.specs.declared.Refusal.{Refusal}
+use Rattle.kinds.specs.declared.Refusal.the-variants.{Misspelled}
+use Rattle.kinds.specs.declared.RefusedAt.{RefusedAt}
+use Rattle.numbers.specs.declared.Number.{Number}
+use Rattle.numbers.specs.declared.NumberRead.{NumberRead}
+use Rattle.numbers.specs.declared.NumberRead.the-variants as number
+use Rattle.numbers.specs.Spelling.{maxNumber, spelling}
+use Rattle.numbers.specs.Reading.{readAt}
+use Rattle.numbers.specs.Laws.{Bytes, Spelled}
+use Rattle.numbers.proofs.Laws.{one-spelling, refused-at-its-start}
+use Rattle.table.specs.declared.Row.{Row}
+use Rattle.table.specs.declared.RowRead.{RowRead}
+use Rattle.table.specs.declared.RowRead.the-variants as row
+use Rattle.table.specs.Rows.{withinLimit, readValue, afterValue, readRow}
+use Rattle.table.specs.Tables.{Rows, rows, refused, inFront, afterRow, readRows}
+use Rattle.table.specs.Laws.{spelledRow}
+use Rattle.table.specs.Refusals.{NoNumber, valueLimits, FirstValues, BadValue, misspelled, out-of-range}
+use Rattle.table.proofs.Each.{each-none, each-cons, each-head, each-tail}
+use Rattle.table.proofs.Spelling.{Stands, parted, joined, number-read, value-read, RowStands, row-read, row-stands, RowsStand}
+
+-- ---- a number
+
+module _ {s : List ℕ} {at : ℕ} where
+  -- Where a number is spelled stands its spelling ..
+  spelled-stands : {n : Number} → Spelled s at n → Stands s at (spelling (n .value)) (n .next)
+  spelled-stands p = record { here = p .stands-here; ends = p .ends }
+
+  -- .. and it is read there; ..
+  pub spelled-read : {n : Number} → Spelled s at n → readAt s at ≡ number.Number n
+  spelled-read {n} p = number-read (n .value) (p .in-range) (spelled-stands p)
+
+  -- .. where none is, the place is refused with 1, ..
+  pub none-read : Bytes s → NoNumber s at → readAt s at ≡ number.Refused (record { refusal = Misspelled; place = at })
+  none-read b none = go (readAt s at) refl
+    where
+      go : (v : NumberRead) → readAt s at ≡ v → v ≡ number.Refused (record { refusal = Misspelled; place = at })
+      go (number.Number n) e = absurd (none n (one-spelling s at n b e))
+      go (number.Refused r) e = ap number.Refused (refused-at-its-start s at r e)
+
+  -- .. and where a place is refused, none is spelled.
+  pub refused-none : {r : RefusedAt} → readAt s at ≡ number.Refused r → NoNumber s at
+  refused-none e = λ n p. let q = spelled-read p in let z : _≡_ {A = ℕ} 0 1 = cc in omega arith
+
+-- ---- a value
+
+-- What a value is answered with: itself, from 1 to its limit, or a refusal at its start for what is wrong with it.
+data ValueAnswer (s : List ℕ) (at most : ℕ) : NumberRead → Type 0 where
+  good : {n : Number} → Spelled s at n → 1 ≤ n .value → n .value ≤ most → ValueAnswer s at most (number.Number n)
+  bad : {r : Refusal} → BadValue s at most r → ValueAnswer s at most (number.Refused (record { refusal = r; place = at }))
+
+module _ {s : List ℕ} {at most : ℕ} where
+  -- A value in its range is answered ..
+  good-value : {n : Number} → Spelled s at n → 1 ≤ n .value → n .value ≤ most → readValue (withinLimit most) s at ≡ number.Number n
+  good-value {n} p l h = simp (spelled-read p, le-leb 1 (n .value) l, le-leb (n .value) most h)
+
+  -- .. and a bad one is refused.
+  bad-refused : {r : Refusal} → Bytes s → BadValue s at most r → readValue (withinLimit most) s at ≡ number.Refused (record { refusal = r; place = at })
+  bad-refused b (misspelled none) = simp (none-read b none)
+  bad-refused b (out-of-range n p o) = ⊎-elim
+      (λ z. simp (spelled-read p, lt-leb 1 (n .value) (omega arith)))
+      (λ l. elim (decLe 1 (n .value)) [
+        | yes k ↦ simp (spelled-read p, le-leb 1 (n .value) k, lt-leb (n .value) most l)
+        | no k ↦ simp (spelled-read p, lt-leb 1 (n .value) (omega arith))
+      ])
+      o
+
+  -- No value is answered otherwise.
+  value-answer : Bytes s → ValueAnswer s at most (readValue (withinLimit most) s at)
+  value-answer b = go (readAt s at) refl
+    where
+      outside : (n : Number) → readAt s at ≡ number.Number n → (n .value ≡ 0) ⊎ (most < n .value) → ValueAnswer s at most (readValue (withinLimit most) s at)
+      outside n e o = let w = out-of-range n (one-spelling s at n b e) o in rw (bad-refused b w) (bad w)
+
+      go : (v : NumberRead) → readAt s at ≡ v → ValueAnswer s at most (readValue (withinLimit most) s at)
+      go (number.Number n) e = elim (decLe 1 (n .value)) [
+        | yes l ↦ elim (decLe (n .value) most) [
+          | yes h ↦ let p = one-spelling s at n b e in rw (good-value p l h) (good p l h)
+          | no h ↦ outside n e (inr (omega arith))
+        ]
+        | no l ↦ outside n e (inl (omega arith))
+      ]
+      go (number.Refused r) e = let w = misspelled (refused-none e) in rw (bad-refused b w) (bad w)
+
+-- ---- a row
+
+-- Values one after another, with one limit each, and then what is made of them.
+fromValues : (limits : List ℕ) → List ℕ → (at : ℕ) → (List ℕ → ℕ → RowRead) → RowRead
+fromValues [] s at k = k [] at
+fromValues (most ∷ limits) s at k =
+    afterValue (readValue (withinLimit most) s at) (λ n. fromValues limits s (n .next) (λ values next. k (n .value ∷ values) next))
+
+-- A row of four values.
+ofFour : List ℕ → ℕ → RowRead
+ofFour values next = row.Row (record {
+  row = record { x = getD values 0 0; y = getD values 1 0; d = getD values 2 0; c = getD values 3 0 };
+  next = next;
+})
+
+-- So a row is read.
+row-from-values : (s : List ℕ) (at : ℕ) → readRow s at ≡ fromValues valueLimits s at ofFour
+unfolding fromValues ofFour
+row-from-values s at = refl
+
+-- With one more in front, from 1 to its limit, values are still the first of a row ..
+first-more : {most v : ℕ} {limits values : List ℕ} → 1 ≤ v → v ≤ most → FirstValues limits values → FirstValues (most ∷ limits) (v ∷ values)
+first-more {most} {v} {limits} {values} l h first = record { fewer = omega (arith, first .fewer); within = each }
+  where
+    each : (i : ℕ) → i < suc (length values) → (1 ≤ getD (v ∷ values) i 0) × (getD (v ∷ values) i 0 ≤ getD (most ∷ limits) i 0)
+    each zero k = (l, h)
+    each (suc i) k = first .within i (omega arith)
+
+-- .. and so they are without the one in front.
+first-less : {most v : ℕ} {limits values : List ℕ} → FirstValues (most ∷ limits) (v ∷ values) → FirstValues limits values
+first-less first = record { fewer = omega (arith, first .fewer); within = λ i h. first .within (suc i) (omega arith) }
+
+-- From a place on stand the first values of a row, up to a value that is bad; so the refusal is that of the bad one.
+pub record EndsBadly (limits s : List ℕ) (at : ℕ) (r : RefusedAt) : Type 0 where
+  pub values : List ℕ
+  pub next : ℕ
+  pub kind : Refusal
+  pub first : FirstValues limits values
+  pub stand : Stands s at (flatten (map spelling values)) next
+  pub wrong : BadValue s next (getD limits (length values) 0) kind
+  pub is : r ≡ record { refusal = kind; place = next }
+
+-- The first value may be the bad one ..
+bad-first : {most : ℕ} {limits s : List ℕ} {at : ℕ} {r : RefusedAt} {kind : Refusal} → BadValue s at most kind
+    → r ≡ record { refusal = kind; place = at } → EndsBadly (most ∷ limits) s at r
+unfolding flatten
+bad-first {at} {kind} w e = record {
+  values = [];
+  next = at;
+  kind = kind;
+  first = record { fewer = omega arith; within = λ i h. absurd (omega arith) };
+  stand = record { here = refl; ends = omega arith };
+  wrong = w;
+  is = e;
+}
+
+-- .. or a good one comes before the others.
+good-first : {most : ℕ} {limits s : List ℕ} {at : ℕ} {r : RefusedAt} {n : Number} → Spelled s at n → 1 ≤ n .value → n .value ≤ most
+    → EndsBadly limits s (n .next) r → EndsBadly (most ∷ limits) s at r
+unfolding flatten
+good-first {n} p l h e = record {
+  values = n .value ∷ e .values;
+  next = e .next;
+  kind = e .kind;
+  first = first-more l h (e .first);
+  stand = joined (spelled-stands p) (e .stand);
+  wrong = e .wrong;
+  is = e .is;
+}
+
+-- Values that end in a refusal end badly ..
+ends-badly : (limits : List ℕ) {s : List ℕ} (at : ℕ) (k : List ℕ → ℕ → RowRead) {r : RefusedAt} → Bytes s
+    → ((values : List ℕ) (next : ℕ) → k values next ≡ row.Refused r → ⊥) → fromValues limits s at k ≡ row.Refused r → EndsBadly limits s at r
+unfolding fromValues
+ends-badly [] at k b made e = absurd (made [] at e)
+ends-badly (most ∷ limits) {s} at k {r} b made e =
+    go (readValue (withinLimit most) s at) (value-answer b) e
+    (λ n f. ends-badly limits (n .next) (λ values next. k (n .value ∷ values) next) b (λ values next. made (n .value ∷ values) next) f)
+  where
+    go : (v : NumberRead) → ValueAnswer s at most v
+        → afterValue v (λ n. fromValues limits s (n .next) (λ values next. k (n .value ∷ values) next)) ≡ row.Refused r
+        → ((n : Number) → fromValues limits s (n .next) (λ values next. k (n .value ∷ values) next) ≡ row.Refused r → EndsBadly limits s (n .next) r)
+        → EndsBadly (most ∷ limits) s at r
+    go (number.Number n) (good p l h) f more = good-first p l h (more n f)
+    go (number.Refused q) (bad w) f more = bad-first w cc
+
+-- .. and values that end badly, all limits of which can be spelled, end in the refusal.
+badly-refused : (limits values : List ℕ) {s : List ℕ} (at : ℕ) (k : List ℕ → ℕ → RowRead) {next : ℕ} {kind : Refusal} → Bytes s
+    → ((i : ℕ) → getD limits i 0 ≤ maxNumber) → FirstValues limits values → Stands s at (flatten (map spelling values)) next
+    → BadValue s next (getD limits (length values) 0) kind → fromValues limits s at k ≡ row.Refused (record { refusal = kind; place = next })
+unfolding fromValues flatten
+badly-refused [] values at k b small first stand wrong = absurd (omega (arith, first .fewer))
+badly-refused (most ∷ limits) [] {s} at k {next} {kind} b small first stand wrong =
+    let same : next ≡ at = omega (arith, stand .ends) in
+    rw same (rw (bad-refused b (rw same at wrong)))
+badly-refused (most ∷ limits) (v ∷ values) {s} at k {next} {kind} b small first stand wrong =
+    let t = parted (spelling v) (flatten (map spelling values)) stand in
+    let w = first .within 0 (omega arith) in
+    rw (value-read most v (small 0) (w .0) (w .1) (t .1))
+    (badly-refused limits values (t .0) (λ others after. k (v ∷ others) after) b (λ i. small (suc i)) (first-less first) (t .2) wrong)
+
+-- The limits of a row's values can be spelled.
+limits-small : (i : ℕ) → getD valueLimits i 0 ≤ maxNumber
+limits-small zero = omega arith
+limits-small (suc zero) = omega arith
+limits-small (suc (suc zero)) = omega arith
+limits-small (suc (suc (suc zero))) = omega arith
+limits-small (suc (suc (suc (suc i)))) = omega arith
+
+-- So a row is refused where its values end badly ..
+row-refused : {s : List ℕ} {at next : ℕ} {kind : Refusal} (values : List ℕ) → Bytes s → FirstValues valueLimits values
+    → Stands s at (flatten (map spelling values)) next → BadValue s next (getD valueLimits (length values) 0) kind
+    → readRow s at ≡ row.Refused (record { refusal = kind; place = next })
+row-refused {s} {at} values b first stand wrong = row-from-values s at ∙ badly-refused valueLimits values at ofFour b limits-small first stand wrong
+
+-- .. and nowhere else.
+row-ends-badly : {s : List ℕ} {at : ℕ} {r : RefusedAt} → Bytes s → readRow s at ≡ row.Refused r → EndsBadly valueLimits s at r
+unfolding ofFour
+row-ends-badly {s} {at} b e =
+    ends-badly valueLimits at ofFour b (λ values next made. let z : _≡_ {A = ℕ} 0 1 = cc in omega arith) (sym (row-from-values s at) ∙ e)
+
+-- ---- rows
+
+-- From a place on stand fewer rows than there should be, and the values of the next one end badly.
+pub record RowsEndBadly (n : ℕ) (s : List ℕ) (at : ℕ) (r : RefusedAt) : Type 0 where
+  pub before : List Row
+  pub next : ℕ
+  pub fewer : length before < n
+  pub stand : RowsStand s at before next
+  pub then : EndsBadly valueLimits s next r
+
+-- The first row may be the one ..
+first-ends-badly : {n : ℕ} {s : List ℕ} {at : ℕ} {r : RefusedAt} → EndsBadly valueLimits s at r → RowsEndBadly (suc n) s at r
+unfolding flatten
+first-ends-badly {at} e = record {
+  before = [];
+  next = at;
+  fewer = omega arith;
+  stand = record { limits = each-none _; stand = record { here = refl; ends = omega arith } };
+  then = e;
+}
+
+-- .. or it stands before the others.
+later-ends-badly : {n : ℕ} {s : List ℕ} {at after : ℕ} {r : RefusedAt} {q : Row} → RowStands s at q after → RowsEndBadly n s after r
+    → RowsEndBadly (suc n) s at r
+unfolding flatten
+later-ends-badly {q} p e = record {
+  before = q ∷ e .before;
+  next = e .next;
+  fewer = omega (arith, e .fewer);
+  stand = record { limits = each-cons (p .limits) (e .stand .limits); stand = joined (p .stands) (e .stand .stand) };
+  then = e .then;
+}
+
+-- A row in front hides no refusal.
+behind-front : (q : Row) (v : Rows) {r : RefusedAt} → inFront q v ≡ refused r → v ≡ refused r
+behind-front q (rows rs next) e = absurd (let z : _≡_ {A = ℕ} 0 1 = cc in omega arith)
+behind-front q (refused at) e = e
+
+-- Rows that are refused end badly ..
+pub rows-end-badly : (n : ℕ) {s : List ℕ} (at : ℕ) {r : RefusedAt} → Bytes s → readRows n s at ≡ refused r → RowsEndBadly n s at r
+unfolding readRows
+rows-end-badly zero at b e = absurd (let z : _≡_ {A = ℕ} 0 1 = cc in omega arith)
+rows-end-badly (suc n) {s} at {r} b e = go (readRow s at) refl e (λ next f. rows-end-badly n next b f)
+  where
+    go : (v : RowRead) → readRow s at ≡ v → afterRow v (λ q after. inFront q (readRows n s after)) ≡ refused r
+        → ((next : ℕ) → readRows n s next ≡ refused r → RowsEndBadly n s next r) → RowsEndBadly (suc n) s at r
+    go (row.Row q) f g more = later-ends-badly (row-stands at q b f) (more (q .next) (behind-front (q .row) (readRows n s (q .next)) g))
+    go (row.Refused q) f g more = let same : q ≡ r = cc in first-ends-badly (row-ends-badly b (f ∙ ap row.Refused same))
+
+-- .. and rows that end badly are refused.
+pub rows-refused : (n : ℕ) {s : List ℕ} (at : ℕ) (before : List Row) {mid next : ℕ} {kind : Refusal} (values : List ℕ) → Bytes s → length before < n
+    → RowsStand s at before mid → FirstValues valueLimits values → Stands s mid (flatten (map spelling values)) next
+    → BadValue s next (getD valueLimits (length values) 0) kind → readRows n s at ≡ refused (record { refusal = kind; place = next })
+unfolding readRows flatten
+rows-refused zero at before values b fewer p first stand wrong = absurd (omega arith)
+rows-refused (suc n) {s} at [] {mid} values b fewer p first stand wrong =
+    let same : mid ≡ at = omega (arith, p .stand .ends) in
+    rw (row-refused values b first (rw same at stand) wrong)
+rows-refused (suc n) {s} at (q ∷ before) values b fewer p first stand wrong =
+    let t = parted (spelledRow q) (flatten (map spelledRow before)) (p .stand) in
+    let one = row-read (record { limits = each-head (p .limits); stands = t .1 }) in
+    let others = rows-refused n (t .0) before values b (omega arith) (record { limits = each-tail (p .limits); stand = t .2 }) first stand wrong in
+    simp (one, others)
