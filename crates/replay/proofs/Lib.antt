@@ -13,3 +13,4 @@ pub mod Conservation
 pub mod InOrder
 pub mod Asked
 pub mod Laws
+pub mod Answering
