@@ -61,9 +61,9 @@ ReplayOfSixteen = (table script log answer : List ℕ) (status : ℕ) (after lef
 
 -- So 13 is given exactly where the answer buffer is not 16 bytes long, ..
 abbrev pub ReplayIs13 : Type 0
-ReplayIs13 = (table script : List ℕ) (room size : ℕ) → Bytes table → (replayStatus table script room size ≡ 13) ↔ (size ≢ 16)
+ReplayIs13 = (table script : List ℕ) (room size : ℕ) → Bytes table → Bytes script → (replayStatus table script room size ≡ 13) ↔ (size ≢ 16)
 
 -- .. and 11 and 25 are never given. (10.6)
 abbrev pub ReplayNever11Or25 : Type 0
-ReplayNever11Or25 = (table script : List ℕ) (room size : ℕ) → Bytes table
+ReplayNever11Or25 = (table script : List ℕ) (room size : ℕ) → Bytes table → Bytes script
     → (replayStatus table script room size ≢ 11) × (replayStatus table script room size ≢ 25)

@@ -2,18 +2,20 @@
 -- (docs/RULES.md, sections 8.8 to 8.17, 9.5 and 10.)
 use Prim.Native.Nat.{ℕ, zero, suc, _+_, _-_, _≤_, _<_}
 use mathlib.Core.Path.{_≡_, refl, sym, ap, ap₂, subst, _∙_}
-use mathlib.Core.Logic.{_⊎_, inl, inr, ⊎-elim}
+use mathlib.Core.Logic.{_⊎_, _≢_, inl, inr, ⊎-elim}
 use mathlib.Core.Bool.{true, _&&_}
 use mathlib.Core.List.{List, [], _∷_, _++_, flatten, List·Memᴰ·head, List·Memᴰ·tail, List·Memᴰ·cases-cons, List·Memᴰ·not-nil}
 use native.Mathlib.Omega.{arith}
-use lib.Dec.{leb, ltb, eqb}
+use lib.Dec.{leb, ltb}
 use lib.ListN.{length, drop, length-append, length-drop, length-replicate, getD-replicate}
 use lib.Seq.{take-at, drop-at}
 use borrow.Author.Tests.{le-leb, lt-leb, lt-ltb, le-ltb, eq-eqb, ne-eqb}
-use Rattle.kinds.specs.Numbering.{maxTime}
+use Rattle.kinds.specs.Numbering.{maxTime, refusalNumber}
 use Rattle.kinds.specs.declared.Finish.{Finish}
-use Rattle.kinds.specs.declared.Refusal.the-variants.{NoRoom}
+use Rattle.kinds.specs.declared.Refusal.the-variants.{NoSuchRow, CostOutOfRange, TimeTooLate, NoRoom, ScriptMisspelled}
+use Rattle.kinds.specs.declared.Refusal.{Refusal}
 use Rattle.kinds.specs.declared.RefusedAt.{RefusedAt}
+use Rattle.kinds.proofs.Numbering.{numbers-differ}
 use Rattle.numbers.specs.Laws.{Bytes}
 use Rattle.numbers.specs.declared.Number.{Number}
 use Rattle.numbers.specs.declared.NumberRead.{NumberRead}
@@ -21,10 +23,9 @@ use Rattle.numbers.specs.declared.NumberRead.the-variants as number
 use Rattle.numbers.specs.Spelling.{maxGroups}
 use Rattle.numbers.specs.Reading.{Spelt, superfluous-zero, asks-for-more, cut-off, answered, spelt, readAt}
 use Rattle.numbers.specs.Reading as spelt
-use Rattle.theory.proofs.Cases.{by-lt, by-test}
+use Rattle.theory.proofs.Cases.{by-lt, by-eq, by-test}
 use Rattle.theory.specs.DueTimes.{dueTime}
 use Rattle.table.specs.declared.Row.{Row}
-use Rattle.table.specs.declared.Table.{Table}
 use Rattle.table.specs.declared.TableAnswer.{TableAnswer}
 use Rattle.table.specs.declared.TableAnswer.the-variants as answer
 use Rattle.table.specs.Limits.{maxRows, maxPeriod, maxX, maxY, maxD, maxC}
@@ -40,27 +41,29 @@ use Rattle.jobs.specs.Places.{maxPlaces}
 use Rattle.run.specs.declared.Run.{Run}
 use Rattle.run.specs.declared.Released.{Released}
 use Rattle.run.specs.declared.Released.the-variants as release
-use Rattle.run.specs.Runs.{startAnswer, started, rowInUse, rowAt, costLimit, keptOf}
+use Rattle.run.specs.Runs.{freshRun, started, rowInUse, rowAt, costLimit, keptOf}
 use Rattle.run.specs.Sound.{fromOneTo, soundOf}
 use Rattle.run.specs.Release.{atDue, released}
 use Rattle.run.specs.Advance.{Since, oneMore, ticks, ticksWhilePending}
 use Rattle.run.proofs.Ticking.{Good, tick-keeps-good}
 use Rattle.run.proofs.Release.{release-keeps-sound}
 use Rattle.run.proofs.Fresh.{started-is-sound}
-use Rattle.script.specs.Records.{scriptNumber, asScripts}
+use Rattle.script.specs.declared.RecordAt.{RecordAt}
+use Rattle.script.specs.declared.RecordRead.the-variants as read
+use Rattle.script.specs.Records.{scriptNumber, asScripts, recordAt}
+use Rattle.script.proofs.Laws.{record-is-spelled}
 use Rattle.log.specs.Laws.{spelledLog}
 use Rattle.replay.specs.declared.Replayed.{Replayed}
 use Rattle.replay.specs.declared.Replayed.the-variants as replayed
-use Rattle.replay.specs.declared.Numbers.{Numbers}
 use Rattle.replay.specs.declared.Ready.{Ready}
-use Rattle.replay.specs.declared.Tested.{Tested}
-use Rattle.replay.specs.declared.Tested.the-variants as tested
-use Rattle.replay.specs.Numbers.{numbersAt, testedNumbers}
-use Rattle.replay.specs.Play.{Progress, begun, Step, goes-on, stops, afterRelease, tickedTo, afterTests, stepped}
-use Rattle.replay.specs.Play.{Played, whole, stopped, finalTicks, andThen, playedFrom, onceStarted, played}
+use Rattle.replay.specs.Numbers.{numbersAt}
+use Rattle.replay.specs.Play.{Progress, begun, Step, goes-on, stops, afterRelease, stepped}
+use Rattle.replay.specs.Play.{Played, whole, stopped, finalTicks, andThen, playedFrom, played}
 use Rattle.replay.specs.Outcome.{lateFinishes, replayOf}
 use Rattle.replay.specs.Answers as laws
-use Rattle.replay.specs.Answers.{AllInTime, CanStop, Ended, LogHolds}
+use Rattle.replay.specs.Answers.{AllInTime, CanStop, Ended, LogHolds, GapPassed, RowPassed, CostPassed, Unreadable, RecordRefused, RecordTaken}
+use Rattle.replay.specs.Answers.{ComesTo, begins, goes-further, atLast, leftAtLast, StoppedFor, the-table, a-record, the-clock}
+use Rattle.replay.specs.Answers.{no-gap, too-late, no-row-number, no-such-row, no-cost, cost-out-of-range, release-refused}
 use Rattle.replay.proofs.Laws.{log-reads-back}
 
 -- ---- jobs late
@@ -98,7 +101,355 @@ none-late (f ∷ fs) all =
 pub none-late-means : laws.NoneLateMeans
 none-late-means fs = (all-in-time fs, none-late fs)
 
--- ---- what stops a play
+-- ---- a record that is refused
+
+-- A number stands at a place, or none can be read there.
+by-number : {G : Type 0} (s : List ℕ) (at : ℕ) → ((n : Number) → readAt s at ≡ number.Number n → G) → (Unreadable s at → G) → G
+by-number {G} s at read unread = by-answer (readAt s at) refl
+  where
+    by-answer : (v : NumberRead) → readAt s at ≡ v → G
+    by-answer (number.Number n) e = read n e
+    by-answer (number.Refused r) e = unread (λ n f. let z : _≡_ {A = ℕ} 0 1 = cc in omega arith)
+
+-- Of a script, what can't be read is refused with 14, at its start.
+none-there : (s : List ℕ) (at : ℕ) → Unreadable s at → scriptNumber s at ≡ number.Refused (record { refusal = ScriptMisspelled; place = at })
+none-there s at = by-spelt (spelt maxGroups (drop at s) at)
+  where
+    by-spelt : (x : Spelt) → ((n : Number) → answered at x ≢ number.Number n)
+        → asScripts (answered at x) ≡ number.Refused (record { refusal = ScriptMisspelled; place = at })
+    by-spelt (spelt.number n next) none = absurd (none (record { value = n; next = next }) refl)
+    by-spelt (superfluous-zero place) none = refl
+    by-spelt (asks-for-more place) none = refl
+    by-spelt (cut-off place) none = refl
+
+module _ (s : List ℕ) (at : ℕ) (p : Progress) where
+  -- The play stops there.
+  abbrev StopsWith : Refusal → (place : ℕ) → Type 0
+  StopsWith r place = stepped p (numbersAt s at) ≡ stops (record { refusal = r; place = place })
+
+  abbrev time : Number → ℕ
+  time gap = p .since .run .clock .0 + gap .value
+
+  abbrev limit : Number → ℕ
+  limit row = costLimit (p .since .run .table) (row .value)
+
+  -- What is released at its time, and what that is answered.
+  abbrev there : Number → Progress
+  there gap = record { since = ticks (gap .value) (p .since); accepted = p .accepted }
+
+  abbrev ready : (gap row cost : Number) → Ready
+  ready gap row cost = record { time = record { 0 = time gap }; row = record { 0 = row .value }; cost = cost .value; next = cost .next }
+
+  abbrev said : (gap row cost : Number) → Released
+  said gap row cost = released (there gap .since .run) (row .value) (cost .value) .answer
+
+  -- Each test that refuses, after those that don't.
+  stops-gap : Unreadable s at → StopsWith ScriptMisspelled at
+  unfolding stepped
+  stops-gap none = rw (none-there s at none)
+
+  module _ {gap : Number} (e₁ : readAt s at ≡ number.Number gap) where
+    stops-time : maxTime < time gap → StopsWith TimeTooLate at
+    unfolding stepped
+    stops-time late = rw (e₁, lt-leb (time gap) maxTime late)
+
+    module _ (in-time : time gap ≤ maxTime) where
+      stops-row-number : Unreadable s (gap .next) → StopsWith ScriptMisspelled (gap .next)
+      unfolding stepped
+      stops-row-number none = rw (e₁, le-leb (time gap) maxTime in-time, none-there s (gap .next) none)
+
+      module _ {row : Number} (e₂ : readAt s (gap .next) ≡ number.Number row) where
+        stops-row : p .since .run .table .count ≤ row .value → StopsWith NoSuchRow (gap .next)
+        unfolding stepped
+        stops-row unused = rw (
+          e₁,
+          le-leb (time gap) maxTime in-time,
+          e₂,
+          le-ltb (row .value) (p .since .run .table .count) unused,
+        )
+
+        module _ (in-use : row .value < p .since .run .table .count) where
+          stops-cost-number : Unreadable s (row .next) → StopsWith ScriptMisspelled (row .next)
+          unfolding stepped
+          stops-cost-number none = rw (
+            e₁,
+            le-leb (time gap) maxTime in-time,
+            e₂,
+            lt-ltb (row .value) (p .since .run .table .count) in-use,
+            none-there s (row .next) none,
+          )
+
+          module _ {cost : Number} (e₃ : readAt s (row .next) ≡ number.Number cost) where
+            stops-no-cost : cost .value < 1 → StopsWith CostOutOfRange (row .next)
+            unfolding stepped
+            stops-no-cost none = rw (
+              e₁,
+              le-leb (time gap) maxTime in-time,
+              e₂,
+              lt-ltb (row .value) (p .since .run .table .count) in-use,
+              e₃,
+              lt-leb 1 (cost .value) none,
+            )
+
+            stops-high-cost : 1 ≤ cost .value → limit row < cost .value → StopsWith CostOutOfRange (row .next)
+            unfolding stepped
+            stops-high-cost some high = rw (
+              e₁,
+              le-leb (time gap) maxTime in-time,
+              e₂,
+              lt-ltb (row .value) (p .since .run .table .count) in-use,
+              e₃,
+              le-leb 1 (cost .value) some,
+              lt-leb (cost .value) (limit row) high,
+            )
+
+            -- A record that passes them: its release, at its time.
+            reaches-release : 1 ≤ cost .value → cost .value ≤ limit row
+                → stepped p (numbersAt s at) ≡ afterRelease at (ready gap row cost) (there gap) (said gap row cost)
+            unfolding stepped
+            reaches-release some low =
+                let many : time gap - p .since .run .clock .0 ≡ gap .value = omega arith in
+                rw (
+                  e₁,
+                  le-leb (time gap) maxTime in-time,
+                  e₂,
+                  lt-ltb (row .value) (p .since .run .table .count) in-use,
+                  e₃,
+                  le-leb 1 (cost .value) some,
+                  le-leb (cost .value) (limit row) low,
+                  many,
+                )
+
+  -- What a record comes to: it is taken, or it is refused.
+  abbrev SteppedSo : Step → Type 0
+  SteppedSo (goes-on q next) = RecordTaken s at p q next
+  SteppedSo (stops r) = RecordRefused s at p (refusalNumber (r .refusal)) (r .place)
+
+  -- The tests in their order; there is no other way to stop.
+  step-means : SteppedSo (stepped p (numbersAt s at))
+  step-means =
+      by-number s at
+      (λ gap e₁. by-lt maxTime (time gap)
+      (λ late. subst SteppedSo (sym (stops-time e₁ late)) (too-late gap e₁ late))
+      (λ in-time. let gap-passed : GapPassed s at p gap = record { read = e₁; in-time = in-time } in
+      by-number s (gap .next)
+      (λ row e₂. by-lt (row .value) (p .since .run .table .count)
+      (λ in-use. let row-passed : RowPassed s at p gap row = record { gap-passed = gap-passed; read = e₂; in-use = in-use } in
+      by-number s (row .next)
+      (λ cost e₃. by-lt (cost .value) 1
+      (λ none. subst SteppedSo (sym (stops-no-cost e₁ in-time e₂ in-use e₃ none)) (cost-out-of-range gap row cost row-passed e₃ (inl none)))
+      (λ some. by-lt (limit row) (cost .value)
+      (λ high. subst SteppedSo (sym (stops-high-cost e₁ in-time e₂ in-use e₃ some high)) (cost-out-of-range gap row cost row-passed e₃ (inr high)))
+      (λ low.
+      let passed : CostPassed s at p gap row cost = record { row-passed = row-passed; read = e₃; some-cost = some; allowed = low } in
+      subst SteppedSo (sym (reaches-release e₁ in-time e₂ in-use e₃ some low)) (by-release gap row cost passed (said gap row cost) refl))))
+      (λ none. subst SteppedSo (sym (stops-cost-number e₁ in-time e₂ in-use none)) (no-cost gap row row-passed none)))
+      (λ unused. subst SteppedSo (sym (stops-row e₁ in-time e₂ unused)) (no-such-row gap row gap-passed e₂ unused)))
+      (λ none. subst SteppedSo (sym (stops-row-number e₁ in-time none)) (no-row-number gap gap-passed none))))
+      (λ none. subst SteppedSo (sym (stops-gap none)) (no-gap none))
+    where
+      by-release : (gap row cost : Number) → CostPassed s at p gap row cost → (a : Released) → said gap row cost ≡ a
+          → SteppedSo (afterRelease at (ready gap row cost) (there gap) a)
+      by-release gap row cost passed (release.Accepted a) e = record {
+        gap = gap;
+        row = row;
+        cost = cost;
+        passed = passed;
+        answer = a;
+        accepted = e;
+        run-then = refl;
+        late-then = refl;
+        finished-then = refl;
+        one-job-more = refl;
+        right-after = refl;
+      }
+      by-release gap row cost passed (release.Refused r) e = release-refused gap row cost passed r e
+
+  -- So it goes on where it is taken, ..
+  taken-goes-on : (q : Progress) (next : ℕ) → RecordTaken s at p q next → stepped p (numbersAt s at) ≡ goes-on q next
+  taken-goes-on q next w =
+      let c = w .passed in
+      let f = c .row-passed in
+      let g = f .gap-passed in
+      reaches-release (g .read) (g .in-time) (f .read) (f .in-use) (c .read) (c .some-cost) (c .allowed)
+      ∙ ap (afterRelease at (ready (w .gap) (w .row) (w .cost)) (there (w .gap))) (w .accepted)
+      ∙ rw (← (w .run-then), ← (w .late-then), ← (w .finished-then), ← (w .one-job-more), ← (w .right-after))
+
+  -- .. and stops where it is refused, with that number and at that place.
+  refused-stops : {n place : ℕ} → RecordRefused s at p n place
+      → (r : RefusedAt) × (stepped p (numbersAt s at) ≡ stops r) × (refusalNumber (r .refusal) ≡ n) × (r .place ≡ place)
+  refused-stops (no-gap none) = (_, stops-gap none, refl, refl)
+  refused-stops (too-late gap e late) = (_, stops-time e late, refl, refl)
+  refused-stops (no-row-number gap g none) = (_, stops-row-number (g .read) (g .in-time) none, refl, refl)
+  refused-stops (no-such-row gap row g e unused) = (_, stops-row (g .read) (g .in-time) e unused, refl, refl)
+  refused-stops (no-cost gap row q none) =
+      (_, stops-cost-number (q .gap-passed .read) (q .gap-passed .in-time) (q .read) (q .in-use) none, refl, refl)
+  refused-stops (cost-out-of-range gap row cost q e out) =
+      let g = q .gap-passed in (
+        _,
+        by-lt (cost .value) 1 (stops-no-cost (g .read) (g .in-time) (q .read) (q .in-use) e)
+            (λ some. stops-high-cost (g .read) (g .in-time) (q .read) (q .in-use) e some (⊎-elim (λ none. omega arith) (λ high. high) out)),
+        refl,
+        refl,
+      )
+  refused-stops (release-refused gap row cost q r e) =
+      let f = q .row-passed in
+      let g = f .gap-passed in
+      let to-there = reaches-release (g .read) (g .in-time) (f .read) (f .in-use) (q .read) (q .some-cost) (q .allowed) in
+      (record { refusal = r; place = at }, to-there ∙ ap (afterRelease at (ready gap row cost) (there gap)) e, refl, refl)
+
+-- A refusal is settled by its number and its place.
+same-refusal : (r q : RefusedAt) → refusalNumber (r .refusal) ≡ refusalNumber (q .refusal) → r .place ≡ q .place → r ≡ q
+same-refusal r q e f = ap₂ (λ kind place. record { refusal = kind; place = place }) (numbers-differ (r .refusal) (q .refusal) e) f
+
+pub record-stops : laws.RecordStops
+record-stops s at p r = (
+  λ e. subst (SteppedSo s at p) e (step-means s at p),
+  λ refused.
+      let found = refused-stops s at p refused in
+      found .1 ∙ ap stops (same-refusal (found .0) r (found .2) (found .3)),
+)
+
+pub record-goes-on : laws.RecordGoesOn
+record-goes-on s at p q next = (λ e. subst (SteppedSo s at p) e (step-means s at p), taken-goes-on s at p q next)
+
+-- ---- what a play is stopped for
+
+-- A record that passes its tests ends further on, in the script.
+passed-forward : (s : List ℕ) (at : ℕ) (p : Progress) (gap row cost : Number) → Bytes s → at < length s → CostPassed s at p gap row cost
+    → (at < cost .next) × (cost .next ≤ length s)
+passed-forward s at p gap row cost bytes inside passed =
+    let found : RecordAt = record { release = record { gap = gap .value; row = record { 0 = row .value }; cost = cost .value }; next = cost .next } in
+    let there : recordAt s at ≡ read.Record found = rw (
+      le-ltb (length s) at (omega arith),
+      ne-eqb at (length s) (λ same. omega arith),
+      passed .row-passed .gap-passed .read,
+      passed .row-passed .read,
+      passed .read,
+    ) in
+    let spelled = record-is-spelled s at found bytes there in
+    (spelled .forward, spelled .within)
+
+-- So does every record that the play goes on after.
+goes-forward : (s : List ℕ) (at : ℕ) (p q : Progress) (next : ℕ) → Bytes s → at < length s → stepped p (numbersAt s at) ≡ goes-on q next
+    → (at < next) × (next ≤ length s)
+goes-forward s at p q next bytes inside e =
+    let w = subst (SteppedSo s at p) e (step-means s at p) in
+    let forward = passed-forward s at p (w .gap) (w .row) (w .cost) bytes inside (w .passed) in
+    rw (w .right-after) forward
+
+-- The rest of a play from a place that it comes to, with as many records left to come as there may be.
+record Rest (t s : List ℕ) (at : ℕ) (p : Progress) : Type 0 where
+  left : ℕ
+  inside : at ≤ length s
+  enough : length s ≤ at + left
+  is-played : played t s ≡ playedFrom left s at p
+
+-- A record is taken from it ..
+one-record : (n : ℕ) (s : List ℕ) (at : ℕ) (p : Progress) → at ≢ length s
+    → playedFrom (suc n) s at p ≡ andThen (stepped p (numbersAt s at)) λ q next. playedFrom n s next q
+unfolding playedFrom
+one-record n s at p more = rw (ne-eqb at (length s) more)
+
+-- .. until the script's end.
+no-record : (n : ℕ) (s : List ℕ) (p : Progress) → playedFrom n s (length s) p ≡ finalTicks (length s) p
+unfolding playedFrom
+no-record zero s p = refl
+no-record (suc n) s p = rw (eq-eqb (length s) (length s) refl)
+
+-- So it goes on ..
+rest-after : (t s : List ℕ) (at : ℕ) (p q : Progress) (next : ℕ) → Bytes s → Rest t s at p → at ≢ length s → stepped p (numbersAt s at) ≡ goes-on q next
+    → Rest t s next q
+rest-after t s at p q next bytes rest more e = by-left (rest .left) (rest .enough) (rest .is-played)
+  where
+    by-left : (n : ℕ) → length s ≤ at + n → played t s ≡ playedFrom n s at p → Rest t s next q
+    by-left zero enough is = absurd (more (omega (arith, rest .inside)))
+    by-left (suc n) enough is =
+        let forward = goes-forward s at p q next bytes (omega (arith, rest .inside, more)) e in
+        record { left = n; inside = forward .1; enough = omega (arith, forward .0); is-played = is ∙ one-record n s at p more ∙ rw e }
+
+comes-to : (t s : List ℕ) (at : ℕ) (p : Progress) → Bytes s → ComesTo t s at p → Rest t s at p
+unfolding played
+comes-to t s at p bytes (begins period e) = record { left = length s; inside = omega arith; enough = omega arith; is-played = rw e }
+comes-to t s at p bytes (goes-further {at = from} {p = before} c more q next e) =
+    rest-after t s from before q next bytes (comes-to t s from before bytes c) more e
+
+-- .. to a record that stops it, ..
+record-stops-it : (t s : List ℕ) (at : ℕ) (p : Progress) (r : RefusedAt) → Rest t s at p → at ≢ length s → stepped p (numbersAt s at) ≡ stops r
+    → played t s ≡ stopped r
+record-stops-it t s at p r rest more e = by-left (rest .left) (rest .enough) (rest .is-played)
+  where
+    by-left : (n : ℕ) → length s ≤ at + n → played t s ≡ playedFrom n s at p → played t s ≡ stopped r
+    by-left zero enough is = absurd (more (omega (arith, rest .inside)))
+    by-left (suc n) enough is = is ∙ one-record n s at p more ∙ rw e
+
+-- .. or to the final ticks: the clock ends them with a job still pending, or nothing is left.
+clock-stops-it : (end : ℕ) (p : Progress) → 1 ≤ leftAtLast p → finalTicks end p ≡ stopped (record { refusal = TimeTooLate; place = end })
+unfolding finalTicks
+clock-stops-it end p some = rw (ne-eqb (leftAtLast p) 0 (λ none. omega arith))
+
+none-left : (end : ℕ) (p : Progress) → leftAtLast p ≡ 0 → finalTicks end p ≡ whole (atLast p)
+unfolding finalTicks
+none-left end p none = rw (eq-eqb (leftAtLast p) 0 none)
+
+at-the-end : (t s : List ℕ) (p : Progress) → Bytes s → ComesTo t s (length s) p → played t s ≡ finalTicks (length s) p
+at-the-end t s p bytes c = let rest = comes-to t s (length s) p bytes c in rest .is-played ∙ no-record (rest .left) s p
+
+stopped-for : (t s : List ℕ) (r : RefusedAt) → Bytes s → StoppedFor t s r → played t s ≡ stopped r
+unfolding played
+stopped-for t s r bytes (the-table e) = rw e
+stopped-for t s r bytes (a-record at p c more refused) =
+    record-stops-it t s at p r (comes-to t s at p bytes c) more (record-stops s at p r .1 refused)
+stopped-for t s r bytes (the-clock p c some ten place) =
+    at-the-end t s p bytes c ∙ clock-stops-it (length s) p some ∙ ap stopped (same-refusal _ r (sym ten) (sym place))
+
+-- There is no other way for a play to end.
+module _ (t s : List ℕ) (bytes : Bytes s) where
+  abbrev EndsSo : Played → Type 0
+  EndsSo (whole q) = (p : Progress) × ComesTo t s (length s) p × (leftAtLast p ≡ 0) × (q ≡ atLast p)
+  EndsSo (stopped r) = StoppedFor t s r
+
+  final-ends : (p : Progress) → ComesTo t s (length s) p → EndsSo (finalTicks (length s) p)
+  final-ends p c = by-lt 0 (leftAtLast p)
+      (λ some. subst EndsSo (sym (clock-stops-it (length s) p some)) (the-clock p c some refl refl))
+      (λ least.
+      let none : leftAtLast p ≡ 0 = omega arith in
+      subst EndsSo (sym (none-left (length s) p none)) (p, c, none, refl))
+
+  step-ends : (at : ℕ) (p : Progress) → ComesTo t s at p → at ≢ length s → (k : Progress → (next : ℕ) → Played) (x : Step) → stepped p (numbersAt s at) ≡ x
+      → ((q : Progress) (next : ℕ) → stepped p (numbersAt s at) ≡ goes-on q next → EndsSo (k q next)) → EndsSo (andThen x k)
+  step-ends at p c more k (goes-on q next) e rest = rest q next e
+  step-ends at p c more k (stops r) e rest = a-record at p c more (record-stops s at p r .0 e)
+
+  script-ends : (n at : ℕ) (p : Progress) → ComesTo t s at p → at ≤ length s → length s ≤ at + n → EndsSo (playedFrom n s at p)
+  unfolding playedFrom
+  script-ends zero at p c inside enough = let end : at ≡ length s = omega arith in final-ends p (rw end at c)
+  script-ends (suc n) at p c inside enough = by-eq at (length s)
+      (λ end. rw (eq-eqb at (length s) end) (final-ends p (rw end at c)))
+      (λ more. rw (ne-eqb at (length s) more) (step-ends at p c more _ (stepped p (numbersAt s at)) refl
+      λ q next e.
+      let forward = goes-forward s at p q next bytes (omega (arith, more)) e in
+      script-ends n next q (goes-further c more q next e) (forward .1) (omega (arith, forward .0))))
+
+  play-ends : EndsSo (played t s)
+  unfolding played
+  play-ends = by-start (tableRead t .answer) refl
+    where
+      by-start : (a : TableAnswer) → tableRead t .answer ≡ a → EndsSo (played t s)
+      by-start (answer.Accepted period) e =
+          rw e (script-ends (length s) 0 (begun (freshRun (tableRead t .table))) (begins period e) (omega arith) (omega arith))
+      by-start (answer.Refused r) e = rw e (the-table e)
+
+pub stopped-means : laws.StoppedMeans
+stopped-means t s r bytes = (λ e. subst (EndsSo t s bytes) e (play-ends t s bytes), stopped-for t s r bytes)
+
+pub whole-means : laws.WholeMeans
+whole-means t s q bytes = (
+  λ e. subst (EndsSo t s bytes) e (play-ends t s bytes),
+  λ w. at-the-end t s (w .0) bytes (w .1) ∙ none-left (length s) (w .0) (w .2) ∙ ap whole (sym (w .3)),
+)
+
+-- ---- the refusals that stop a play
 
 -- Each answer that may be a refusal: if it is, it is one that can stop a play.
 abbrev NumberStops : NumberRead → Type 0
@@ -113,10 +464,6 @@ abbrev TableStops : TableAnswer → Type 0
 TableStops (answer.Accepted period) = Unit {0}
 TableStops (answer.Refused r) = CanStop (r .refusal)
 
-abbrev TestedStops : Tested → Type 0
-TestedStops (tested.Ready r) = Unit {0}
-TestedStops (tested.Refused r) = CanStop (r .refusal)
-
 abbrev DueStops : Due → Type 0
 DueStops (due.At t) = Unit {0}
 DueStops (due.Refused r) = CanStop r
@@ -125,17 +472,7 @@ abbrev ReleaseStops : Released → Type 0
 ReleaseStops (release.Accepted a) = Unit {0}
 ReleaseStops (release.Refused r) = CanStop r
 
--- A record that the play goes on after leaves a sound run.
-abbrev StepStops : Step → Type 0
-StepStops (goes-on p next) = Good (p .since .run)
-StepStops (stops r) = CanStop (r .refusal)
-
-abbrev PlayStops : Played → Type 0
-PlayStops (whole p) = Unit {0}
-PlayStops (stopped r) = CanStop (r .refusal)
-
--- ---- a table
-
+-- A table's, ..
 number-stops : (s : List ℕ) (at : ℕ) → NumberStops (readAt s at)
 number-stops s at = by-spelt (spelt maxGroups (drop at s) at)
   where
@@ -192,39 +529,13 @@ table-stops s = by-count (readAt s 0) (number-stops s 0)
         (λ y. rw y (by-rows (readRows (n .value) s (n .next)) (rows-stop (n .value) s (n .next)))) (λ no. rw no (inl (omega arith)))
     by-count (number.Refused r) h = h
 
--- ---- a record
-
-script-number-stops : (s : List ℕ) (at : ℕ) → NumberStops (scriptNumber s at)
-script-number-stops s at = by-number (readAt s at)
-  where
-    by-number : (v : NumberRead) → NumberStops (asScripts v)
-    by-number (number.Number n) = tt
-    by-number (number.Refused r) = inr refl
-
-tests-stop : (t : Table) (time : ℕ) (n : Numbers) → NumberStops (n .gap .read) → NumberStops (n .row .read) → NumberStops (n .cost .read)
-    → TestedStops (testedNumbers t time n)
-tests-stop t time n g r c =
-    by-read (n .gap .read) g
-    (λ gap e₁. by-test (leb (time + gap .value) maxTime)
-    (λ y₁. by-read (n .row .read) r
-    (λ row e₂. by-test (rowInUse t (row .value))
-    (λ y₂. by-read (n .cost .read) c
-    (λ cost e₃. by-test (fromOneTo (costLimit t (row .value)) (cost .value))
-    (λ y₃. rw (e₁, y₁, e₂, y₂, e₃, y₃) tt)
-    (λ no. rw (e₁, y₁, e₂, y₂, e₃, no) (inl (omega arith))))
-    (λ f e₃ h. rw (e₁, y₁, e₂, y₂, e₃) h))
-    (λ no. rw (e₁, y₁, e₂, no) (inl (omega arith))))
-    (λ f e₂ h. rw (e₁, y₁, e₂) h))
-    (λ no. rw (e₁, no) (inl (omega arith))))
-    (λ f e₁ h. rw e₁ h)
-
+-- .. a release's, of a sound run, ..
 due-stops : (k : Kept) (r : Row) (t : ℕ) → DueStops (dueOf k r t)
 unfolding dueOf
 due-stops k r t = by-test (rowInRange r)
     (λ y. rw y (by-test (leb (dueTime (r .x) (r .y) (r .d) (earlier k) t) maxTime) (λ y₂. rw y₂ tt) (λ no. rw no (inl (omega arith)))))
     (λ no. rw no (inl (omega arith)))
 
--- A release of a sound run.
 release-stops : (run : Run) (row cost : ℕ) → soundOf run ≡ true → ReleaseStops (released run row cost .answer)
 unfolding released
 release-stops run row cost sound = rw sound (by-test (rowInUse (run .table) row)
@@ -239,65 +550,39 @@ release-stops run row cost sound = rw sound (by-test (rowInUse (run .table) row)
     by-due (due.At t) h = tt
     by-due (due.Refused r) h = h
 
--- Ticks keep a run sound.
+-- .. as the runs of a play are: ticks keep a run sound, ..
 ticks-keep-good : (n : ℕ) (s : Since) → Good (s .run) → Good (ticks n s .run)
 unfolding ticks
 ticks-keep-good zero s good = good
 ticks-keep-good (suc n) s good = ticks-keep-good n (oneMore s) (tick-keeps-good (s .run) good)
 
-step-stops : (s : List ℕ) (at : ℕ) (p : Progress) → Good (p .since .run) → StepStops (stepped p (numbersAt s at))
-unfolding stepped
-step-stops s at p good =
-    let n = numbersAt s at in
-    let gap = script-number-stops s (n .gap .place) in
-    let row = script-number-stops s (n .row .place) in
-    let cost = script-number-stops s (n .cost .place) in
-    let run = p .since .run in
-    by-tests (testedNumbers (run .table) (run .clock .0) n) (tests-stop (run .table) (run .clock .0) n gap row cost)
-  where
-    by-answer : (r : Ready) (q : Progress) → Good (q .since .run) → (a : Released) → ReleaseStops a → StepStops (afterRelease at r q a)
-    by-answer r q sound (release.Accepted a) h =
-        release-keeps-sound (q .since .run) (r .row .0) (r .cost) (sound .1) (sound .0)
-    by-answer r q sound (release.Refused f) h = h
+-- .. and releases do.
+comes-sound : (t s : List ℕ) (at : ℕ) (p : Progress) → Bytes t → ComesTo t s at p → Good (p .since .run)
+comes-sound t s at p table (begins period e) = started-is-sound t table
+comes-sound t s at p table (goes-further {at = from} {p = before} c more q next e) =
+    let w = record-goes-on s from before q next .0 e in
+    let sound = ticks-keep-good (w .gap .value) (before .since) (comes-sound t s from before table c) in
+    rw (w .run-then) (release-keeps-sound (ticks (w .gap .value) (before .since) .run) (w .row .value) (w .cost .value) (sound .1) (sound .0))
 
-    by-tests : (x : Tested) → TestedStops x → StepStops (afterTests at p x)
-    by-tests (tested.Ready r) h =
-        let there = tickedTo (r .time .0) p in
-        let sound = ticks-keep-good (r .time .0 - p .since .run .clock .0) (p .since) good in
-        let run = there .since .run in
-        by-answer r there sound (released run (r .row .0) (r .cost) .answer) (release-stops run (r .row .0) (r .cost) (sound .0))
-    by-tests (tested.Refused r) h = h
+-- So it is with every record.
+record-can-stop : (s : List ℕ) (at : ℕ) (p : Progress) {n place : ℕ} → Good (p .since .run) → RecordRefused s at p n place → (n ≤ 10) ⊎ (n ≡ 14)
+record-can-stop s at p good (no-gap none) = inr refl
+record-can-stop s at p good (too-late gap e late) = inl (omega arith)
+record-can-stop s at p good (no-row-number gap g none) = inr refl
+record-can-stop s at p good (no-such-row gap row g e unused) = inl (omega arith)
+record-can-stop s at p good (no-cost gap row q none) = inr refl
+record-can-stop s at p good (cost-out-of-range gap row cost q e out) = inl (omega arith)
+record-can-stop s at p good (release-refused gap row cost q r e) =
+    let run = ticks (gap .value) (p .since) .run in
+    subst ReleaseStops e (release-stops run (row .value) (cost .value) (ticks-keep-good (gap .value) (p .since) good .0))
 
--- ---- a script
-
-final-stops : (end : ℕ) (p : Progress) → PlayStops (finalTicks end p)
-unfolding finalTicks
-final-stops end p =
-    by-test (eqb (ticksWhilePending (maxTime - p .since .run .clock .0) (p .since) .run .pending .count) 0) (λ y. rw y tt) (λ no. rw no (inl (omega arith)))
-
--- After a record come the others.
-and-then-stops : (x : Step) (k : Progress → (next : ℕ) → Played) → StepStops x → ((q : Progress) (next : ℕ) → Good (q .since .run) → PlayStops (k q next))
-    → PlayStops (andThen x k)
-and-then-stops (goes-on q next) k h rest = rest q next h
-and-then-stops (stops r) k h rest = h
-
-play-stops : (n : ℕ) (s : List ℕ) (at : ℕ) (p : Progress) → Good (p .since .run) → PlayStops (playedFrom n s at p)
-unfolding playedFrom
-play-stops zero s at p good = final-stops (length s) p
-play-stops (suc n) s at p good = by-test (eqb at (length s))
-    (λ y. rw y (final-stops (length s) p))
-    (λ no. rw no (and-then-stops (stepped p (numbersAt s at)) _ (step-stops s at p good) (λ q next h. play-stops n s next q h)))
-
-all-stops : (t s : List ℕ) → Bytes t → PlayStops (played t s)
-unfolding played
-all-stops t s table = by-start (tableRead t .answer) (table-stops t)
-  where
-    by-start : (a : TableAnswer) → TableStops a → PlayStops (onceStarted s (started t .run) (startAnswer a))
-    by-start (answer.Accepted period) h = play-stops (length s) s 0 (begun (started t .run)) (started-is-sound t table)
-    by-start (answer.Refused r) h = h
+stops-so : (t s : List ℕ) (r : RefusedAt) → Bytes t → StoppedFor t s r → CanStop (r .refusal)
+stops-so t s r table (the-table e) = subst TableStops e (table-stops t)
+stops-so t s r table (a-record at p c more refused) = record-can-stop s at p (comes-sound t s at p table c) refused
+stops-so t s r table (the-clock p c some ten place) = inl (omega arith)
 
 pub stopped-by : laws.StoppedBy
-stopped-by t s r table e = rw e at (all-stops t s table)
+stopped-by t s r table script e = stops-so t s r table (stopped-means t s r script .0 e)
 
 -- ---- when the answer is which
 
@@ -354,8 +639,8 @@ module _ (t s : List ℕ) (room : ℕ) where
   said-means said = subst Means said answer-means
 
 pub no-room-means : laws.NoRoomMeans
-no-room-means t s room place table = (
-  λ said. ⊎-elim (λ e. absurd (⊎-elim (λ h. omega arith) (λ h. omega arith) (stopped-by t s _ table e)))
+no-room-means t s room place table script = (
+  λ said. ⊎-elim (λ e. absurd (⊎-elim (λ h. omega arith) (λ h. omega arith) (stopped-by t s _ table script e)))
       (λ w. (w .0, w .1, w .2, w .3, ap (λ (r : RefusedAt). r .place) (w .4))) (said-means t s room said),
   λ w. rw (w .4) (too-long t s room (w .0) (w .2 .came-to-its-end) (rw (w .2 .log-length) at (w .3))),
 )

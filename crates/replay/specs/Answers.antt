@@ -1,5 +1,5 @@
 -- What a replay answers, exactly when, and what it leaves in the log buffer. (docs/RULES.md, sections 8.8 to 8.17, 9.5 and 10.)
-use Prim.Native.Nat.{ℕ, _+_, _≤_, _<_}
+use Prim.Native.Nat.{ℕ, _+_, _-_, _^_, _≤_, _<_}
 use mathlib.Core.Path.{_≡_}
 use mathlib.Core.Logic.{_⊎_, _≢_, _↔_}
 use mathlib.Core.List.{List, [], _∷_, _++_, List·Memᴰ}
@@ -9,13 +9,22 @@ use Rattle.kinds.specs.declared.Finish.{Finish}
 use Rattle.kinds.specs.declared.Refusal.{Refusal}
 use Rattle.kinds.specs.declared.Refusal.the-variants.{NoRoom}
 use Rattle.kinds.specs.declared.RefusedAt.{RefusedAt}
+use Rattle.numbers.specs.declared.Number.{Number}
+use Rattle.numbers.specs.declared.NumberRead.the-variants as number
+use Rattle.numbers.specs.Reading.{readAt}
 use Rattle.numbers.specs.Laws.{Bytes}
 use Rattle.table.specs.declared.TableAnswer.the-variants as answer
 use Rattle.table.specs.Tables.{tableRead}
+use Rattle.run.specs.declared.Accepted.{Accepted}
+use Rattle.run.specs.declared.Released.the-variants as release
+use Rattle.run.specs.Runs.{freshRun, costLimit}
+use Rattle.run.specs.Release.{newJob, released}
+use Rattle.run.specs.Advance.{ticks, ticksWhilePending}
 use Rattle.log.specs.Laws.{ReadsAs, spelledLog}
 use Rattle.replay.specs.declared.LateJobs.{LateJobs}
 use Rattle.replay.specs.declared.Replayed.the-variants as replayed
-use Rattle.replay.specs.Play.{Progress, whole, stopped, played}
+use Rattle.replay.specs.Numbers.{numbersAt}
+use Rattle.replay.specs.Play.{Progress, begun, goes-on, stops, stepped, whole, stopped, played}
 use Rattle.replay.specs.Outcome.{lateFinishes, finishedIn, replayOf, logAfter, replaySays}
 
 -- ---- words for what is proved
@@ -44,7 +53,97 @@ pub record LogHolds (fs : List Finish) (n : ℕ) (before after : List ℕ) : Typ
   pub reads-as : ReadsAs (take n after) 0 fs
   pub rest-kept : drop n after ≡ drop n before
 
--- ---- what is proved of jobs late (proofs/Answering.antt)
+-- The tests of a record at a place, in their order. The gap is read, and its script time is not above 2^40; .. (8.5, steps 1 and 2)
+pub record GapPassed (s : List ℕ) (at : ℕ) (p : Progress) (gap : Number) : Type 0 where
+  pub read : readAt s at ≡ number.Number gap
+  pub in-time : p .since .run .clock .0 + gap .value ≤ 2 ^ 40
+
+-- .. then the row number, which is in use; .. (steps 3 and 4)
+pub record RowPassed (s : List ℕ) (at : ℕ) (p : Progress) (gap row : Number) : Type 0 where
+  pub gap-passed : GapPassed s at p gap
+  pub read : readAt s (gap .next) ≡ number.Number row
+  pub in-use : row .value < p .since .run .table .count
+
+-- .. then the cost, from 1 to the row's c. (steps 5 and 6)
+pub record CostPassed (s : List ℕ) (at : ℕ) (p : Progress) (gap row cost : Number) : Type 0 where
+  pub row-passed : RowPassed s at p gap row
+  pub read : readAt s (row .next) ≡ number.Number cost
+  pub some-cost : 1 ≤ cost .value
+  pub allowed : cost .value ≤ costLimit (p .since .run .table) (row .value)
+
+-- No number can be read there.
+abbrev pub Unreadable : List ℕ → (at : ℕ) → Type 0
+Unreadable s at = (n : Number) → readAt s at ≢ number.Number n
+
+-- The record at a place is refused, with a number and a place: by the first test that it does not pass. (8.5)
+pub data RecordRefused (s : List ℕ) (at : ℕ) (p : Progress) : (number place : ℕ) → Type 0 where
+  no-gap : Unreadable s at → RecordRefused s at p 14 at
+  too-late : (gap : Number) → readAt s at ≡ number.Number gap → 2 ^ 40 < p .since .run .clock .0 + gap .value → RecordRefused s at p 10 at
+  no-row-number : (gap : Number) → GapPassed s at p gap → Unreadable s (gap .next) → RecordRefused s at p 14 (gap .next)
+  no-such-row : (gap row : Number) → GapPassed s at p gap → readAt s (gap .next) ≡ number.Number row → p .since .run .table .count ≤ row .value
+      → RecordRefused s at p 6 (gap .next)
+  no-cost : (gap row : Number) → RowPassed s at p gap row → Unreadable s (row .next) → RecordRefused s at p 14 (row .next)
+  cost-out-of-range : (gap row cost : Number) → RowPassed s at p gap row → readAt s (row .next) ≡ number.Number cost
+      → (cost .value < 1) ⊎ (costLimit (p .since .run .table) (row .value) < cost .value) → RecordRefused s at p 7 (row .next)
+  -- steps 7 and 8: by the release, so many ticks later as the gap says
+  release-refused : (gap row cost : Number) → CostPassed s at p gap row cost → (r : Refusal)
+      → released (ticks (gap .value) (p .since) .run) (row .value) (cost .value) .answer ≡ release.Refused r → RecordRefused s at p (refusalNumber r) at
+
+-- The play goes on after the record: its job was accepted, so many ticks later as the gap says, and the next record comes right after it. (8.2)
+pub record RecordTaken (s : List ℕ) (at : ℕ) (p q : Progress) (next : ℕ) : Type 0 where
+  pub gap : Number
+  pub row : Number
+  pub cost : Number
+  pub passed : CostPassed s at p gap row cost
+  pub answer : Accepted
+  pub accepted : released (ticks (gap .value) (p .since) .run) (row .value) (cost .value) .answer ≡ release.Accepted answer
+  pub run-then : q .since .run ≡ released (ticks (gap .value) (p .since) .run) (row .value) (cost .value) .run
+  pub late-then : q .since .late ≡ ticks (gap .value) (p .since) .late
+  pub finished-then : q .since .finishes ≡ ticks (gap .value) (p .since) .finishes
+  pub one-job-more : q .accepted ≡ p .accepted ++ (newJob (ticks (gap .value) (p .since) .run) (row .value) (cost .value) (answer .due) ∷ [])
+  pub right-after : next ≡ cost .next
+
+-- How far a play comes: to the script's start, on a table that is accepted, and from each record that it goes on after to the place after it. (8.1, 8.2)
+pub data ComesTo (t s : List ℕ) : (at : ℕ) → Progress → Type 0 where
+  begins : (period : ℕ) → tableRead t .answer ≡ answer.Accepted period → ComesTo t s 0 (begun (freshRun (tableRead t .table)))
+  goes-further : {at : ℕ} {p : Progress} → ComesTo t s at p → at ≢ length s → (q : Progress) (next : ℕ) → stepped p (numbersAt s at) ≡ goes-on q next
+      → ComesTo t s next q
+
+-- After the final ticks: nothing is pending, or the clock is at 2^40. (8.3)
+abbrev pub atLast : Progress → Progress
+atLast p = record { since = ticksWhilePending (2 ^ 40 - p .since .run .clock .0) (p .since); accepted = p .accepted }
+
+-- How many jobs are pending then.
+abbrev pub leftAtLast : Progress → ℕ
+leftAtLast p = atLast p .since .run .pending .count
+
+-- What stops a play: the table is refused, or a record that it comes to, or the clock ends the final ticks with a job still pending. (8.1, 8.5, 8.7)
+pub data StoppedFor (t s : List ℕ) (r : RefusedAt) : Type 0 where
+  the-table : tableRead t .answer ≡ answer.Refused r → StoppedFor t s r
+  a-record : (at : ℕ) (p : Progress) → ComesTo t s at p → at ≢ length s → RecordRefused s at p (refusalNumber (r .refusal)) (r .place) → StoppedFor t s r
+  the-clock : (p : Progress) → ComesTo t s (length s) p → 1 ≤ leftAtLast p → refusalNumber (r .refusal) ≡ 10 → r .place ≡ length s → StoppedFor t s r
+
+-- ---- what is proved of records (proofs/Answering.antt)
+
+-- A record stops the play with a refusal and a place exactly where it is refused so.
+abbrev pub RecordStops : Type 0
+RecordStops = (s : List ℕ) (at : ℕ) (p : Progress) (r : RefusedAt)
+    → (stepped p (numbersAt s at) ≡ stops r) ↔ RecordRefused s at p (refusalNumber (r .refusal)) (r .place)
+
+-- It goes on after it exactly where its job is accepted.
+abbrev pub RecordGoesOn : Type 0
+RecordGoesOn = (s : List ℕ) (at : ℕ) (p q : Progress) (next : ℕ) → (stepped p (numbersAt s at) ≡ goes-on q next) ↔ RecordTaken s at p q next
+
+-- So each refusal is given exactly where its rule says.
+abbrev pub StoppedMeans : Type 0
+StoppedMeans = (t s : List ℕ) (r : RefusedAt) → Bytes s → (played t s ≡ stopped r) ↔ StoppedFor t s r
+
+-- And a play comes to its end exactly where it comes to the script's end, and nothing is left pending after the final ticks.
+abbrev pub WholeMeans : Type 0
+WholeMeans = (t s : List ℕ) (q : Progress) → Bytes s
+    → (played t s ≡ whole q) ↔ ((p : Progress) × ComesTo t s (length s) p × (leftAtLast p ≡ 0) × (q ≡ atLast p))
+
+-- ---- what is proved of jobs late
 
 -- Jobs late counts the jobs that finished after their due time: each of them once, and no other. (8.14)
 abbrev pub OneLate : Type 0
@@ -64,11 +163,11 @@ NoneLateMeans = (fs : List Finish) → (lateFinishes fs ≡ 0) ↔ AllInTime fs
 
 -- A play is stopped by 1 to 10 and by 14 only: never by 11, 13 or 25 (10.6), and not by 12, which comes last of all. (8.12)
 abbrev pub StoppedBy : Type 0
-StoppedBy = (t s : List ℕ) (r : RefusedAt) → Bytes t → played t s ≡ stopped r → CanStop (r .refusal)
+StoppedBy = (t s : List ℕ) (r : RefusedAt) → Bytes t → Bytes s → played t s ≡ stopped r → CanStop (r .refusal)
 
 -- 12 exactly where the play came to its end and its log is longer than the room, at the script's length. (8.11, 8.12)
 abbrev pub NoRoomMeans : Type 0
-NoRoomMeans = (t s : List ℕ) (room place : ℕ) → Bytes t
+NoRoomMeans = (t s : List ℕ) (room place : ℕ) → Bytes t → Bytes s
     → (replayOf t s room ≡ replayed.Refused (record { refusal = NoRoom; place = place }))
     ↔ ((p : Progress) × (n : ℕ) × Ended t s n p × (room < n) × (place ≡ length s))
 
