@@ -13,4 +13,6 @@ pub mod Conservation
 pub mod InOrder
 pub mod Asked
 pub mod Laws
+pub mod Refusing
+pub mod Stopping
 pub mod Answering
