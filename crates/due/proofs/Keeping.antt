@@ -12,13 +12,14 @@ use lib.ListN.{length-append, length-take, length-drop, length-map, length-rever
 use lib.Seq.{length-take-le, drop-cons, getD-take}
 use Rattle.kinds.specs.Numbering.{maxTime}
 use Rattle.kinds.specs.declared.Tick.{Tick}
+use Rattle.kinds.proofs.Lists.{take-as-many}
 use Rattle.theory.specs.DueTimes.{dueTime}
 use Rattle.theory.proofs.DueTimes.{due-time-at-least-d, due-of-the-first, due-of-the-further}
 use Rattle.table.specs.declared.Row.{Row}
 use Rattle.table.specs.Rows.{rowInRange}
 use Rattle.due.specs.declared.Kept.{Kept}
 use Rattle.due.specs.Kept.{maxKept, keptTimes, earlier, lastOnes, keptAs, keptWith, noneTooLate, keptSound}
-use Rattle.due.proofs.Lists.{getD-reverse, last-ones-all, last-ones-and-one, last-ones-take, take-as-many, stored-behind, movedDown}
+use Rattle.due.proofs.Lists.{getD-reverse, last-ones-all, last-ones-and-one, last-ones-take, stored-behind, movedDown}
 
 -- What an unused place holds.
 abbrev pub noTime : Tick
@@ -37,10 +38,6 @@ abbrev pub newestWith : Kept → Row → Tick → List Tick
 newestWith k r t = lastOnes (r .x) (keptTimes k ++ (t ∷ []))
 
 -- ---- how many are in use
-
--- What is known of a parameter says its array's length through a map.
-pub length-mapped : {A B : Type 0} (f : A → B) (l : List A) (n : ℕ) → length (map f l) ≡ n → length l ≡ n
-length-mapped f l n h = sym (length-map l f) ∙ h
 
 -- As many due times are kept as are counted, and no more than there are places.
 pub length-kept : (k : Kept) (n : ℕ) → length (k .times) ≡ maxKept → n ≡ min (k .count) maxKept → length (keptTimes k) ≡ n

@@ -2,7 +2,7 @@
 -- them, and soundness is settled due time by due time. (docs/RULES.md, section 4.)
 use Prim.Native.Nat.{ℕ, zero, suc, _-_, _≤_, _<_}
 use mathlib.Core.Path.{_≡_, refl, sym, ap, _∙_}
-use mathlib.Core.Bool.{Bool, true, false, _&&_}
+use mathlib.Core.Bool.{Bool, true, false}
 use mathlib.Core.List.{List, [], _∷_, _++_, map, map-append, reverse, reverse-append}
 use native.Mathlib.Omega.{arith}
 use lib.Dec.{leb}
@@ -18,6 +18,7 @@ use Rattle.theory.proofs.DueTimes.{newest-are-enough}
 use Rattle.table.specs.declared.Row.{Row}
 use Rattle.table.specs.Rows.{rowInRange}
 use Rattle.table.proofs.Laws.{in-range-means}
+use Rattle.table.proofs.Ranges.{both-true}
 use Rattle.due.specs.declared.Kept.{Kept}
 use Rattle.due.specs.declared.Due.the-variants as due
 use Rattle.due.specs.Kept.{nothingKept, keptTimes, earlier, notTooLate, dueOf, keptAs, keptWith, noneTooLate, keptSound}
@@ -135,11 +136,6 @@ pub out-of-range-means : OutOfRangeMeans
 out-of-range-means k r t = (λ e. by-answer k r t (λ fine h a. never (cc)) (λ fine h a. never (cc)) (λ out a. out), no-due k r t)
 
 -- ---- sound
-
--- Two tests that hold together hold each.
-both-true : (a b : Bool) → (a && b) ≡ true → (a ≡ true) × (b ≡ true)
-both-true true b e = (refl, e)
-both-true false b e = (cc, cc)
 
 -- Where none of a list is too late, the first is not, nor any behind it ..
 none-late-parts : (t : Tick) (l : List Tick) → noneTooLate (t ∷ l) ≡ true → (t .0 ≤ maxTime) × (noneTooLate l ≡ true)

@@ -71,12 +71,6 @@ map-last-ones f n l = map-drop f (length l - n) l ∙ ap (λ m. drop (m - n) (ma
 -- ---- a list from its start
 
 module _ {A : Type 0} where
-  -- As many as the first n are, are the first n: where there are fewer than n, that is all.
-  pub take-as-many : (n : ℕ) (l : List A) → take (length (take n l)) l ≡ take n l
-  take-as-many zero l = refl
-  take-as-many (suc n) [] = refl
-  take-as-many (suc n) (a ∷ l) = ap (λ m. a ∷ m) (take-as-many n l)
-
   -- In a list that begins with m, as long as i, what is stored at place i stands behind m.
   pub stored-behind : (m l : List A) (i : ℕ) (a : A) → length m ≡ i → i < length l → set (m ++ drop i l) i a ≡ m ++ (a ∷ []) ++ drop (i + 1) l
   stored-behind m l i a e h =

@@ -24,6 +24,10 @@ maxKept = maxX
 abbrev pub nothingKept : Kept
 nothingKept = record { times = replicate maxKept (record { 0 = 0 }); count = 0 }
 
+-- What is kept of a row that there is none of.
+abbrev pub noKept : Kept
+noKept = record { times = []; count = 0 }
+
 -- The kept due times, oldest first.
 abbrev pub keptTimes : Kept → List Tick
 keptTimes k = take (k .count) (k .times)

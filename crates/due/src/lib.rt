@@ -20,7 +20,7 @@ pub enum Due {
 
 impl Kept {
     // The most that a rule needs: a row's x is at most this.
-    pub const MAX: usize = 64;
+    pub const MAX: usize = Row::MAX_X as usize;
 
     // The limit of the code is that of the rules.
     pub fn limit() -> usize

@@ -10,7 +10,7 @@ use native.Mathlib.Decide.{decLt}
 use native.Mathlib.Omega.{arith}
 use lib.Dec.{ltb}
 use borrow.Author.Tests.{lt-ltb, le-ltb}
-use lib.ListN.{length, take, drop, set, getD, length-append, length-take, length-set, length-replicate, List·getD-append}
+use lib.ListN.{length, set, getD, length-append, length-take, length-set, length-replicate, List·getD-append}
 use lib.Seq.{append-snoc, split-at, getD-append-seam, getD-take, take-suc-set}
 use Rattle.jobs.specs.declared.Job.{Job}
 use Rattle.jobs.specs.declared.Pending.{Pending}
@@ -102,16 +102,6 @@ choice-is-first (j ∷ js) h =
 pub job-among-the-rest : laws.JobAmongTheRest
 job-among-the-rest js i h = rw add-one (split-at js i noJob h)
 
--- The next law, with the next place as the definition has it.
-without-rest : (js : List Job) (i : ℕ) → without js i ≡ take i js ++ drop (suc i) js
-without-rest [] zero = refl
-without-rest [] (suc i) = refl
-without-rest (j ∷ js) zero = refl
-without-rest (j ∷ js) (suc i) = ap (_∷_ j) (without-rest js i)
-
-pub without-is-the-rest : laws.WithoutIsTheRest
-without-is-the-rest js i = rw add-one (without-rest js i)
-
 pub without-is-one-less : laws.WithoutIsOneLess
 without-is-one-less = length-without
 
@@ -153,7 +143,7 @@ after-a-unit p at h =
     rw (place-holds-job p at h) (after-either p at (worked j) h (lastUnit j))
 
 -- What holds of both holds of either.
-either : {A : Type 0} (P : A → Type 0) (b : Bool) (x y : A) → P x → P y → P (cond b x y)
+pub either : {A : Type 0} (P : A → Type 0) (b : Bool) (x y : A) → P x → P y → P (cond b x y)
 either P true x y f g = f
 either P false x y f g = g
 
@@ -192,9 +182,6 @@ after-keeps-form p at w =
 
 pub distinct-means : laws.DistinctMeans
 distinct-means js = (distinct-to js, distinct-from js)
-
-pub rising-means : laws.RisingMeans
-rising-means js = (rising-to js, rising-from js)
 
 pub rising-is-distinct : laws.RisingIsDistinct
 rising-is-distinct = rising-distinct

@@ -1,13 +1,14 @@
 -- The first places of a list: how many they are, what is left of them from a place on, and how one is taken out by moving the later ones down.
 use Prim.Native.Nat.{ℕ, zero, suc, _+_, _-_, _≤_, _<_, min}
 use mathlib.Core.Path.{_≡_, refl, sym, ap, _∙_}
-use mathlib.Core.List.{List, [], _∷_, _++_, map}
+use mathlib.Core.List.{List, [], _∷_, _++_}
 use native.Mathlib.Nat.{not-suc-le-zero, le-of-suc-le-suc}
 use native.Mathlib.Numerals.{add-one}
 use native.Mathlib.Omega.{arith}
-use lib.ListN.{length, take, drop, getD, set, length-take, length-drop, length-append, length-map}
+use lib.ListN.{length, take, drop, getD, set, length-take, length-drop, length-append}
 use borrow.Author.Tests.{lt-ltb, le-ltb}
 use lib.Seq.{drop-cons, getD-take, take-at, take-set-lt}
+use Rattle.kinds.proofs.Lists.{take-as-many}
 use Rattle.jobs.specs.declared.Job.{Job}
 use Rattle.jobs.specs.declared.Pending.{Pending}
 use Rattle.jobs.specs.Places.{maxPlaces, noJob, jobsOf, used, without, takenOut}
@@ -18,12 +19,6 @@ module _ {A : Type 0} where
   rest-cons n l i d h =
       let k : i < n = omega (arith, length-take n l) in
       drop-cons (take n l) i d h ∙ rw (add-one, getD-take n l i d k)
-
-  -- To ask for the first n, or for as many as those are, is the same.
-  pub take-used : (n : ℕ) (l : List A) → take (length (take n l)) l ≡ take n l
-  take-used zero l = refl
-  take-used (suc n) [] = refl
-  take-used (suc n) (a ∷ l) = ap (_∷_ a) (take-used n l)
 
   -- A list whose places from `at` up to i hold what stood one place on.
   abbrev pub moved : List A → (at i : ℕ) → List A
@@ -81,7 +76,7 @@ unfolding takenOut
 moved-is-taken-out p at last h e =
     let l : last < length (p .places) = omega (arith, length-take (p .count) (p .places)) in
     let n : used p - 1 ≡ last = omega arith in
-    simp (moved-all (p .places) at last noJob h l, e, take-used (p .count) (p .places), lt-ltb at (used p) (omega arith), n)
+    simp (moved-all (p .places) at last noJob h l, e, take-as-many (p .count) (p .places), lt-ltb at (used p) (omega arith), n)
 
 -- Where no job is pending at the place, all stays as it was.
 pub nothing-taken-out : (p : Pending) (at : ℕ) → used p ≤ at → p ≡ takenOut p at
@@ -109,8 +104,4 @@ module _ (p : Pending) (at : ℕ) (h : at < used p) where
 
 -- What is pending where another job is set in a place in use.
 pub jobs-set : (p : Pending) (at : ℕ) (j : Job) → at < used p → take (used p) (set (p .places) at j) ≡ set (jobsOf p) at j
-jobs-set p at j h = take-set-lt (used p) (p .places) at j h ∙ ap (λ (l : List Job). set l at j) (take-used (p .count) (p .places))
-
--- The length of an array of structs that is a field, from what is known of the struct.
-pub length-mapped : {A B : Type 0} (f : A → B) (l : List A) (n : ℕ) → length (map f l) ≡ n → length l ≡ n
-length-mapped f l n h = sym (length-map l f) ∙ h
+jobs-set p at j h = take-set-lt (used p) (p .places) at j h ∙ ap (λ (l : List Job). set l at j) (take-as-many (p .count) (p .places))

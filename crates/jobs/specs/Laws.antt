@@ -63,11 +63,7 @@ DistinctMeans = (js : List Job)
 abbrev pub JobAmongTheRest : Type 0
 JobAmongTheRest = (js : List Job) (i : ℕ) → i < length js → js ≡ take i js ++ (getD js i noJob ∷ drop (i + 1) js)
 
--- .. those without the one there are the others, in their order ..
-abbrev pub WithoutIsTheRest : Type 0
-WithoutIsTheRest = (js : List Job) (i : ℕ) → without js i ≡ take i js ++ drop (i + 1) js
-
--- .. and one less.
+-- .. and without the one there they are one less.
 abbrev pub WithoutIsOneLess : Type 0
 WithoutIsOneLess = (js : List Job) (i : ℕ) → i < length js → length (without js i) + 1 ≡ length js
 
@@ -115,11 +111,7 @@ AfterKeepsForm = (p : Pending) (at : ℕ) → WellFormed p → WellFormed (after
 
 -- ---- what each change makes of the serials
 
--- The look at neighbours means that of any two jobs the later has the higher serial ..
-abbrev pub RisingMeans : Type 0
-RisingMeans = (js : List Job) → (risingSerials js ≡ true) ↔ ((i k : ℕ) → i < k → k < length js → serialAt js i < serialAt js k)
-
--- .. so that no two have one serial.
+-- Where each serial is below its neighbour's, no two jobs have one serial.
 abbrev pub RisingIsDistinct : Type 0
 RisingIsDistinct = (js : List Job) → risingSerials js ≡ true → distinctSerials js ≡ true
 

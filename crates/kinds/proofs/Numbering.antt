@@ -1,7 +1,7 @@
 -- The laws of the refusals' numbers. That no two share one: a table gives each number its refusal back.
-use Prim.Native.Nat.{ℕ}
+use Prim.Native.Nat.{ℕ, _≤_}
 use mathlib.Core.Path.{_≡_, refl, sym, ap, _∙_}
-use mathlib.Core.Logic.{inl, inr}
+use mathlib.Core.Logic.{inl, inr, ⊎-elim}
 use mathlib.Core.List.{List, _∷_}
 use native.Mathlib.Decide.{decLe}
 use native.Mathlib.Omega.{arith}
@@ -58,6 +58,10 @@ never-an-answer r = elim (decLe 20 (refusalNumber r)) [
   | yes l ↦ inr (let e : refusalNumber r ≡ 25 = same r ∙ ap refusalNumber (List·getD-eq-default inOrder refusal.NumberTooBig {n = refusalNumber r} (omega arith)) in omega arith)
   | no l ↦ inl (omega arith)
 ]
+
+-- So no refusal has an answer's number.
+pub no-answer : (r : Refusal) → 20 ≤ refusalNumber r → refusalNumber r ≤ 23 → ⊥
+no-answer r least most = ⊎-elim (λ h. omega arith) (λ h. omega arith) (never-an-answer r)
 
 pub latest-time : LatestTime
 latest-time = refl

@@ -1,5 +1,5 @@
 -- The numbers of a record, counted and then written one at a time; and what stands in a log from a place on. (docs/RULES.md, section 8.)
-use Prim.Native.Nat.{ℕ, suc, _+_, _-_, _*_, _≤_, _<_}
+use Prim.Native.Nat.{ℕ, _+_, _-_, _*_, _≤_, _<_}
 use native.Mathlib.Nat.{zero-add}
 use native.Mathlib.Numerals.{add-one}
 use native.Mathlib.Omega.{arith}
@@ -14,6 +14,7 @@ use borrow.Rule.Slice.PartMut.{midOf, putMid}
 use Rattle.kinds.specs.declared.Finish.{Finish}
 use Rattle.kinds.specs.declared.Refusal.{Refusal}
 use Rattle.kinds.specs.declared.Refusal.the-variants.{NumberTooBig, NoRoom}
+use Rattle.kinds.proofs.Lists.{sets-append}
 use Rattle.numbers.specs.declared.Written.{Written}
 use Rattle.numbers.specs.declared.Written.the-variants.{Length, Refused}
 use Rattle.numbers.specs.Spelling.{maxGroups, maxNumber, spelling}
@@ -121,11 +122,6 @@ module _ (log : List ℕ) (at : ℕ) where
   number-put v n rest e h w = rw (rest-put rest, w, rest-of, drop-drop, e, ← append-assoc) (sym (sets-eq (spelling v) log at (omega arith)))
 
 -- ---- the numbers are written
-
--- Two lists stored one behind the other are one list stored.
-sets-append : (s t l : List ℕ) (i : ℕ) → sets l i (s ++ t) ≡ sets (sets l i s) (i + length s) t
-sets-append [] t l i = ap (λ (k : ℕ). sets l k t) (omega arith)
-sets-append (v ∷ s) t l i = sets-append s t _ (suc i) ∙ ap (λ (k : ℕ). sets (sets l i (v ∷ s)) k t) (omega arith)
 
 -- There is room for the values, all in range, and the first k of them stand up to `at`: with those still to come that makes the whole.
 pub record Standing (values rest₀ rest : List ℕ) (at k : ℕ) : Type 0 where

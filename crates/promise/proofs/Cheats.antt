@@ -1,7 +1,7 @@
 -- The cheats are shut out.
-use Prim.Native.Nat.{ℕ, suc, _+_, _≤_, _<_}
+use Prim.Native.Nat.{ℕ, _≤_, _<_}
 use mathlib.Core.Path.{_≡_, refl}
-use mathlib.Core.List.{List, [], _∷_, flatten}
+use mathlib.Core.List.{_∷_, flatten}
 use native.Mathlib.Omega.{arith}
 use Rattle.numbers.specs.Reading as reading
 use Rattle.numbers.specs.Spelling as spelling
@@ -29,7 +29,7 @@ use Rattle.run.specs.Release.{released}
 use Rattle.run.specs.Ticking.{ticked}
 use Rattle.replay.proofs.Playing.{release-adds-one}
 use Rattle.promise.specs.Answers.{accepted, releaseSays}
-use Rattle.promise.specs.Traces.{Call, runAt, trace}
+use Rattle.promise.specs.Traces.{Call, runAt}
 use Rattle.promise.specs.Examples.{v1, v8}
 use Rattle.promise.specs.Cheats.{NotAllRefused, NotAllReleasesRefused, NotAlwaysFeasible, NoBlankWitness, NotAlwaysIdle, ReleasesCount}
 use Rattle.promise.proofs.Bridged.{bridge}

@@ -6,8 +6,7 @@ use mathlib.Core.Path.{_≡_, refl}
 use mathlib.Core.Logic.{⊎-elim}
 use mathlib.Core.List.{List, [], _∷_, List·Memᴰ, List·Memᴰ·not-nil}
 use native.Mathlib.Omega.{arith}
-use lib.ListN.{length}
-use lib.Seq.{length-take-le, getD-take}
+use lib.Seq.{getD-take}
 use Rattle.kinds.specs.Numbering.{maxTime}
 use Rattle.kinds.proofs.Numbering.{never-an-answer}
 use Rattle.numbers.specs.Laws.{Bytes}
@@ -27,6 +26,7 @@ use Rattle.table.specs.declared.Table.{Table}
 use Rattle.table.specs.declared.TableAnswer.{TableAnswer}
 use Rattle.table.specs.declared.TableAnswer.the-variants as answer
 use Rattle.table.specs.Tables.{noRow, rowsOf, tableRead}
+use Rattle.table.proofs.Periods.{rows-used}
 use Rattle.verdict.specs.declared.Verdict.{Verdict}
 use Rattle.verdict.specs.declared.Verdict.the-variants as verdict
 use Rattle.verdict.specs.Demand.{rowDemandOf, tableDemand}
@@ -63,16 +63,12 @@ feasible-fits bytes said = right-and-feasible (tableRead bytes .table) (tableRea
 module _ {t : Table} {run : Run} {es : List Event} (b : Bridge t run es) where
   -- ---- what the accepted jobs ask for
 
-  -- As many rows are in use as are counted.
-  rows-counted : length (rowsOf t) ≡ t .count
-  rows-counted = let r = b .table-in-range in length-take-le (t .count) (t .rows) (omega (arith, r .few-rows, r .all-places))
-
   -- In every window the accepted jobs ask for at most the table's demand ..
   demand-bounds : BoundedBy (tableDemand t) (jobsIn es)
   unfolding tableDemand
-  demand-bounds = sum-of-sources Row rowDemandOf noRow (rowsOf t) (jobsIn es) (rw rows-counted (b .rows-in-use))
+  demand-bounds = sum-of-sources Row rowDemandOf noRow (rowsOf t) (jobsIn es) (rw (rows-used (b .table-in-range)) (b .rows-in-use))
       (λ row h.
-      let in-use : row < t .count = omega (arith, rows-counted) in
+      let in-use : row < t .count = omega (arith, rows-used (b .table-in-range)) in
       rw (getD-take (t .count) (t .rows) row noRow in-use) (row-share b row in-use))
 
   -- .. which is nothing in no time.

@@ -3,7 +3,6 @@ use Prim.Native.Nat.{ℕ, suc, _≤_, _<_}
 use mathlib.Core.Path.{_≡_}
 use mathlib.Core.Bool.{false}
 use mathlib.Core.List.{List, [], _∷_}
-use Rattle.kinds.specs.Numbering.{Said}
 use Rattle.numbers.specs.Laws.{Bytes}
 use Rattle.table.specs.Tables.{tableRead}
 use Rattle.verdict.specs.declared.Verdict.{Verdict}

@@ -1,17 +1,16 @@
 -- The laws of replays are proved: what the moves keep, taken at the end, where nothing is pending. (docs/RULES.md, section 8.)
-use Prim.Native.Nat.{ℕ, zero, suc, _+_, _≤_, _<_, suc-le-suc}
+use Prim.Native.Nat.{ℕ, suc, _+_, _≤_, _<_, suc-le-suc}
 use mathlib.Core.Path.{_≡_, refl, sym, ap, ap₂, subst, _∙_}
 use mathlib.Core.Logic.{⊎-elim}
 use mathlib.Core.List.{List, [], _∷_, List·Memᴰ, List·Memᴰ·head, List·Memᴰ·tail, List·Memᴰ·not-nil}
-use native.Mathlib.Nat.{not-suc-le-zero, le-of-suc-le-suc}
 use native.Mathlib.Omega.{arith}
 use lib.ListN.{length, getD}
 use borrow.Author.Tests.{le-leb, lt-leb, lt-ltb, le-ltb}
-use Rattle.kinds.specs.Numbering.{Said, refusalNumber, maxTime}
+use Rattle.kinds.specs.Numbering.{Said, maxTime}
 use Rattle.kinds.specs.declared.Finish.{Finish}
-use Rattle.kinds.specs.declared.RefusedAt.{RefusedAt}
-use Rattle.kinds.proofs.Numbering.{numbers-differ, never-zero, never-an-answer}
+use Rattle.kinds.proofs.Numbering.{numbers-differ, never-zero, no-answer}
 use Rattle.theory.proofs.Cases.{by-lt}
+use Rattle.table.proofs.Each.{stands-in}
 use Rattle.jobs.specs.declared.Job.{Job}
 use Rattle.jobs.specs.Places.{noJob}
 use Rattle.jobs.specs.Turns.{noFinish, firstJob, finishAt}
@@ -71,13 +70,7 @@ way-to-the-end t s p table script e =
     let end = kept-through (λ p. OnItsWay (p .since)) on-its-way t s p table first e in
     (end .kept, end .nothing-pending)
 
--- What stands at a place of a list is in it ..
-stands-in : {A : Type 0} (l : List A) (i : ℕ) (d : A) → i < length l → List·Memᴰ (getD l i d) l
-stands-in [] i d h = absurd (not-suc-le-zero h)
-stands-in (a ∷ l) zero d h = List·Memᴰ·head refl
-stands-in (a ∷ l) (suc i) d h = List·Memᴰ·tail (stands-in l i d (le-of-suc-le-suc h))
-
--- .. and what is in it stands at a place.
+-- What is in a list stands at a place of it.
 place-of : {A : Type 0} {a : A} {l : List A} (d : A) → List·Memᴰ a l → (k : ℕ) × (k < length l) × (a ≡ getD l k d)
 place-of d (List·Memᴰ·head e) = (0, omega arith, e)
 place-of d (List·Memᴰ·tail m) = let rest = place-of d m in (suc (rest .0), suc-le-suc (rest .1), rest .2)
@@ -153,21 +146,17 @@ never-says-zero (replayed.InTime n) = omega arith
 never-says-zero (replayed.Late l) = omega arith
 never-says-zero (replayed.Refused r) = never-zero (r .refusal)
 
--- No refusal has an answer's number.
-no-answer : (r : RefusedAt) → 20 ≤ refusalNumber (r .refusal) → refusalNumber (r .refusal) ≤ 23 → ⊥
-no-answer r least most = ⊎-elim (λ h. omega arith) (λ h. omega arith) (never-an-answer (r .refusal))
-
 -- Outcomes that agree in the three numbers that are said are one.
 same-said : (r q : Replayed) → replaySays r .number ≡ replaySays q .number → replaySays r .first ≡ replaySays q .first
     → replaySays r .second ≡ replaySays q .second → r ≡ q
 same-said (replayed.InTime n) (replayed.InTime m) k f s = ap replayed.InTime f
 same-said (replayed.InTime n) (replayed.Late l) k f s = absurd (omega arith)
-same-said (replayed.InTime n) (replayed.Refused r) k f s = absurd (no-answer r (omega arith) (omega arith))
+same-said (replayed.InTime n) (replayed.Refused r) k f s = absurd (no-answer (r .refusal) (omega arith) (omega arith))
 same-said (replayed.Late l) (replayed.InTime m) k f s = absurd (omega arith)
 same-said (replayed.Late l) (replayed.Late m) k f s = ap₂ (λ length late. replayed.Late (record { length = length; late = late })) f s
-same-said (replayed.Late l) (replayed.Refused r) k f s = absurd (no-answer r (omega arith) (omega arith))
-same-said (replayed.Refused r) (replayed.InTime m) k f s = absurd (no-answer r (omega arith) (omega arith))
-same-said (replayed.Refused r) (replayed.Late m) k f s = absurd (no-answer r (omega arith) (omega arith))
+same-said (replayed.Late l) (replayed.Refused r) k f s = absurd (no-answer (r .refusal) (omega arith) (omega arith))
+same-said (replayed.Refused r) (replayed.InTime m) k f s = absurd (no-answer (r .refusal) (omega arith) (omega arith))
+same-said (replayed.Refused r) (replayed.Late m) k f s = absurd (no-answer (r .refusal) (omega arith) (omega arith))
 same-said (replayed.Refused r) (replayed.Refused q) k f s =
     ap₂ (λ kind place. replayed.Refused (record { refusal = kind; place = place })) (numbers-differ (r .refusal) (q .refusal) k) f
 

@@ -3,7 +3,6 @@ use Prim.Native.Nat.{ℕ, _+_, _-_, _≤_, _<_}
 use mathlib.Core.Path.{_≡_, refl, sym, _∙_}
 use mathlib.Core.Bool.{true, false, cond}
 use mathlib.Core.List.{List, [], _∷_, _++_, flatten}
-use native.Mathlib.Nat.{add-assoc}
 use native.Mathlib.Omega.{arith}
 use lib.ListN.{length, length-append, take-append-drop}
 use borrow.Author.Tests.{le-leb, lt-leb, eq-eqb, ne-eqb}
@@ -19,6 +18,7 @@ use Rattle.replay.specs.declared.Replayed.the-variants as replayed
 use Rattle.replay.specs.Play.{Progress, whole}
 use Rattle.replay.specs.Outcome.{finishedLate, lateFinishes, answerOf}
 use Rattle.replay.specs.Inside.{oneLogged, oneWritten, Logs}
+use Rattle.replay.proofs.Lateness.{late-finishes-more}
 
 -- Before the first.
 pub logs-none : (log : List ℕ) → Logs [] log log (record { length = 0; late = 0; full = false })
@@ -41,13 +41,7 @@ late-are-few (f ∷ fs) =
 
 -- ---- one more
 
--- One job more may be late ..
-late-of-one-more : (fs : List Finish) (f : Finish) → lateFinishes (fs ++ (f ∷ [])) ≡ lateFinishes fs + cond (finishedLate f) 1 0
-unfolding lateFinishes
-late-of-one-more [] f = omega arith
-late-of-one-more (g ∷ fs) f = rw (late-of-one-more fs f) (sym (add-assoc (cond (finishedLate g) 1 0) (lateFinishes fs) (cond (finishedLate f) 1 0)))
-
--- .. and makes the log longer.
+-- One job more makes the log longer.
 length-of-one-more : (fs : List Finish) (f : Finish) → length (spelledLog (fs ++ (f ∷ []))) ≡ length (spelledLog fs) + length (spelledFinish f)
 unfolding flatten
 length-of-one-more [] f = omega (arith, length-append (spelledFinish f) [])
@@ -60,7 +54,7 @@ module _ {fs : List Finish} {log₀ log : List ℕ} {l : Logged} (w : Logs fs lo
   -- The log is full already: it stays so, and is not written to.
   logs-full : l .full ≡ true → Logs (fs ++ (f ∷ [])) log₀ (oneWritten l f log) (oneLogged (length log) l f)
   logs-full full = rw full (record {
-    late = rw (late-of-one-more fs f, w .late);
+    late = rw (late-finishes-more fs f, w .late);
     within = w .within;
     same-length = w .same-length;
     holds = λ e. absurd (let z : _≡_ {A = ℕ} 0 1 = cc in omega arith);
@@ -74,7 +68,7 @@ module _ {fs : List Finish} {log₀ log : List ℕ} {l : Logged} (w : Logs fs lo
         let fits = answers-length f (length log - l .length) in-range h in
         let more = log-grows fs log₀ log (l .length) (w .holds not-full) f (length (spelledFinish f)) _ (record { answered = sym fits; whole = refl }) in
         rw (not-full, fits) (record {
-          late = rw (late-of-one-more fs f, w .late);
+          late = rw (late-finishes-more fs f, w .late);
           within = more .within;
           same-length = more .same-length;
           holds = λ e. more;
@@ -86,7 +80,7 @@ module _ {fs : List Finish} {log₀ log : List ℕ} {l : Logged} (w : Logs fs lo
     logs-overflows h =
         let known = w .holds not-full in
         rw (not-full, answers-no-room f (length log - l .length) in-range h, take-append-drop (l .length) log) (record {
-          late = rw (late-of-one-more fs f, w .late);
+          late = rw (late-finishes-more fs f, w .late);
           within = w .within;
           same-length = w .same-length;
           holds = λ e. absurd (let z : _≡_ {A = ℕ} 0 1 = cc in omega arith);

@@ -1,10 +1,10 @@
--- A replay on its way: what ticks keep, one by one and from any point on, what a record's tests say, and what a release adds. (docs/RULES.md, sections 8.1 to 8.7.)
+-- A replay on its way: what ticks keep, one by one, what a record's tests say, and what a release adds. (docs/RULES.md, sections 8.1 to 8.7.)
 use Prim.Native.Nat.{ℕ, zero, suc, _+_, _-_, _≤_, _<_}
 use mathlib.Core.Path.{_≡_, refl, sym, ap, _∙_}
 use mathlib.Core.Logic.{⊎-elim}
 use mathlib.Core.Bool.{Bool, true, false, cond}
-use mathlib.Core.List.{List, [], _∷_, _++_, append-nil, append-assoc, List·Memᴰ·append-cases, List·Memᴰ·eq-of-singleton, List·Memᴰ·not-nil}
-use native.Mathlib.Nat.{zero-add, add-zero, add-assoc}
+use mathlib.Core.List.{List, [], _∷_, _++_, List·Memᴰ·append-cases, List·Memᴰ·eq-of-singleton, List·Memᴰ·not-nil}
+use native.Mathlib.Nat.{add-zero}
 use native.Mathlib.Omega.{arith}
 use lib.Dec.{eqb, ltb}
 use lib.ListN.{length, getD, length-append, length-set}
@@ -46,32 +46,6 @@ use Rattle.replay.specs.declared.Tested.{Tested}
 use Rattle.replay.specs.declared.Tested.the-variants as tested
 use Rattle.replay.specs.Numbers.{numbersAt, onNumber, refusedAt, testedBy, testedNumbers}
 use Rattle.replay.specs.Inside.{OnItsWay}
-
--- ---- ticks from any point on
-
--- What happened in ticks, behind what had happened before them.
-abbrev pub behind : Since → Since → Since
-behind s t = record { run = t .run; late = s .late + t .late; finishes = s .finishes ++ t .finishes }
-
--- What is behind one tick more is behind that tick, which is behind what had happened.
-one-more-behind : (s t : Since) → behind (oneMore s) t ≡ behind s (behind (oneMore (sinceNow (s .run))) t)
-one-more-behind s t = rw (zero-add, add-assoc, append-assoc (s .finishes))
-
--- Ticks from any point on are those from the run alone, behind what had happened.
-pub ticks-behind : (n : ℕ) (s : Since) → ticks n s ≡ behind s (ticks n (sinceNow (s .run)))
-unfolding ticks
-ticks-behind zero s = rw (add-zero, append-nil)
-ticks-behind (suc n) s =
-    ticks-behind n (oneMore s) ∙ one-more-behind s _ ∙ ap (behind s) (sym (ticks-behind n (oneMore (sinceNow (s .run)))))
-
--- So are those that end when nothing is pending.
-pub draining-behind : (n : ℕ) (s : Since) → ticksWhilePending n s ≡ behind s (ticksWhilePending n (sinceNow (s .run)))
-unfolding ticksWhilePending
-draining-behind zero s = rw (add-zero, append-nil)
-draining-behind (suc n) s = by-test (eqb (s .run .pending .count) 0)
-    (λ none. rw (none, add-zero, append-nil))
-    (λ some. rw some
-    (draining-behind n (oneMore s) ∙ one-more-behind s _ ∙ ap (behind s) (sym (draining-behind n (oneMore (sinceNow (s .run)))))))
 
 -- ---- one tick
 

@@ -1,7 +1,7 @@
 -- Many ticks: the run's own ticks, one after another, are the turns of its pending jobs; and a sound run stays sound. (docs/RULES.md, sections 6.10 to 6.17.)
 use Prim.Native.Nat.{ℕ, zero, suc, _+_, _-_, _≤_, _<_}
 use mathlib.Core.Path.{_≡_, refl, _∙_}
-use mathlib.Core.Bool.{Bool, true, false, cond}
+use mathlib.Core.Bool.{true, false, cond}
 use mathlib.Core.List.{[], _∷_, _++_, append-nil}
 use native.Mathlib.Nat.{add-zero}
 use native.Mathlib.Decide.{decLe}
@@ -15,6 +15,7 @@ use Rattle.jobs.specs.declared.Turn.the-variants as turn
 use Rattle.jobs.specs.declared.Ticks.{Ticks}
 use Rattle.jobs.specs.Units.{lastUnit, ranOf}
 use Rattle.jobs.specs.Turns.{firstJob, finishAt, Done, turnsFrom, ticksFrom}
+use Rattle.jobs.proofs.Laws.{either}
 use Rattle.run.specs.declared.Run.{Run}
 use Rattle.run.specs.declared.Advanced.{Advanced}
 use Rattle.run.specs.declared.AdvanceAnswer.{AdvanceAnswer}
@@ -176,13 +177,8 @@ module _ (run : Run) (good : Good run) where
 
 -- ---- a sound run stays sound
 
--- What holds of both holds of either.
-either : {A : Type 0} (P : A → Type 0) (b : Bool) (x y : A) → P x → P y → P (cond b x y)
-either P true x y f g = f
-either P false x y f g = g
-
 -- So many ticks, and ticks as long as a job is pending, leave a sound run sound.
-ticks-keep-good : (n : ℕ) (s : Since) → Good (s .run) → Good (ticks n s .run)
+pub ticks-keep-good : (n : ℕ) (s : Since) → Good (s .run) → Good (ticks n s .run)
 unfolding ticks
 ticks-keep-good zero s good = good
 ticks-keep-good (suc n) s good = ticks-keep-good n (oneMore s) (tick-keeps-good (s .run) good)

@@ -20,7 +20,7 @@ use Rattle.table.specs.Tables.{noRow, rowsOf}
 use Rattle.table.proofs.Laws.{in-range-means}
 use Rattle.table.proofs.Ranges.{both-true}
 use Rattle.due.specs.declared.Kept.{Kept}
-use Rattle.due.specs.Kept.{keptSound}
+use Rattle.due.specs.Kept.{noKept, keptSound}
 use Rattle.due.proofs.Laws.{sound-means as kept-means}
 use Rattle.jobs.specs.declared.Job.{Job}
 use Rattle.jobs.specs.declared.Pending.{Pending}
@@ -83,10 +83,6 @@ module _ (t : Table) (clock next : ℕ) where
   all-jobs : (js : List Job) → ((i : ℕ) → i < length js → jobSound t clock next (getD js i noJob) ≡ true) → jobsSound t clock next js ≡ true
   all-jobs [] f = refl
   all-jobs (j ∷ js) f = rw (f 0 (omega arith)) (all-jobs js (λ i h. f (suc i) (suc-le-suc h)))
-
--- What is kept of no row.
-abbrev noKept : Kept
-noKept = record { times = []; count = 0 }
 
 -- A row is in range, and what is kept can be its.
 abbrev RowSound : Row → Kept → Type 0

@@ -1,7 +1,7 @@
 -- Fresh runs, and how a run is started on a table's bytes. (docs/RULES.md, sections 6.1 to 6.4.)
 use Prim.Native.Nat.{ℕ}
 use mathlib.Core.Bool.{Bool}
-use mathlib.Core.List.{List, []}
+use mathlib.Core.List.{List}
 use lib.Dec.{ltb}
 use lib.ListN.{getD, replicate}
 use Rattle.table.specs.declared.Row.{Row}
@@ -10,7 +10,7 @@ use Rattle.table.specs.declared.TableAnswer.{TableAnswer}
 use Rattle.table.specs.declared.TableAnswer.the-variants as answer
 use Rattle.table.specs.Limits.{maxRows}
 use Rattle.table.specs.Tables.{noRow, tableRead}
-use Rattle.due.specs.Kept.{nothingKept}
+use Rattle.due.specs.Kept.{nothingKept, noKept}
 use Rattle.due.specs.declared.Kept.{Kept}
 use Rattle.jobs.specs.Places.{emptyPending}
 use Rattle.run.specs.declared.Run.{Run}
@@ -44,4 +44,4 @@ costLimit t row = rowAt t row .c
 
 -- What is kept of a row's due times.
 abbrev pub keptOf : Run → (row : ℕ) → Kept
-keptOf run row = getD (run .kept) row (record { times = []; count = 0 })
+keptOf run row = getD (run .kept) row noKept

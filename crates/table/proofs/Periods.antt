@@ -173,7 +173,7 @@ module _ {t : Table} (r : InRange t) where
   used-row i l = limits-of (getD (t .rows) i noRow) (r .rows-in-range i l)
 
   -- The rows in use are as many as are counted.
-  rows-used : length (rowsOf t) ≡ t .count
+  pub rows-used : length (rowsOf t) ≡ t .count
   rows-used = length-take-le (t .count) (t .rows) (omega arith)
 
   -- The walk begins with 1.

@@ -15,9 +15,13 @@ use Rattle.table.specs.declared.RowRead.{RowRead}
 use Rattle.table.specs.declared.RowRead.the-variants as row
 use Rattle.table.specs.Limits.{maxX, maxY, maxD, maxC}
 
+-- A number from 1 to a limit.
+abbrev pub fromOneTo : (most n : ℕ) → Bool
+fromOneTo most n = leb 1 n && leb n most
+
 -- A value from 1 to a limit is in range; any other gets refusal 3. (3.2, 3.10)
 abbrev pub withinLimit : (most v : ℕ) → Option Refusal
-withinLimit most v = cond (leb 1 v && leb v most) none (some ValueOutOfRange)
+withinLimit most v = cond (fromOneTo most v) none (some ValueOutOfRange)
 
 -- A row's rule, value by value: what is wrong with it, if anything. No range depends on another value. (3.3)
 abbrev pub ruleOfX : ℕ → Option Refusal

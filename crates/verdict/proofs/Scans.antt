@@ -7,7 +7,7 @@ use native.Mathlib.Omega.{arith}
 use Rattle.kinds.specs.declared.RefusedAt.{RefusedAt}
 use Rattle.numbers.specs.Laws.{Bytes}
 use Rattle.theory.specs.Curves.{EveryLengthFits, FitsUpTo}
-use Rattle.theory.proofs.Curves.{settled-within-a-period, fails-when-growth-is-above}
+use Rattle.theory.proofs.Curves.{settled-within-a-period, smallest-within-a-period, fails-when-growth-is-above, has-smallest-failing}
 use Rattle.table.specs.declared.Table.{Table}
 use Rattle.table.specs.declared.TableRead.{TableRead}
 use Rattle.table.specs.declared.TableAnswer.the-variants as answer
@@ -16,6 +16,7 @@ use Rattle.verdict.specs.declared.Verdict.{Verdict}
 use Rattle.verdict.specs.declared.Verdict.the-variants as verdict
 use Rattle.verdict.specs.Demand.{tableDemand, tableGrowth, largestD}
 use Rattle.verdict.specs.Verdict.{RightOf, Judged}
+use Rattle.verdict.specs.Laws as laws
 use Rattle.verdict.proofs.Accepted.{Known, accepted-is-known}
 
 -- The lengths up to the last settle every length.
@@ -29,14 +30,35 @@ module _ (t : Table) (period : ℕ) (known : Known t period) {d growth : ℕ} (l
       rw largest
       (settled-within-a-period (tableDemand t) (largestD t) period (tableGrowth t period) (known .curve) (known .some-period) (rw grows at slow))
 
-  -- Where it is above the period, the lengths up to (d + 1) · period + d do, because the last of them fails.
+  -- Where it is above the period, the length (d + 1) · period + d fails, ..
+  last-fails : period < growth → (d + 1) * period + d < tableDemand t ((d + 1) * period + d)
+  last-fails above =
+      rw largest (fails-when-growth-is-above (tableDemand t) (largestD t) period (tableGrowth t period) (known .curve) (rw grows at above))
+
+  -- .. so that the lengths up to it do.
   pub settled-by-many-periods : period < growth → Settles t ((d + 1) * period + d)
   settled-by-many-periods above fits =
       let last = (d + 1) * period + d in
-      let fails : last < tableDemand t last =
-      rw largest (fails-when-growth-is-above (tableDemand t) (largestD t) period (tableGrowth t period) (known .curve) (rw grows at above))
-      in
-      absurd (omega (arith, fits last (omega (arith, known .some-period)) (omega arith)))
+      absurd (omega (arith, last-fails above, fits last (omega (arith, known .some-period)) (omega arith)))
+
+-- ---- of an accepted table
+
+pub lengths-that-settle : laws.LengthsThatSettle
+lengths-that-settle s period bytes accepted slow =
+    settled-by-one-period (tableRead s .table) period (accepted-is-known s period bytes accepted) refl refl slow
+
+pub smallest-is-among-them : laws.SmallestIsAmongThem
+smallest-is-among-them s period bytes accepted slow L smallest =
+    let t = tableRead s .table in
+    let known = accepted-is-known s period bytes accepted in
+    smallest-within-a-period (tableDemand t) (largestD t) period (tableGrowth t period) (known .curve) (known .some-period) slow L smallest
+
+pub overloaded-above-one : laws.OverloadedAboveOne
+overloaded-above-one s period bytes accepted above =
+    let t = tableRead s .table in
+    let known = accepted-is-known s period bytes accepted in
+    let last = (largestD t + 1) * period + largestD t in
+    has-smallest-failing (tableDemand t) last (omega (arith, known .some-period)) (last-fails t period known refl refl above)
 
 -- ---- of the bytes that were read
 

@@ -1,11 +1,10 @@
 -- One verdict at most is right of any bytes, and some verdict is. Outside, different verdicts say different things, and none says 0.
-use Prim.Native.Nat.{ℕ, _≤_}
+use Prim.Native.Nat.{ℕ}
 use mathlib.Core.Path.{_≡_, refl, sym, ap, ap₂, _∙_}
 use mathlib.Core.Logic.{⊎-elim}
 use native.Mathlib.Omega.{arith}
-use Rattle.kinds.specs.declared.RefusedAt.{RefusedAt}
-use Rattle.kinds.specs.Numbering.{Said, refusalNumber}
-use Rattle.kinds.proofs.Numbering.{never-zero, never-an-answer, numbers-differ}
+use Rattle.kinds.specs.Numbering.{Said}
+use Rattle.kinds.proofs.Numbering.{never-zero, no-answer, numbers-differ}
 use Rattle.theory.proofs.Curves.{decided, one-smallest-failing, none-where-every-length-fits}
 use Rattle.table.specs.declared.Table.{Table}
 use Rattle.table.specs.declared.TableAnswer.{TableAnswer}
@@ -77,21 +76,17 @@ never-says-zero verdict.Feasible = omega arith
 never-says-zero (verdict.Overloaded w) = omega arith
 never-says-zero (verdict.Refused r) = never-zero (r .refusal)
 
--- No refusal has an answer's number.
-no-answer : (r : RefusedAt) → 20 ≤ refusalNumber (r .refusal) → refusalNumber (r .refusal) ≤ 23 → ⊥
-no-answer r least most = ⊎-elim (λ h. omega arith) (λ h. omega arith) (never-an-answer (r .refusal))
-
 -- Verdicts that agree in the three numbers that are said are one.
 same-said : (v w : Verdict) → verdictSays v .number ≡ verdictSays w .number → verdictSays v .first ≡ verdictSays w .first
     → verdictSays v .second ≡ verdictSays w .second → v ≡ w
 same-said verdict.Feasible verdict.Feasible n f s = refl
 same-said verdict.Feasible (verdict.Overloaded w) n f s = absurd (omega arith)
-same-said verdict.Feasible (verdict.Refused r) n f s = absurd (no-answer r (omega arith) (omega arith))
+same-said verdict.Feasible (verdict.Refused r) n f s = absurd (no-answer (r .refusal) (omega arith) (omega arith))
 same-said (verdict.Overloaded v) verdict.Feasible n f s = absurd (omega arith)
 same-said (verdict.Overloaded v) (verdict.Overloaded w) n f s = ap verdict.Overloaded (same-witness v w f s)
-same-said (verdict.Overloaded v) (verdict.Refused r) n f s = absurd (no-answer r (omega arith) (omega arith))
-same-said (verdict.Refused q) verdict.Feasible n f s = absurd (no-answer q (omega arith) (omega arith))
-same-said (verdict.Refused q) (verdict.Overloaded w) n f s = absurd (no-answer q (omega arith) (omega arith))
+same-said (verdict.Overloaded v) (verdict.Refused r) n f s = absurd (no-answer (r .refusal) (omega arith) (omega arith))
+same-said (verdict.Refused q) verdict.Feasible n f s = absurd (no-answer (q .refusal) (omega arith) (omega arith))
+same-said (verdict.Refused q) (verdict.Overloaded w) n f s = absurd (no-answer (q .refusal) (omega arith) (omega arith))
 same-said (verdict.Refused q) (verdict.Refused r) n f s =
     ap₂ (λ kind place. verdict.Refused (record { refusal = kind; place = place })) (numbers-differ (q .refusal) (r .refusal) n) f
 

@@ -1,10 +1,13 @@
 -- What follows from the definitions of demand, for other crates to cite. (docs/RULES.md, section 5.)
-use Prim.Native.Nat.{ℕ, _∣_}
-use mathlib.Core.List.{List·Memᴰ}
-use Rattle.theory.specs.Curves.{Curve}
+use Prim.Native.Nat.{ℕ, _+_, _*_, _≤_, _<_, _∣_}
+use mathlib.Core.Path.{_≡_}
+use mathlib.Core.List.{List, List·Memᴰ}
+use Rattle.numbers.specs.Laws.{Bytes}
+use Rattle.theory.specs.Curves.{Curve, EveryLengthFits, SmallestFailing, FitsUpTo, FailsUpTo}
 use Rattle.table.specs.declared.Row.{Row}
 use Rattle.table.specs.declared.Table.{Table}
-use Rattle.table.specs.Tables.{rowsOf, InRange}
+use Rattle.table.specs.declared.TableAnswer.the-variants as answer
+use Rattle.table.specs.Tables.{rowsOf, tableRead, InRange}
 use Rattle.verdict.specs.Demand.{tableDemand, tableGrowth, largestD}
 
 -- ---- what is proved (proofs/Laws.antt)
@@ -13,3 +16,21 @@ use Rattle.verdict.specs.Demand.{tableDemand, tableGrowth, largestD}
 abbrev pub TableIsACurve : Type 0
 TableIsACurve = (t : Table) (period : ℕ) → InRange t → ((r : Row) → List·Memᴰ r (rowsOf t) → r .y ∣ period)
     → Curve (tableDemand t) (largestD t) period (tableGrowth t period)
+
+-- ---- how far the verdict has to look (proofs/Scans.antt)
+
+-- What holds of every table that is accepted, with its H.
+abbrev OfAccepted : (Table → (period : ℕ) → Type 0) → Type 0
+OfAccepted P = (s : List ℕ) (period : ℕ) → Bytes s → tableRead s .answer ≡ answer.Accepted period → P (tableRead s .table) period
+
+-- Where the sum of x · c / y over the rows is at most 1, the lengths up to H + the largest d settle every length, .. (5.7, 5.8)
+abbrev pub LengthsThatSettle : Type 0
+LengthsThatSettle = OfAccepted λ t period. tableGrowth t period ≤ period → FitsUpTo (tableDemand t) (period + largestD t) → EveryLengthFits (tableDemand t)
+
+-- .. and the smallest that fails, where one does, is one of them.
+abbrev pub SmallestIsAmongThem : Type 0
+SmallestIsAmongThem = OfAccepted λ t period. tableGrowth t period ≤ period → (L : ℕ) → SmallestFailing (tableDemand t) L → L ≤ period + largestD t
+
+-- Where it is above 1, a length fails at or below (the largest d + 1) · H + the largest d. (5.9)
+abbrev pub OverloadedAboveOne : Type 0
+OverloadedAboveOne = OfAccepted λ t period. period < tableGrowth t period → FailsUpTo (tableDemand t) ((largestD t + 1) * period + largestD t)

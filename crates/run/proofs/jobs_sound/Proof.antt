@@ -4,7 +4,7 @@ use mathlib.Core.Path.{refl, sym, _∙_}
 use native.Mathlib.Omega.{arith}
 use borrow.Author.Needs.{needs}
 use borrow.Author.Tests.{not-true, not-false}
-use Rattle.jobs.proofs.Places.{length-mapped}
+use Rattle.kinds.proofs.Lists.{length-mapped}
 use Rattle.run.proofs.Sound.{JobsFrom, no-such-row, job-does-not-fit, job-fits, no-job-left}
 use Rattle.run.proofs.jobs_sound.Statement.{statement}
 use Rattle.run.proofs.jobs_sound.Tie as tie

@@ -5,8 +5,8 @@ use mathlib.Core.Path.{_≡_, refl, sym, _∙_}
 use native.Mathlib.Omega.{arith}
 use borrow.Author.Needs.{needs}
 use borrow.Author.Tests.{not-true, not-false}
+use Rattle.kinds.proofs.Lists.{length-mapped}
 use Rattle.table.specs.Rows.{rowInRange}
-use Rattle.jobs.proofs.Places.{length-mapped}
 use Rattle.run.specs.Runs.{rowAt}
 use Rattle.run.proofs.Sound.{RowsFrom, row-out-of-range, kept-unsound, row-sound, no-row-left}
 use Rattle.run.proofs.rows_sound.Statement.{statement}

@@ -10,12 +10,13 @@ use borrow.Author.Tests.{not-true, not-false}
 use lib.ListN.{length, getD}
 use Rattle.kinds.specs.Numbering.{maxTime}
 use Rattle.kinds.specs.declared.Refusal.the-variants.{DueTooLate}
+use Rattle.kinds.proofs.Lists.{length-mapped}
 use Rattle.table.specs.Rows.{rowInRange}
 use Rattle.table.specs.Laws.{WithinLimits}
 use Rattle.table.proofs.Laws.{in-range-means}
 use Rattle.due.specs.declared.Due.the-variants.{Refused}
 use Rattle.due.specs.Kept.{keptTimes, dueOf}
-use Rattle.due.proofs.Keeping.{noTime, byRule, length-mapped, length-kept, due-alone, due-spaced, due-after-release}
+use Rattle.due.proofs.Keeping.{noTime, byRule, length-kept, due-alone, due-spaced, due-after-release}
 use Rattle.due.proofs.Laws.{given-means, too-late-means, out-of-range-means}
 use Rattle.due.proofs.Kept.due.Statement.{statement}
 use Rattle.due.proofs.Kept.due.Tie as tie

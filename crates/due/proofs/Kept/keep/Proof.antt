@@ -6,12 +6,13 @@ use native.Mathlib.Omega.{arith}
 use borrow.Author.Needs.{needs}
 use borrow.Author.Tests.{not-true, not-false}
 use lib.ListN.{length}
+use Rattle.kinds.proofs.Lists.{length-mapped}
 use Rattle.table.specs.Rows.{rowInRange}
 use Rattle.table.specs.Laws.{WithinLimits}
 use Rattle.table.proofs.Laws.{in-range-means}
 use Rattle.due.specs.Kept.{maxKept, keptTimes}
 use Rattle.due.proofs.Lists.{movedDown, moved-one-more}
-use Rattle.due.proofs.Keeping.{noTime, length-mapped, length-kept, keeps-all, kept-behind, kept-moved}
+use Rattle.due.proofs.Keeping.{noTime, length-kept, keeps-all, kept-behind, kept-moved}
 use Rattle.due.proofs.Kept.keep.Statement.{statement}
 use Rattle.due.proofs.Kept.keep.Tie as tie
 

@@ -4,8 +4,9 @@ use mathlib.Core.Path.{_≡_, refl, sym, _∙_}
 use native.Mathlib.Omega.{arith}
 use borrow.Author.Needs.{needs}
 use lib.ListN.{length, drop}
+use Rattle.kinds.proofs.Lists.{length-mapped}
 use Rattle.due.specs.Kept.{keptTimes, noneTooLate, keptSound}
-use Rattle.due.proofs.Keeping.{length-mapped, length-kept, unsound-count, sound-count, none-late-past, late-at, in-time-at}
+use Rattle.due.proofs.Keeping.{length-kept, unsound-count, sound-count, none-late-past, late-at, in-time-at}
 use Rattle.due.proofs.Kept.sound.Statement.{statement}
 use Rattle.due.proofs.Kept.sound.Tie as tie
 

@@ -6,9 +6,10 @@ use mathlib.Core.Logic.{⊎-elim}
 use borrow.Author.Needs.{needs}
 use native.Mathlib.Omega.{arith}
 use lib.ListN.{drop}
+use Rattle.kinds.proofs.Lists.{length-mapped}
 use Rattle.jobs.specs.Places.{noJob, jobsOf, used}
 use Rattle.jobs.specs.Choice.{firstFrom, firstPlace}
-use Rattle.jobs.proofs.Places.{used-is, length-mapped}
+use Rattle.jobs.proofs.Places.{used-is}
 use Rattle.jobs.proofs.First.{first-start, first-next, first-end, choice-nobody, choice-place}
 use Rattle.jobs.proofs.Pending.choice.Statement.{statement}
 use Rattle.jobs.proofs.Pending.choice.Tie as tie

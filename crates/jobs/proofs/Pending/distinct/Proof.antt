@@ -4,9 +4,10 @@ use mathlib.Core.Path.{_≡_, refl, sym, _∙_}
 use native.Mathlib.Omega.{arith}
 use borrow.Author.Needs.{needs}
 use lib.ListN.{length, take, drop, length-take}
+use Rattle.kinds.proofs.Lists.{length-mapped, take-as-many}
 use Rattle.jobs.specs.Places.{jobsOf, used}
 use Rattle.jobs.specs.Serials.{distinctSerials}
-use Rattle.jobs.proofs.Places.{take-used, used-is, length-mapped}
+use Rattle.jobs.proofs.Places.{used-is}
 use Rattle.jobs.proofs.Serials.{rising-distinct, not-distinct, distinct-goes-on, rest-end}
 use Rattle.jobs.proofs.Pending.distinct.Statement.{statement}
 use Rattle.jobs.proofs.Pending.distinct.Tie as tie
@@ -23,7 +24,7 @@ counted : (c : tie.After-in-use Inv-loop μ-loop)
 counted c =
     let p = c .before .before .args .self in
     let e : c .in-use .result ≡ used p = used-is p (c .in-use .result) (search (needs, length-mapped)) (c .in-use .ensures) in
-    (omega (arith, length-take (p .count) (p .places)), rw e (take-used (p .count) (p .places)))
+    (omega (arith, length-take (p .count) (p .places)), rw e (take-as-many (p .count) (p .places)))
 
 in-use-requires : tie.Need-in-use-requires Inv-loop μ-loop
 in-use-requires c κs = search needs

@@ -3,9 +3,10 @@ use mathlib.Core.Path.{_≡_}
 use native.Mathlib.Omega.{arith}
 use borrow.Author.Needs.{needs}
 use borrow.Author.Tests.{lt-ltb, le-ltb, le-leb, lt-leb}
+use Rattle.kinds.proofs.Lists.{length-mapped}
 use Rattle.jobs.specs.Places.{used}
 use Rattle.jobs.specs.Units.{after, given}
-use Rattle.jobs.proofs.Places.{used-is, length-mapped}
+use Rattle.jobs.proofs.Places.{used-is}
 use Rattle.jobs.proofs.Pending.give.Statement.{statement}
 use Rattle.jobs.proofs.Pending.give.Tie as tie
 

@@ -6,9 +6,10 @@ use mathlib.Core.Logic.{⊎-elim}
 use borrow.Author.Needs.{needs}
 use native.Mathlib.Omega.{arith}
 use lib.ListN.{drop}
+use Rattle.kinds.proofs.Lists.{length-mapped}
 use Rattle.jobs.specs.Places.{noJob, jobsOf, used}
 use Rattle.jobs.specs.Late.{lateCount}
-use Rattle.jobs.proofs.Places.{used-is, length-mapped}
+use Rattle.jobs.proofs.Places.{used-is}
 use Rattle.jobs.proofs.Late.{late-next, late-end}
 use Rattle.jobs.proofs.Pending.late.Statement.{statement}
 use Rattle.jobs.proofs.Pending.late.Tie as tie

@@ -4,8 +4,9 @@ use mathlib.Core.Path.{_≡_}
 use borrow.Author.Needs.{needs}
 use native.Mathlib.Omega.{arith}
 use lib.ListN.{length, length-take}
+use Rattle.kinds.proofs.Lists.{length-mapped}
 use Rattle.jobs.specs.Places.{noJob, used}
-use Rattle.jobs.proofs.Places.{used-is, length-mapped, moved, moved-none, moved-more, moved-is-taken-out, nothing-taken-out}
+use Rattle.jobs.proofs.Places.{used-is, moved, moved-none, moved-more, moved-is-taken-out, nothing-taken-out}
 use Rattle.jobs.proofs.Pending.take_out.Statement.{statement}
 use Rattle.jobs.proofs.Pending.take_out.Tie as tie
 

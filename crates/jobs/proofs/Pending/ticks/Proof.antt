@@ -8,12 +8,13 @@ use mathlib.Core.Logic.{⊎-elim}
 use borrow.Author.Needs.{needs}
 use native.Mathlib.Omega.{arith}
 use lib.ListN.{length, take, drop, getD}
+use Rattle.kinds.proofs.Lists.{length-mapped}
 use Rattle.jobs.specs.declared.Job.{Job}
 use Rattle.jobs.specs.declared.Pending.{Pending}
 use Rattle.jobs.specs.Places.{maxPlaces, noJob, jobsOf, used}
 use Rattle.jobs.specs.Choice.{firstFrom, firstPlace}
 use Rattle.jobs.specs.Late.{lateCount}
-use Rattle.jobs.proofs.Places.{used-is, length-mapped, moved, moved-none, moved-more, moved-is-taken-out}
+use Rattle.jobs.proofs.Places.{used-is, moved, moved-none, moved-more, moved-is-taken-out}
 use Rattle.jobs.proofs.First.{first-start, first-next, first-end}
 use Rattle.jobs.proofs.Late.{late-next, late-end}
 use Rattle.jobs.proofs.Turns.{withCount, outcome, Reached, reached-first, reached-last, reached-unit, reached-until, reached-idle}

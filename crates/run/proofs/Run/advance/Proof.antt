@@ -4,7 +4,7 @@ use mathlib.Core.Path.{_≡_, sym, _∙_}
 use native.Mathlib.Omega.{arith}
 use borrow.Author.Needs.{needs}
 use borrow.Author.Tests.{not-true, not-false}
-use Rattle.jobs.proofs.Places.{length-mapped}
+use Rattle.kinds.proofs.Lists.{length-mapped}
 use Rattle.run.specs.declared.AdvanceAnswer.the-variants as answer
 use Rattle.run.specs.Advance.{advanced}
 use Rattle.run.proofs.Ticking.{Good}

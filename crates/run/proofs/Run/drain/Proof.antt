@@ -3,7 +3,7 @@ use mathlib.Core.Path.{sym, _∙_}
 use native.Mathlib.Omega.{arith}
 use borrow.Author.Needs.{needs}
 use borrow.Author.Tests.{not-true, not-false}
-use Rattle.jobs.proofs.Places.{length-mapped}
+use Rattle.kinds.proofs.Lists.{length-mapped}
 use Rattle.run.proofs.Ticking.{Good}
 use Rattle.run.proofs.Advancing.{drain-unsound, drain-done, drain-stopped}
 use Rattle.run.proofs.Run.drain.Statement.{statement}

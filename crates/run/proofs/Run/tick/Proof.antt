@@ -2,7 +2,7 @@
 use mathlib.Core.Path.{_≡_, sym, _∙_}
 use borrow.Author.Needs.{needs}
 use borrow.Author.Tests.{not-true, not-false}
-use Rattle.jobs.proofs.Places.{length-mapped}
+use Rattle.kinds.proofs.Lists.{length-mapped}
 use Rattle.run.specs.Ticking.{ticked}
 use Rattle.run.proofs.Ticking.{Good, stepOf, tick-unsound, tick-too-late, tick-is-a-turn}
 use Rattle.run.proofs.Run.tick.Statement.{statement}
