@@ -39,8 +39,9 @@ use Rattle.run.specs.declared.Released.the-variants as release
 use Rattle.run.specs.Runs.{freshRun, rowInUse, rowAt, costLimit, keptOf}
 use Rattle.run.specs.Sound.{fromOneTo, soundOf}
 use Rattle.run.specs.Release.{atDue, released}
-use Rattle.run.specs.Advance.{Since, oneMore, ticks}
-use Rattle.run.proofs.Ticking.{Good, tick-keeps-good}
+use Rattle.run.specs.Advance.{ticks}
+use Rattle.run.proofs.Ticking.{Good}
+use Rattle.run.proofs.Advancing.{ticks-keep-good}
 use Rattle.run.proofs.Release.{release-keeps-sound}
 use Rattle.run.proofs.Fresh.{started-is-sound}
 use Rattle.script.specs.declared.RecordAt.{RecordAt}
@@ -293,13 +294,7 @@ release-stops run row cost sound = rw sound (by-test (rowInUse (run .table) row)
     by-due (due.At t) h = tt
     by-due (due.Refused r) h = h
 
--- .. as the runs of a play are: ticks keep a run sound, ..
-ticks-keep-good : (n : ℕ) (s : Since) → Good (s .run) → Good (ticks n s .run)
-unfolding ticks
-ticks-keep-good zero s good = good
-ticks-keep-good (suc n) s good = ticks-keep-good n (oneMore s) (tick-keeps-good (s .run) good)
-
--- .. and releases do.
+-- .. as the runs of a play are: ticks and releases keep a run sound.
 comes-sound : (t s : List ℕ) (at : ℕ) (p : Progress) → Bytes t → ComesTo t s at p → Good (p .since .run)
 comes-sound t s at p table (begins period e) = started-is-sound t table
 comes-sound t s at p table (goes-further {at = from} {p = before} c more q next e) =
