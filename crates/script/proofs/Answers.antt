@@ -4,6 +4,7 @@ use mathlib.Core.Path.{_≡_, refl, ap, ap₂}
 use native.Mathlib.Omega.{arith}
 use Rattle.kinds.specs.Numbering.{NeverNumberedZero, SaysApart}
 use Rattle.kinds.proofs.Numbering.{never-zero, numbers-differ, saidIn, refusals-apart}
+use Rattle.script.specs.declared.RecordAt.{RecordAt}
 use Rattle.script.specs.declared.RecordRead.the-variants as read
 use Rattle.script.specs.declared.Which.{Which}
 use Rattle.script.specs.declared.Which.the-variants as which
@@ -24,15 +25,16 @@ chosen-never-zero (answer.Refused r) = never-zero (r .at .refusal)
 pub scripts-never-zero : ScriptsNeverZero
 scripts-never-zero = (record-never-zero, chosen-never-zero)
 
+-- Records that agree in their gap, row and cost and in the place after them are one.
+same-record : (a b : RecordAt) → a .release .gap ≡ b .release .gap → a .release .row .0 ≡ b .release .row .0 → a .release .cost ≡ b .release .cost
+    → a .next ≡ b .next → a ≡ b
+same-record a b gap row cost next =
+    let release : a .release ≡ b .release =
+    ap₂ (λ (g : ℕ × ℕ). λ (c : ℕ). record { gap = g .0; row = record { 0 = g .1 }; cost = c }) (ap₂ (λ g r. (g, r)) gap row) cost in
+    ap₂ (λ r n. record { release = r; next = n }) release next
+
 record-apart : SaysApart recordSays
-record-apart (read.Record a) (read.Record b) e =
-    let gap : a .release .gap ≡ b .release .gap = cc in
-    let row : a .release .row .0 ≡ b .release .row .0 = cc in
-    let cost : a .release .cost ≡ b .release .cost = cc in
-    let next : a .next ≡ b .next = cc in
-    ap read.Record (ap₂ (λ r n. record { release = r; next = n })
-    (ap₂ (λ (gap-row : ℕ × ℕ). λ (c : ℕ). record { gap = gap-row .0; row = record { 0 = gap-row .1 }; cost = c }) (ap₂ (λ g r. (g, r)) gap row) cost)
-    next)
+record-apart (read.Record a) (read.Record b) e = ap read.Record (same-record a b (cc) (cc) (cc) (cc))
 record-apart (read.Record a) read.End e = absurd (let z : _≡_ {A = ℕ} 0 1 = cc in omega arith)
 record-apart (read.Record a) (read.Refused r) e = absurd (let z : _≡_ {A = ℕ} 0 1 = cc in omega arith)
 record-apart read.End (read.Record b) e = absurd (let z : _≡_ {A = ℕ} 0 1 = cc in omega arith)
