@@ -1,3 +1,4 @@
 pub mod Lists
 pub mod Keeping
 pub mod Laws
+pub mod Answers

@@ -1,6 +1,6 @@
 -- The laws of the refusals' numbers. That no two share one: a table gives each number its refusal back.
 use Prim.Native.Nat.{ℕ, _≤_}
-use mathlib.Core.Path.{_≡_, refl, sym, ap, _∙_}
+use mathlib.Core.Path.{_≡_, refl, sym, ap, ap₂, _∙_}
 use mathlib.Core.Logic.{inl, inr, ⊎-elim}
 use mathlib.Core.List.{List, _∷_}
 use native.Mathlib.Decide.{decLe}
@@ -9,6 +9,8 @@ use lib.ListN.{take, getD, List·getD-eq-default}
 use Rattle.kinds.specs.declared.Refusal.{Refusal}
 use Rattle.kinds.specs.declared.Refusal.the-variants as refusal
 use Rattle.kinds.specs.Numbering.{refusalNumber, allRefusals, NumbersDiffer, NeverZero, NeverAnAnswer, LatestTime, NumbersInOrder, RefusalSays}
+use Rattle.kinds.specs.Numbering.{Said, Says, RefusalsApart, PlainRefusalsApart}
+use Rattle.kinds.specs.Numbering as says
 
 -- The refusals from 1 to 14 in order. (Nothing is numbered 0: what stands there is never looked at.)
 inOrder : List Refusal
@@ -40,6 +42,19 @@ back refusal.NumberTooBig = refl
 
 pub numbers-differ : NumbersDiffer
 numbers-differ r s e = sym (back r) ∙ ap numbered e ∙ back s
+
+-- The numbers that are said, where some are.
+abbrev pub saidIn : Says → Said
+saidIn (says.Says.numbered s) = s
+saidIn (says.Says.values vs) = record { number = 0; first = 0; second = 0 }
+
+pub refusals-apart : RefusalsApart
+refusals-apart q r e =
+    ap₂ (λ kind place. record { refusal = kind; place = place }) (numbers-differ (q .refusal) (r .refusal) (ap (λ a. saidIn a .number) e))
+    (ap (λ a. saidIn a .first) e)
+
+pub plain-refusals-apart : PlainRefusalsApart
+plain-refusals-apart q r e = numbers-differ q r (ap (λ a. saidIn a .number) e)
 
 -- So a refusal's number is the number of what the table has there.
 same : (r : Refusal) → refusalNumber r ≡ refusalNumber (numbered (refusalNumber r))

@@ -39,11 +39,43 @@ pub record Said : Type 0 where
 abbrev pub refusedSays : RefusedAt → Said
 refusedSays r = record { number = refusalNumber (r .refusal); first = r .place; second = 0 }
 
+-- A refusal that names no place is at place 0. (10.3)
+abbrev pub withoutPlace : Refusal → RefusedAt
+withoutPlace r = record { refusal = r; place = 0 }
+
+-- What any answer says: one that the rules give a number says it with the two numbers beside it, and any other says its values alone.
+pub data Says : Type 0 where
+  numbered : Said → Says
+  values : List ℕ → Says
+
+-- ---- words for what is proved of answers
+
+-- The answer is not numbered 0.
+abbrev pub NotZero : Says → Type 0
+NotZero (numbered s) = 1 ≤ s .number
+NotZero (values vs) = Unit {0}
+
+-- Of all answers of a kind none is numbered 0, ..
+abbrev pub NeverNumberedZero : {A : Type 0} → (A → Says) → Type 0
+NeverNumberedZero {A} says = (a : A) → NotZero (says a)
+
+-- .. and different answers say different things.
+abbrev pub SaysApart : {A : Type 0} → (A → Says) → Type 0
+SaysApart {A} says = (a b : A) → says a ≡ says b → a ≡ b
+
 -- ---- what is proved of the numbers (proofs/Numbering.antt)
 
 -- No two refusals share a number.
 abbrev pub NumbersDiffer : Type 0
 NumbersDiffer = (r s : Refusal) → refusalNumber r ≡ refusalNumber s → r ≡ s
+
+-- The same of refusals at places, by what they say, ..
+abbrev pub RefusalsApart : Type 0
+RefusalsApart = SaysApart (λ (r : RefusedAt). numbered (refusedSays r))
+
+-- .. and of those that name none.
+abbrev pub PlainRefusalsApart : Type 0
+PlainRefusalsApart = SaysApart (λ (r : Refusal). numbered (refusedSays (withoutPlace r)))
 
 -- No refusal has the number 0.
 abbrev pub NeverZero : Type 0

@@ -43,11 +43,11 @@ start-is-four (start.Refused r) = refl
 
 event-is-four : (e : Event) → length (eventWords e) ≡ mostWords
 event-is-four (Event.release row cost (accepted serial due)) = refl
-event-is-four (Event.release row cost (says.ReleaseSays.refused n)) = refl
+event-is-four (Event.release row cost (says.ReleaseSays.refused n place)) = refl
 event-is-four (Event.tick idle late) = refl
 event-is-four (Event.tick (ran serial false) late) = refl
 event-is-four (Event.tick (ran serial true) late) = refl
-event-is-four (Event.tick (says.TickSays.refused n) late) = refl
+event-is-four (Event.tick (says.TickSays.refused n place) late) = refl
 
 -- So four words of it are all of it, and it takes its bytes.
 four-are-all : (ws : List ℕ) → length ws ≡ mostWords → (take mostWords ws ≡ ws) × (length (wordsBytes ws) ≡ answerLength)

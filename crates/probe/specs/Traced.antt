@@ -69,14 +69,14 @@ startWords (start.Refused r) = refusedWords (refusalNumber (r .refusal)) (r .pla
 -- A release: 2, serial and due time, or its refusal.
 abbrev pub releaseWords : ReleaseSays → List ℕ
 releaseWords (accepted serial due) = 2 ∷ serial ∷ due ∷ 0 ∷ []
-releaseWords (says.ReleaseSays.refused n) = refusedWords n 0
+releaseWords (says.ReleaseSays.refused n place) = refusedWords n place
 
 -- A tick: 3 for idle; 4 for a unit, 5 for a last unit, with the serial; each with the late count; or its refusal.
 abbrev pub tickWords : TickSays → (late : ℕ) → List ℕ
 tickWords idle late = 3 ∷ 0 ∷ 0 ∷ late ∷ []
 tickWords (ran serial false) late = 4 ∷ serial ∷ 0 ∷ late ∷ []
 tickWords (ran serial true) late = 5 ∷ serial ∷ 0 ∷ late ∷ []
-tickWords (says.TickSays.refused n) late = refusedWords n 0
+tickWords (says.TickSays.refused n place) late = refusedWords n place
 
 abbrev pub eventWords : Event → List ℕ
 eventWords (Event.release row cost a) = releaseWords a

@@ -51,14 +51,17 @@ use Rattle.replay.specs.declared.Tested.the-variants as tested
 use Rattle.replay.specs.Numbers.{numbersAt, refusedAt, onNumber, testedNumbers}
 use Rattle.replay.specs.Play.{Progress, begun, Step, goes-on, stops, afterRelease, tickedTo, afterTests, stepped}
 use Rattle.replay.specs.Play.{Played, whole, stopped, finalTicks, andThen, playedFrom, played}
-use Rattle.replay.specs.Outcome.{lateFinishes, answerOf, replaySays}
+use Rattle.replay.specs.Outcome.{lateFinishes, answerOf, replayOf, replaySays}
 use Rattle.replay.proofs.Playing.{tick-clock, along-draining, passed-is-read}
 use Rattle.replay.proofs.Through.{Keeps, went-on, step-keeps}
 use Rattle.replay.proofs.Laws.{late-is-the-sum}
+use Rattle.host.specs.Answer.{VerdictAnswered, answerLength}
+use Rattle.host.specs.Answer as host
+use Rattle.host.proofs.Answering.{replay-of-another-size, replay-of-sixteen}
 use Rattle.promise.specs.Traces.{Call, Event, eventOf, clockOf, jobsIn, unitsOf}
 use Rattle.promise.specs.Choice.{lateAt}
 use Rattle.promise.specs.InTime.{SaidFeasible}
-use Rattle.promise.specs.AtHost.{NotLate, AtHost}
+use Rattle.promise.specs.AtHost.{NotLate, AtHost, AtHostCalls}
 use Rattle.promise.proofs.Bridge.{Bridge}
 use Rattle.promise.proofs.Bridged.{bridge-of-started, release-keeps-bridge, tick-keeps-bridge}
 use Rattle.promise.proofs.Units.{jobOf, sound-facts, pending-is-owed}
@@ -272,3 +275,26 @@ module _ (bytes script : List ℕ) (table : Bytes bytes) (fine : Bytes script) w
 pub at-host : AtHost
 at-host bytes script table fine said room =
     says-in-time bytes script table fine room (played bytes script) refl (played-in-time bytes script table fine said)
+
+-- ---- the host's calls
+
+-- The verdict's call returns 20 where `judge` says feasible.
+call-said-feasible : (table lent written : List ℕ) → VerdictAnswered table lent 20 written → SaidFeasible table
+call-said-feasible table lent written (host.VerdictAnswered.wrong-size l s w) = absurd (omega arith)
+call-said-feasible table lent written (host.VerdictAnswered.said l v j s w) = record { answer = v; judged = j; feasible = sym s }
+
+-- So the replay's call is not late: with sixteen bytes it tells what the replay says, and with another size it returns 13.
+pub at-host-calls : AtHostCalls
+at-host-calls table script fine fine′ lent written feasible log answer status after left leaves = by-eq (length answer) answerLength
+    (λ sixteen.
+    let told = replay-of-sixteen table script log answer status after left sixteen .0 leaves in
+    let says = replaySays (replayOf table script (length log)) in
+    let n : NotLate (length script) says = at-host table script fine fine′ (call-said-feasible table lent written feasible) (length log) in
+    record {
+      not-23 = λ e. n .not-23 (sym (told .its-number) ∙ e);
+      none-late = λ e. (says, n .none-late (sym (told .its-number) ∙ e), told .its-answer);
+      not-stopped = λ e. (says, n .not-stopped (sym (told .its-number) ∙ e), told .its-answer);
+    })
+    (λ other.
+    let thirteen : status ≡ 13 = sym (leaves .0) ∙ replay-of-another-size table script log answer other .0 in
+    record { not-23 = λ e. omega arith; none-late = λ e. absurd (omega arith); not-stopped = λ e. absurd (omega arith) })

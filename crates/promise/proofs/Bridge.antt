@@ -41,7 +41,7 @@ ticksOf [] = []
 ticksOf (Event.release row cost a ∷ es) = ticksOf es
 ticksOf (Event.tick idle late ∷ es) = none ∷ ticksOf es
 ticksOf (Event.tick (ran serial fin) late ∷ es) = some serial ∷ ticksOf es
-ticksOf (Event.tick (says.TickSays.refused n) late ∷ es) = ticksOf es
+ticksOf (Event.tick (says.TickSays.refused n place) late ∷ es) = ticksOf es
 
 -- The theory's trace.
 pub record Follows (run : Run) (es : List Event) : Type 0 where

@@ -48,9 +48,9 @@ module _ {t : Table} {run : Run} {es : List Event} (b : Bridge t run es) where
   -- ---- a release
 
   -- A refused release changes nothing.
-  refused-release-keeps : (row cost number : ℕ) → Bridge t run (Event.release row cost (says.ReleaseSays.refused number) ∷ es)
+  refused-release-keeps : (row cost number place : ℕ) → Bridge t run (Event.release row cost (says.ReleaseSays.refused number place) ∷ es)
   unfolding clockOf jobsIn
-  refused-release-keeps row cost number = record {
+  refused-release-keeps row cost number place = record {
     table-in-range = b .table-in-range;
     same-table = b .same-table;
     whole = b .whole;
@@ -60,7 +60,7 @@ module _ {t : Table} {run : Run} {es : List Event} (b : Bridge t run es) where
     distinct = b .distinct;
     names-below = b .names-below;
     rows-in-use = b .rows-in-use;
-    follows = follows-refused-release (b .follows) row cost number;
+    follows = follows-refused-release (b .follows) row cost number place;
     keeps-history = b .keeps-history;
     by-rule = b .by-rule;
   }
@@ -120,7 +120,7 @@ module _ {t : Table} {run : Run} {es : List Event} (b : Bridge t run es) where
       (λ step. Good (step .run)
       → ((a : Accepted) → step .answer ≡ answer.Accepted a → GaveDue run (duesOf (jobsIn es)) row (a .due .0) (step .run))
       → Bridge t (step .run) (Event.release row cost (releaseSays (step .answer)) ∷ es))
-      (λ r still gave. refused-release-keeps row cost (refusalNumber r))
+      (λ r still gave. refused-release-keeps row cost (refusalNumber r) 0)
       (λ due p given still gave. accepted-keeps p due still (gave (record { serial = run .next; due = due }) refl))
       (release-keeps-sound run row cost (b .whole) (b .sound))
       (λ a. due-by-whole-history run (duesOf (jobsIn es)) row cost a (b .whole) (b .keeps-history))
@@ -147,9 +147,10 @@ module _ {t : Table} {run : Run} {es : List Event} (b : Bridge t run es) where
   }
 
   -- A refused one changes nothing else either ..
-  refused-tick-keeps : (number : ℕ) → Bridge t run (Event.tick (says.TickSays.refused number) 0 ∷ es)
+  refused-tick-keeps : (number place : ℕ) → Bridge t run (Event.tick (says.TickSays.refused number place) 0 ∷ es)
   unfolding clockOf
-  refused-tick-keeps number = tick-keeps (run .clock .0) (run .pending) _ 0 good (b .same-clock) (follows-refused-tick (b .follows) number 0)
+  refused-tick-keeps number place =
+      tick-keeps (run .clock .0) (run .pending) _ 0 good (b .same-clock) (follows-refused-tick (b .follows) number place 0)
 
   module _ (in-time : run .clock .0 < maxTime) where
     -- .. an idle one moves the clock, with nothing pending ..
@@ -174,7 +175,7 @@ module _ {t : Table} {run : Run} {es : List Event} (b : Bridge t run es) where
   -- Whatever it answers, the bridge holds after a tick.
   pub tick-keeps-bridge : Bridge t (ticked run .run) (Event.tick (tickSays (ticked run .answer)) (ticked run .late) ∷ es)
   tick-keeps-bridge = elim (decLt (run .clock .0) maxTime) [
-    | no l ↦ rw (tick-too-late run (b .sound) (omega arith)) (refused-tick-keeps _)
+    | no l ↦ rw (tick-too-late run (b .sound) (omega arith)) (refused-tick-keeps _ _)
     | yes l ↦ elim (decLe 1 (run .pending .count)) [
       | no m ↦ rw (tick-idle run (b .sound) l (omega arith)) (idle-tick-keeps l (omega arith))
       | yes m ↦ rw (tick-busy run (b .sound) l m) (busy-tick-keeps l m)

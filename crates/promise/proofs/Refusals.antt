@@ -54,9 +54,9 @@ says-by-tests : (run : Run) (row cost : ℕ) → soundOf run ≡ true → row < 
     → releaseSays (released run row cost .answer)
     ≡ cond (fromOneTo (costLimit (run .table) row) cost)
     (cond (ltb (run .pending .count) maxPlaces)
-    (cond (leb (dueKept run row) maxTime) (accepted (run .next .0) (dueKept run row)) (says.ReleaseSays.refused 9))
-    (says.ReleaseSays.refused 8))
-    (says.ReleaseSays.refused 7)
+    (cond (leb (dueKept run row) maxTime) (accepted (run .next .0) (dueKept run row)) (says.ReleaseSays.refused 9 0))
+    (says.ReleaseSays.refused 8 0))
+    (says.ReleaseSays.refused 7 0)
 unfolding released dueOf
 says-by-tests run row cost sound in-use in-range = rw (sound, lt-ltb row (run .table .count) in-use, in-range)
     (by-test (fromOneTo (costLimit (run .table) row) cost)
@@ -67,7 +67,7 @@ says-by-tests run row cost sound in-use in-range = rw (sound, lt-ltb row (run .t
 
 -- .. and of one that is not.
 says-no-such-row : (run : Run) (row cost : ℕ) → soundOf run ≡ true → run .table .count ≤ row
-    → releaseSays (released run row cost .answer) ≡ says.ReleaseSays.refused 6
+    → releaseSays (released run row cost .answer) ≡ says.ReleaseSays.refused 6 0
 unfolding released
 says-no-such-row run row cost sound unused = rw (sound, le-ltb row (run .table .count) unused)
 
@@ -97,13 +97,15 @@ module _ {t : Table} {run : Run} {es : List Event} (b : Bridge t run es) where
       ∙ rw (lt-ltb row (run .table .count) in-use, due-as-next row in-use, pending-count, ← b .next-serial))
       (λ unused. says-no-such-row run row cost (b .sound) unused ∙ rw (le-ltb row (run .table .count) unused)))
 
-  -- A tick is refused with 10, and at the last time only.
-  pub tick-by-the-trace : (number : ℕ) → (tickSays (ticked run .answer) ≡ says.TickSays.refused number) ↔ ((number ≡ 10) × (clockOf es ≡ maxTime))
-  tick-by-the-trace number =
+  -- A tick is refused with 10 at place 0, and at the last time only.
+  pub tick-by-the-trace : (number place : ℕ)
+      → (tickSays (ticked run .answer) ≡ says.TickSays.refused number place) ↔ ((number ≡ 10) × (place ≡ 0) × (clockOf es ≡ maxTime))
+  tick-by-the-trace number place =
       let clock = b .same-clock in
       let in-time : run .clock .0 ≤ maxTime = sound-facts b .clock-in-time in
-      each-tick run (b .sound) (λ step. (tickSays (step .answer) ≡ says.TickSays.refused number) ↔ ((number ≡ 10) × (clockOf es ≡ maxTime)))
-      (λ last. (λ e. (cc, omega arith), λ h. rw (h .0)))
+      each-tick run (b .sound)
+      (λ step. (tickSays (step .answer) ≡ says.TickSays.refused number place) ↔ ((number ≡ 10) × (place ≡ 0) × (clockOf es ≡ maxTime)))
+      (λ last. (λ e. (cc, cc, omega arith), λ h. rw (h .0, h .1)))
       (λ h none. (λ e. absurd (let z : _≡_ {A = ℕ} 0 1 = cc in omega arith), λ k. absurd (omega arith)))
       (λ h some. (λ e. absurd (let z : _≡_ {A = ℕ} 0 1 = cc in omega arith), λ k. absurd (omega arith)))
 

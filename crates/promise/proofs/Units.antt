@@ -38,7 +38,7 @@ units-counted s [] = refl
 units-counted s (Event.release row cost a ∷ es) = units-counted s es
 units-counted s (Event.tick idle late ∷ es) = omega (arith, units-counted s es)
 units-counted s (Event.tick (ran serial fin) late ∷ es) = omega (arith, units-counted s es)
-units-counted s (Event.tick (says.TickSays.refused n) late ∷ es) = units-counted s es
+units-counted s (Event.tick (says.TickSays.refused n place) late ∷ es) = units-counted s es
 
 -- ---- sums
 

@@ -103,14 +103,14 @@ module _ (js : List PendingJob) (at : ℕ) where
 
 module _ {run : Run} {es : List Event} (f : Follows run es) where
   -- A refused release is no event of it ..
-  pub follows-refused-release : (row cost number : ℕ) → Follows run (Event.release row cost (says.ReleaseSays.refused number) ∷ es)
+  pub follows-refused-release : (row cost number place : ℕ) → Follows run (Event.release row cost (says.ReleaseSays.refused number place) ∷ es)
   unfolding clockOf jobsIn ticksOf
-  follows-refused-release row cost number = record { events = f .events; earliest-due = f .earliest-due; never-idle = f .never-idle }
+  follows-refused-release row cost number place = record { events = f .events; earliest-due = f .earliest-due; never-idle = f .never-idle }
 
   -- .. and neither is a refused tick.
-  pub follows-refused-tick : (number late : ℕ) → Follows run (Event.tick (says.TickSays.refused number) late ∷ es)
+  pub follows-refused-tick : (number place late : ℕ) → Follows run (Event.tick (says.TickSays.refused number place) late ∷ es)
   unfolding clockOf jobsIn ticksOf
-  follows-refused-tick number late = record { events = f .events; earliest-due = f .earliest-due; never-idle = f .never-idle }
+  follows-refused-tick number place late = record { events = f .events; earliest-due = f .earliest-due; never-idle = f .never-idle }
 
   -- A job is accepted, at the end of what is pending: released now, with all of its cost left.
   pub follows-accepted : (next : Run) (row cost serial due : ℕ) (j : PendingJob) → 1 ≤ cost

@@ -9,6 +9,8 @@ use lib.ListN.{length}
 use Rattle.kinds.specs.Numbering.{Said}
 use Rattle.numbers.specs.Laws.{Bytes}
 use Rattle.replay.specs.Outcome.{replayOf, replaySays}
+use Rattle.host.specs.Answer.{VerdictAnswered}
+use Rattle.host.specs.Laws.{Filled, ReplayLeaves}
 use Rattle.promise.specs.InTime.{SaidFeasible}
 
 -- What is said of a replay that is not late. (`end` is the script's length.)
@@ -20,3 +22,17 @@ pub record NotLate (end : ℕ) (said : Said) : Type 0 where
 abbrev pub AtHost : Type 0
 AtHost = (bytes script : List ℕ) → Bytes bytes → Bytes script → SaidFeasible bytes → (room : ℕ)
     → NotLate (length script) (replaySays (replayOf bytes script room))
+
+-- The same of the host's own calls. A status and an answer buffer are not those of a late replay: never 23; a 22 fills the buffer with a second number of 0, and a
+-- 10 with a first number that is a place inside the script.
+pub record CallNotLate (end status : ℕ) (after : List ℕ) : Type 0 where
+  pub not-23 : status ≢ 23
+  pub none-late : status ≡ 22 → (told : Said) × (told .second ≡ 0) × Filled told after
+  pub not-stopped : status ≡ 10 → (told : Said) × (told .first < end) × Filled told after
+
+-- Where `verdict` may return 20 of a table, `replay` with this table, whatever the script and the buffers are, returns and writes no late replay's answer.
+abbrev pub AtHostCalls : Type 0
+AtHostCalls = (table script : List ℕ) → Bytes table → Bytes script
+    → (lent written : List ℕ) → VerdictAnswered table lent 20 written
+    → (log answer : List ℕ) (status : ℕ) (after left : List ℕ) → ReplayLeaves table script log answer status after left
+    → CallNotLate (length script) status after

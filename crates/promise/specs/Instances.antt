@@ -30,7 +30,7 @@ answers =
     Event.tick idle 0 ∷ Event.tick (ran 2 true) 0 ∷ Event.tick (ran 2 false) 0 ∷ Event.tick (ran 1 true) 0
     ∷ Event.release 0 2 (accepted 2 8)
     ∷ Event.tick (ran 1 false) 0 ∷ Event.tick (ran 1 false) 0 ∷ Event.tick (ran 0 true) 0 ∷ Event.tick (ran 0 false) 0
-    ∷ Event.release 0 3 (says.ReleaseSays.refused 7) ∷ Event.release 2 1 (says.ReleaseSays.refused 6)
+    ∷ Event.release 0 3 (says.ReleaseSays.refused 7 0) ∷ Event.release 2 1 (says.ReleaseSays.refused 6 0)
     ∷ Event.release 1 3 (accepted 1 6) ∷ Event.release 0 2 (accepted 0 4)
     ∷ []
 

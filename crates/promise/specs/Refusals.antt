@@ -33,19 +33,19 @@ releaseAnswer t es row cost =
     cond (rowInUse t row)
     (cond (fromOneTo (costLimit t row) cost)
     (cond (ltb (unfinishedIn es) maxPlaces)
-    (cond (leb (nextDue t es row) maxTime) (accepted (length (jobsIn es)) (nextDue t es row)) (says.ReleaseSays.refused 9))
-    (says.ReleaseSays.refused 8))
-    (says.ReleaseSays.refused 7))
-    (says.ReleaseSays.refused 6)
+    (cond (leb (nextDue t es row) maxTime) (accepted (length (jobsIn es)) (nextDue t es row)) (says.ReleaseSays.refused 9 0))
+    (says.ReleaseSays.refused 8 0))
+    (says.ReleaseSays.refused 7 0))
+    (says.ReleaseSays.refused 6 0)
 
 abbrev pub ReleasesByTheTrace : Type 0
 ReleasesByTheTrace = (bytes : List ℕ) → Bytes bytes → (calls : List Call) (row cost : ℕ)
     → releaseSays (released (runAt bytes calls) row cost .answer) ≡ releaseAnswer (tableRead bytes .table) (trace bytes calls) row cost
 
--- A tick is refused after 2^40 ticks and not before, with 10 and no other number.
+-- A tick is refused after 2^40 ticks and not before, with 10 and no other number, at place 0.
 abbrev pub TicksByTheTrace : Type 0
-TicksByTheTrace = (bytes : List ℕ) → Bytes bytes → (calls : List Call) (number : ℕ)
-    → (nextTick bytes calls ≡ says.TickSays.refused number) ↔ ((number ≡ 10) × (clockOf (trace bytes calls) ≡ maxTime))
+TicksByTheTrace = (bytes : List ℕ) → Bytes bytes → (calls : List Call) (number place : ℕ)
+    → (nextTick bytes calls ≡ says.TickSays.refused number place) ↔ ((number ≡ 10) × (place ≡ 0) × (clockOf (trace bytes calls) ≡ maxTime))
 
 -- Never are more jobs unfinished than there are places.
 abbrev pub PlacesAreEnough : Type 0
@@ -54,8 +54,8 @@ PlacesAreEnough = (bytes : List ℕ) → Bytes bytes → (calls : List Call) →
 -- The call was refused.
 abbrev pub Refused : Event → Type 0
 Refused (Event.release row cost (accepted serial due)) = ⊥
-Refused (Event.release row cost (says.ReleaseSays.refused n)) = Unit {0}
-Refused (Event.tick (says.TickSays.refused n) late) = Unit {0}
+Refused (Event.release row cost (says.ReleaseSays.refused n place)) = Unit {0}
+Refused (Event.tick (says.TickSays.refused n place) late) = Unit {0}
 Refused (Event.tick says.TickSays.idle late) = ⊥
 Refused (Event.tick (says.TickSays.ran serial fin) late) = ⊥
 

@@ -53,7 +53,7 @@ clockOf [] = 0
 clockOf (Event.release row cost a ∷ es) = clockOf es
 clockOf (Event.tick idle late ∷ es) = suc (clockOf es)
 clockOf (Event.tick (ran serial fin) late ∷ es) = suc (clockOf es)
-clockOf (Event.tick (says.TickSays.refused n) late ∷ es) = clockOf es
+clockOf (Event.tick (says.TickSays.refused n place) late ∷ es) = clockOf es
 
 -- The jobs that were accepted, newest first: each with its serial as its name, its row as its source, the clock when it was released, the due time that it was
 -- answered, and its stated cost.
@@ -61,7 +61,7 @@ unfoldable pub jobsIn : List Event → List Job
 jobsIn [] = []
 jobsIn (Event.release row cost (accepted serial due) ∷ es) =
     record { name = serial; source = row; release = clockOf es; due = due; cost = cost } ∷ jobsIn es
-jobsIn (Event.release row cost (says.ReleaseSays.refused n) ∷ es) = jobsIn es
+jobsIn (Event.release row cost (says.ReleaseSays.refused n place) ∷ es) = jobsIn es
 jobsIn (Event.tick a late ∷ es) = jobsIn es
 
 -- The units that the ticks gave to a serial: one for each tick that answered that it ran.
@@ -70,7 +70,7 @@ unitsOf s [] = 0
 unitsOf s (Event.release row cost a ∷ es) = unitsOf s es
 unitsOf s (Event.tick idle late ∷ es) = unitsOf s es
 unitsOf s (Event.tick (ran serial fin) late ∷ es) = cond (eqb serial s) 1 0 + unitsOf s es
-unitsOf s (Event.tick (says.TickSays.refused n) late ∷ es) = unitsOf s es
+unitsOf s (Event.tick (says.TickSays.refused n place) late ∷ es) = unitsOf s es
 
 -- A job has had fewer units than its cost.
 abbrev pub unfinished : List Event → Job → Bool

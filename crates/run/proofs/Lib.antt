@@ -3,3 +3,4 @@ pub mod Fresh
 pub mod Release
 pub mod Ticking
 pub mod Advancing
+pub mod Answers

@@ -1,3 +1,4 @@
 pub mod Records
 pub mod Chooser
 pub mod Laws
+pub mod Answers

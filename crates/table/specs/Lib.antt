@@ -4,3 +4,4 @@ pub mod Rows
 pub mod Tables
 pub mod Laws
 pub mod Refusals
+pub mod Answers

@@ -1,0 +1,17 @@
+-- No answer of a table that is read is numbered 0, and different answers say different things.
+use Prim.Native.Nat.{ℕ}
+use mathlib.Core.Path.{_≡_, ap}
+use native.Mathlib.Omega.{arith}
+use Rattle.kinds.proofs.Numbering.{never-zero, refusals-apart}
+use Rattle.table.specs.declared.TableAnswer.the-variants as answer
+use Rattle.table.specs.Answers.{TablesNeverZero, TablesSaidApart}
+
+pub tables-never-zero : TablesNeverZero
+tables-never-zero (answer.Accepted period) = tt
+tables-never-zero (answer.Refused r) = never-zero (r .refusal)
+
+pub tables-said-apart : TablesSaidApart
+tables-said-apart (answer.Accepted h) (answer.Accepted k) e = cc
+tables-said-apart (answer.Accepted h) (answer.Refused r) e = absurd (let z : _≡_ {A = ℕ} 0 1 = cc in omega arith)
+tables-said-apart (answer.Refused q) (answer.Accepted k) e = absurd (let z : _≡_ {A = ℕ} 0 1 = cc in omega arith)
+tables-said-apart (answer.Refused q) (answer.Refused r) e = ap answer.Refused (refusals-apart q r e)
