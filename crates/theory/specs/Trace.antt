@@ -121,6 +121,10 @@ module _ (taken : ℕ → Bool) (t : ℕ) (waiting : List Waiting) (accepted : L
   abbrev pub OneEntryATick : Type 0
   OneEntryATick = Trace taken t waiting accepted ticks left-early → length ticks ≡ t
 
+  -- Any tick may pass without a unit given, a free one too: that none does while a job waits is a rule of choice.
+  abbrev pub AnyTickMayPass : Type 0
+  AnyTickMayPass = Trace taken t waiting accepted ticks left-early → Trace taken (suc t) waiting accepted (none ∷ ticks) left-early
+
   -- Every accepted job was released by the clock.
   abbrev pub ReleasedByTheClock : Type 0
   ReleasedByTheClock = Trace taken t waiting accepted ticks left-early → All (λ j. j .release ≤ t) accepted
