@@ -157,6 +157,12 @@ module _ (taken : ℕ → Bool) (t : ℕ) (waiting : List Waiting) (accepted : L
 
   -- ---- what is proved of earliest due first (proofs/EarliestDue.antt)
 
+  -- A unit for a waiting job keeps the rule where no job that waits is due before it; jobs due together may be served in any order.
+  abbrev pub AnEarliestMayBeServed : Type 0
+  AnEarliestMayBeServed = (r : Trace taken t waiting accepted ticks left-early) → EarliestDueFirst r → (is-free : taken t ≡ false)
+      → (j : Job) (left : ℕ) (rest after : List Waiting) (from : Insert (record { job = j; left = suc left }) rest waiting)
+      → (goes : Onward j left rest after) → All (λ w. j .due ≤ w .job .due) waiting → EarliestDueFirst (serve r is-free j left from goes)
+
   -- The invariant of earliest due first.
   abbrev pub AlwaysBusy : Type 0
   AlwaysBusy = (r : Trace taken t waiting accepted ticks left-early) → EarliestDueFirst r → NeverIdlesInVain r → (D : ℕ) → Busy taken t waiting accepted D
