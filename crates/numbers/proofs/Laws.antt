@@ -20,6 +20,7 @@ use Rattle.numbers.specs.Spelling.{maxGroups, maxNumber, groupsOf, spell
 use Rattle.numbers.specs.Reading.{Spelt, number, superfluous-zero, asks-for-more, cut-off, before, spelt, answered}
 use Rattle.numbers.specs.Writing.{written}
 use Rattle.numbers.specs.Laws.{Bytes, Spelled, LargestNumber, ReadsBack, LengthAnswered, RefusalAnswered, WrittenReadsBack, OneSpelling}
+use Rattle.numbers.specs.Laws.{LengthOfASpelling, TooBigHasNoLength}
 use Rattle.numbers.specs.Laws.{SpellingLength, SpelledInBytes, SpellingsDiffer, NothingPastTheEnd, RefusedAtItsStart}
 use Rattle.numbers.proofs.Reading.{limit, limit-pos, spelt-cut}
 
@@ -139,6 +140,12 @@ refusal-answered n room r e = by-answer n room
     (λ l k w. absurd (let z : _≡_ {A = ℕ} 0 1 = cc in omega arith))
     (λ l k w. inr (cc, l, k))
     (λ l w. inl (cc, l))
+
+pub length-of-a-spelling : LengthOfASpelling
+length-of-a-spelling n h = simp (le-leb n maxNumber h)
+
+pub too-big-has-no-length : TooBigHasNoLength
+too-big-has-no-length n h = simp (lt-leb n maxNumber h)
 
 pub written-reads-back : WrittenReadsBack
 written-reads-back n took buffer e =

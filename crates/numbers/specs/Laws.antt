@@ -12,7 +12,7 @@ use Rattle.numbers.specs.declared.NumberRead.the-variants as answer
 use Rattle.numbers.specs.declared.Written.the-variants.{Length, Refused}
 use Rattle.numbers.specs.Spelling.{maxGroups, maxNumber, spelling}
 use Rattle.numbers.specs.Reading.{readAt, misspelledAt}
-use Rattle.numbers.specs.Writing.{written, bufferAfter}
+use Rattle.numbers.specs.Writing.{lengthOf, written, bufferAfter}
 
 -- Every element of a list is a byte.
 abbrev pub Bytes : List ℕ → Type 0
@@ -48,6 +48,13 @@ LengthAnswered = (n room took : ℕ) → written n room ≡ Length took → Wrot
 abbrev pub RefusalAnswered : Type 0
 RefusalAnswered = (n room : ℕ) (r : Refusal) → written n room ≡ Refused r
     → ((r ≡ NumberTooBig) × (maxNumber < n)) ⊎ ((r ≡ NoRoom) × (n ≤ maxNumber) × (room < length (spelling n)))
+
+-- How long a spelling is can be asked beforehand: of a number in range its length is answered, and any other is refused with 25.
+abbrev pub LengthOfASpelling : Type 0
+LengthOfASpelling = (n : ℕ) → n ≤ maxNumber → lengthOf n ≡ Length (length (spelling n))
+
+abbrev pub TooBigHasNoLength : Type 0
+TooBigHasNoLength = (n : ℕ) → maxNumber < n → lengthOf n ≡ Refused NumberTooBig
 
 -- So a number that was written reads back at the buffer's start, and the next place is the length answered.
 abbrev pub WrittenReadsBack : Type 0

@@ -7,16 +7,21 @@ use mathlib.Core.Logic.{⊎-elim}
 use mathlib.Core.List.{List, [], _∷_, _++_, flatten, List·Memᴰ·head, List·Memᴰ·tail, List·Memᴰ·cases-cons, List·Memᴰ·not-nil}
 use lib.ListN.{length, length-drop}
 use lib.Seq.{drop-length}
+use Rattle.kinds.specs.declared.RefusedAt.{RefusedAt}
 use Rattle.numbers.specs.Laws.{Bytes}
 use Rattle.script.specs.declared.Record.{Record}
 use Rattle.script.specs.declared.RecordAt.{RecordAt}
+use Rattle.script.specs.declared.RecordRead.{RecordRead}
 use Rattle.script.specs.declared.RecordRead.the-variants as read
-use Rattle.script.specs.Chooser.{earlierOf, chosen}
+use Rattle.script.specs.declared.Which.the-variants as which
+use Rattle.script.specs.Records.{recordAt}
+use Rattle.script.specs.Chooser.{refusedIn, earlierOf, comesNext, chosen}
 use Rattle.script.specs.Laws.{spelledRecord, spelledScript, AllCanBeSpelled, SpelledToTheEnd, Reads, ended, then, TwoRecords}
 use Rattle.script.specs.Laws.{RecordReadsBack, RecordIsSpelled, EndIsTheLength, ScriptIsRead, ScriptReadsBack, ReadInOneWay}
 use Rattle.script.specs.Laws.{SpellingsOfScriptsDiffer, PartIsOneRecord, FirstUnlessLater, FirstAtEqualTimes, SecondIfEarlier}
+use Rattle.script.specs.Laws.{FirstAlone, SecondAlone, BothEnded, TooLateInFirst, TooLateInSecond, RefusedInFirst, RefusedInSecond}
 use Rattle.script.proofs.Records.{record-end, record-stands, end-is-length, From, from-behind, from-later, record-here}
-use Rattle.script.proofs.Chooser.{first-earlier, second-earlier, by-records, next-is-first}
+use Rattle.script.proofs.Chooser.{first-earlier, second-earlier, first-too-late, second-too-late, by-records, next-is-first}
 
 -- ---- a record
 
@@ -89,3 +94,31 @@ first-at-equal-times s₁ s₂ time₁ time₂ a b t e = first-unless-later s₁
 
 pub second-if-earlier : SecondIfEarlier
 second-if-earlier s₁ s₂ time₁ time₂ a b t h = earlier-of-two t ∙ second-earlier a b time₁ time₂ h
+
+pub first-alone : FirstAlone
+first-alone s₁ s₂ time₁ time₂ a h k p q = by-records s₁ s₂ time₁ time₂ h k p q
+
+pub second-alone : SecondAlone
+second-alone s₁ s₂ time₁ time₂ b h k p q = by-records s₁ s₂ time₁ time₂ h k p q
+
+pub both-ended : BothEnded
+both-ended s₁ s₂ time₁ time₂ h k p q = by-records s₁ s₂ time₁ time₂ h k p q
+
+pub too-late-in-first : TooLateInFirst
+too-late-in-first s₁ s₂ time₁ time₂ h = first-too-late s₁ s₂ time₁ time₂ h
+
+pub too-late-in-second : TooLateInSecond
+too-late-in-second s₁ s₂ time₁ time₂ h k = second-too-late s₁ s₂ time₁ time₂ h k
+
+pub refused-in-first : RefusedInFirst
+refused-in-first s₁ s₂ time₁ time₂ r h k p = by-records s₁ s₂ time₁ time₂ h k p refl
+
+-- With a record or the end in the first script, the second's refusal is the answer.
+second-refusal : (one : RecordRead) (r : RefusedAt) (time₁ time₂ : ℕ) → ((q : RefusedAt) → one ≡ read.Refused q → ⊥)
+    → comesNext one (read.Refused r) time₁ time₂ ≡ refusedIn which.Second r
+second-refusal (read.Record a) r time₁ time₂ n = refl
+second-refusal read.End r time₁ time₂ n = refl
+second-refusal (read.Refused q) r time₁ time₂ n = absurd (n q refl)
+
+pub refused-in-second : RefusedInSecond
+refused-in-second s₁ s₂ time₁ time₂ r h k n p = by-records s₁ s₂ time₁ time₂ h k refl p ∙ second-refusal (recordAt s₁ 0) r time₁ time₂ n

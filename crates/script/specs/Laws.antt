@@ -5,6 +5,8 @@ use mathlib.Core.Logic.{_↔_}
 use mathlib.Core.List.{List, [], _∷_, _++_, flatten, map, List·Memᴰ}
 use lib.ListN.{length, drop}
 use Rattle.kinds.specs.Numbering.{maxTime}
+use Rattle.kinds.specs.declared.Refusal.the-variants.{TimeTooLate}
+use Rattle.kinds.specs.declared.RefusedAt.{RefusedAt}
 use Rattle.numbers.specs.Laws.{Bytes}
 use Rattle.numbers.specs.Spelling.{maxNumber, spelling}
 use Rattle.script.specs.declared.Record.{Record}
@@ -127,3 +129,35 @@ FirstAtEqualTimes = (s₁ s₂ : List ℕ) (time₁ time₂ : ℕ) (a b : Record
 abbrev pub SecondIfEarlier : Type 0
 SecondIfEarlier = (s₁ s₂ : List ℕ) (time₁ time₂ : ℕ) (a b : RecordAt) → TwoRecords s₁ s₂ time₁ time₂ a b
     → time₂ + b .release .gap < time₁ + a .release .gap → chosen s₁ s₂ time₁ time₂ ≡ nextOf which.Second (b .next)
+
+-- Where one script has ended, the other's record comes next, and where both have, none does. (7.10)
+abbrev pub FirstAlone : Type 0
+FirstAlone = (s₁ s₂ : List ℕ) (time₁ time₂ : ℕ) (a : RecordAt) → time₁ ≤ maxTime → time₂ ≤ maxTime
+    → recordAt s₁ 0 ≡ read.Record a → recordAt s₂ 0 ≡ read.End → chosen s₁ s₂ time₁ time₂ ≡ nextOf which.First (a .next)
+
+abbrev pub SecondAlone : Type 0
+SecondAlone = (s₁ s₂ : List ℕ) (time₁ time₂ : ℕ) (b : RecordAt) → time₁ ≤ maxTime → time₂ ≤ maxTime
+    → recordAt s₁ 0 ≡ read.End → recordAt s₂ 0 ≡ read.Record b → chosen s₁ s₂ time₁ time₂ ≡ nextOf which.Second (b .next)
+
+abbrev pub BothEnded : Type 0
+BothEnded = (s₁ s₂ : List ℕ) (time₁ time₂ : ℕ) → time₁ ≤ maxTime → time₂ ≤ maxTime
+    → recordAt s₁ 0 ≡ read.End → recordAt s₂ 0 ≡ read.End → chosen s₁ s₂ time₁ time₂ ≡ answer.Ended
+
+-- A time reached that is later than any may be is refused with 10, at place 0, whatever the scripts hold: the first script's before the second's. (7.11)
+abbrev pub TooLateInFirst : Type 0
+TooLateInFirst = (s₁ s₂ : List ℕ) (time₁ time₂ : ℕ) → maxTime < time₁
+    → chosen s₁ s₂ time₁ time₂ ≡ answer.Refused (record { script = which.First; at = record { refusal = TimeTooLate; place = 0 } })
+
+abbrev pub TooLateInSecond : Type 0
+TooLateInSecond = (s₁ s₂ : List ℕ) (time₁ time₂ : ℕ) → time₁ ≤ maxTime → maxTime < time₂
+    → chosen s₁ s₂ time₁ time₂ ≡ answer.Refused (record { script = which.Second; at = record { refusal = TimeTooLate; place = 0 } })
+
+-- After that, a record that can't be read is refused as it is read: the first script's before the second's. (7.12)
+abbrev pub RefusedInFirst : Type 0
+RefusedInFirst = (s₁ s₂ : List ℕ) (time₁ time₂ : ℕ) (r : RefusedAt) → time₁ ≤ maxTime → time₂ ≤ maxTime → recordAt s₁ 0 ≡ read.Refused r
+    → chosen s₁ s₂ time₁ time₂ ≡ answer.Refused (record { script = which.First; at = r })
+
+abbrev pub RefusedInSecond : Type 0
+RefusedInSecond = (s₁ s₂ : List ℕ) (time₁ time₂ : ℕ) (r : RefusedAt) → time₁ ≤ maxTime → time₂ ≤ maxTime
+    → ((q : RefusedAt) → recordAt s₁ 0 ≡ read.Refused q → ⊥) → recordAt s₂ 0 ≡ read.Refused r
+    → chosen s₁ s₂ time₁ time₂ ≡ answer.Refused (record { script = which.Second; at = r })

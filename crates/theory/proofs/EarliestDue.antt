@@ -14,7 +14,7 @@ use Rattle.theory.specs.Curves.{EveryLengthFits}
 use Rattle.theory.specs.Jobs.{Job, dueBy, weighed, asked, BoundedBy}
 use Rattle.theory.specs.Ticks.{free, TakenAtMost}
 use Rattle.theory.specs.Trace.{Waiting, unitsLeft, begin, accept, lost, idle, serve, leave, EarliestDueFirst, NeverIdlesInVain, Busy}
-use Rattle.theory.specs.Trace.{waits, over, AlwaysBusy, NothingDueWaits, InTime}
+use Rattle.theory.specs.Trace.{waits, over, AnEarliestMayBeServed, AlwaysBusy, NothingDueWaits, InTime}
 use Rattle.theory.proofs.Cases.{by-lt}
 use Rattle.theory.proofs.Lists.{all-imply, all-at, weight-if, weight-unless, none-passes}
 use Rattle.theory.proofs.Jobs.{weight-inside}
@@ -52,6 +52,12 @@ begins-now : (taken : ℕ → Bool) (t : ℕ) (waiting : List Waiting) (accepted
     → Busy taken t waiting accepted D
 unfolding free
 begins-now taken t waiting accepted D none = record { from = t; begun = omega arith; bound = omega arith }
+
+-- A unit for an earliest due job keeps the rule.
+pub an-earliest-may-be-served : {taken : ℕ → Bool} {t : ℕ} {waiting : List Waiting} {accepted : List Job} {ticks : List (Option ℕ)} {left-early : List Waiting}
+    → AnEarliestMayBeServed taken t waiting accepted ticks left-early
+unfolding EarliestDueFirst
+an-earliest-may-be-served r so-far is-free j left rest after from goes earliest = (earliest, so-far)
 
 -- There is such a window for every time D.
 pub always-busy : {taken : ℕ → Bool} {t : ℕ} {waiting : List Waiting} {accepted : List Job} {ticks : List (Option ℕ)} {left-early : List Waiting}

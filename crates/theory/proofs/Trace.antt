@@ -13,8 +13,9 @@ use Rattle.theory.specs.Lists.{All, total, weightIf, Insert}
 use Rattle.theory.specs.Jobs.{Job, DistinctNames, named, weighed}
 use Rattle.theory.specs.Trace.{Waiting, units, unitsLeft, Onward, done, on, Trace, begin, accept, lost, idle, serve, leave}
 use Rattle.theory.specs.Trace.{Accounted, Unfinished, served, ended, Fate, waits, over}
-use Rattle.theory.specs.Trace.{OneEntryATick, ReleasedByTheClock, Conserved, OnlyAcceptedHaveTicks}
+use Rattle.theory.specs.Trace.{OneEntryATick, AnyTickMayPass, ReleasedByTheClock, Conserved, OnlyAcceptedHaveTicks}
 use Rattle.theory.specs.Trace.{EveryJobHasItsFate, WaitingAreAccounted, LeftEarlyAreAccounted, NeverMoreThanItsCost}
+use Rattle.theory.proofs.Cases.{by-test}
 use Rattle.theory.proofs.Lists.{all-imply, all-of-members, all-at, all-append, all-put-in, all-taken-out, total-append, total-put-in}
 use Rattle.theory.proofs.Lists.{none-passes, some-or-none-passes, the-only-one}
 use Rattle.theory.proofs.Jobs.{none-named, at-most-one-named, own-cost, one-job-a-name}
@@ -30,6 +31,11 @@ one-entry-a-tick (lost r k) = ap suc (one-entry-a-tick r)
 one-entry-a-tick (idle r k) = ap suc (one-entry-a-tick r)
 one-entry-a-tick (serve r k j left from goes) = ap suc (one-entry-a-tick r)
 one-entry-a-tick (leave r w from) = one-entry-a-tick r
+
+-- A tick that is taken is lost, and one that is free may idle.
+pub any-tick-may-pass : {taken : ℕ → Bool} {t : ℕ} {waiting : List Waiting} {accepted : List Job} {ticks : List (Option ℕ)} {left-early : List Waiting}
+    → AnyTickMayPass taken t waiting accepted ticks left-early
+any-tick-may-pass {taken = taken} {t = t} r = by-test (taken t) (λ is-taken. lost r is-taken) (λ is-free. idle r is-free)
 
 -- What was released by t was released by t + 1.
 a-tick-later : (t : ℕ) (js : List Job) → All (λ j. j .release ≤ t) js → All (λ j. j .release ≤ suc t) js

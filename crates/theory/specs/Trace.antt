@@ -121,6 +121,10 @@ module _ (taken : ℕ → Bool) (t : ℕ) (waiting : List Waiting) (accepted : L
   abbrev pub OneEntryATick : Type 0
   OneEntryATick = Trace taken t waiting accepted ticks left-early → length ticks ≡ t
 
+  -- Any tick may pass without a unit given, a free one too: that none does while a job waits is a rule of choice.
+  abbrev pub AnyTickMayPass : Type 0
+  AnyTickMayPass = Trace taken t waiting accepted ticks left-early → Trace taken (suc t) waiting accepted (none ∷ ticks) left-early
+
   -- Every accepted job was released by the clock.
   abbrev pub ReleasedByTheClock : Type 0
   ReleasedByTheClock = Trace taken t waiting accepted ticks left-early → All (λ j. j .release ≤ t) accepted
@@ -152,6 +156,12 @@ module _ (taken : ℕ → Bool) (t : ℕ) (waiting : List Waiting) (accepted : L
   NeverMoreThanItsCost = Trace taken t waiting accepted ticks left-early → DistinctNames accepted → All (λ j. units (j .name) ticks ≤ j .cost) accepted
 
   -- ---- what is proved of earliest due first (proofs/EarliestDue.antt)
+
+  -- A unit for a waiting job keeps the rule where no job that waits is due before it; jobs due together may be served in any order.
+  abbrev pub AnEarliestMayBeServed : Type 0
+  AnEarliestMayBeServed = (r : Trace taken t waiting accepted ticks left-early) → EarliestDueFirst r → (is-free : taken t ≡ false)
+      → (j : Job) (left : ℕ) (rest after : List Waiting) (from : Insert (record { job = j; left = suc left }) rest waiting)
+      → (goes : Onward j left rest after) → All (λ w. j .due ≤ w .job .due) waiting → EarliestDueFirst (serve r is-free j left from goes)
 
   -- The invariant of earliest due first.
   abbrev pub AlwaysBusy : Type 0
