@@ -7,7 +7,8 @@ use lib.ListN.{length, take, drop, length-append}
 use lib.Seq.{take-at, drop-at, sets}
 use Rattle.kinds.specs.Numbering.{Said}
 use Rattle.words.specs.Words.{wordLength, lowestFirst}
-use Rattle.words.proofs.Laws.{lowest-first-length, bytes-say-the-number, sets-append, sets-whole}
+use Rattle.kinds.proofs.Lists.{sets-append}
+use Rattle.words.proofs.Laws.{lowest-first-length, bytes-say-the-number, sets-whole}
 use Rattle.host.specs.Answer.{answerLength, answerBytes, AnswerSaysItsNumbers}
 
 -- A number stored at the buffer's start and one behind it are all that is in it.

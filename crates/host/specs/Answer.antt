@@ -18,7 +18,7 @@ use Rattle.replay.specs.Outcome.{finishedIn, replayOf, logAfter, replaySays}
 abbrev pub answerLength : ℕ
 answerLength = 16
 
--- What is in it: the two numbers that are said, each in the bytes of a word, lowest first. (9.5)
+-- What is in it: the two numbers that are said, each in the bytes of a word, lowest first. (9.4)
 abbrev pub answerBytes : Said → List ℕ
 answerBytes s = lowestFirst wordLength (s .first) ++ lowestFirst wordLength (s .second)
 

@@ -15,7 +15,7 @@ use Rattle.run.specs.Runs.{started}
 use Rattle.promise.specs.Answers.{accepted, idle, ran}
 use Rattle.promise.specs.Answers as says
 use Rattle.promise.specs.Traces.{Call, Event, runAfter, eventOf, runAt, trace}
-use Rattle.words.proofs.Laws.{sets-append}
+use Rattle.kinds.proofs.Lists.{sets-append}
 use Rattle.probe.specs.Words.{mostWords, wordsBytes}
 use Rattle.probe.specs.Traced.{callLength, callAt, callsFrom, eventsFrom, startWords, eventWords}
 use Rattle.probe.specs.Traced.{answerLength, traceWords, answersAfter, EventsAreTheTrace}

@@ -1,5 +1,5 @@
 -- The expression of the paper's Lemma 4.1, over whole numbers, negative ones included: f(floor((L − d + y)/y)) · x · c, where f(a) is a for a at or above
--- zero and 0 for a below. It is proved to equal a row's demand, so that nothing here is used elsewhere.
+-- zero and 0 for a below. It is proved to equal a row's demand; the promises state the paper's Theorem 4.2 in it.
 use Prim.Native.Nat.{ℕ, _*_, _/_, _≤_, _<_}
 use mathlib.Core.Path.{_≡_}
 use lib.IntN.{ℤ, pos, negsuc, _+ℤ_, _-ℤ_, _*ℤ_}

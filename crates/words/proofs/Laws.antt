@@ -73,11 +73,6 @@ bytes-say-the-number n m h j e = sym (said-by-its-bytes wordLength n h) ∙ ap f
 
 -- ---- words one behind another
 
--- Two lists stored one behind the other are one list stored.
-pub sets-append : (s t l : List ℕ) (i : ℕ) → sets l i (s ++ t) ≡ sets (sets l i s) (i + length s) t
-sets-append [] t l i = ap (λ (k : ℕ). sets l k t) (omega arith)
-sets-append (v ∷ s) t l i = sets-append s t _ (suc i) ∙ ap (λ (k : ℕ). sets (sets l i (v ∷ s)) k t) (omega arith)
-
 -- A list that is as long as a buffer fills it.
 pub sets-whole : (s l : List ℕ) → length s ≡ length l → sets l 0 s ≡ s
 sets-whole s l h = sets-eq s l 0 (omega arith) ∙ rw (zero-add, drop-of-length-le l {i = length s} (omega arith), append-nil s)

@@ -9,7 +9,8 @@ use lib.ListN.{length, getD}
 use lib.Seq.{sets, slice, slice-empty, length-sets}
 use borrow.Author.Needs.{needs}
 use Rattle.words.specs.Words.{wordLength}
-use Rattle.words.proofs.Laws.{lowest-first-length, sets-append, put-stores}
+use Rattle.kinds.proofs.Lists.{sets-append}
+use Rattle.words.proofs.Laws.{lowest-first-length, put-stores}
 use Rattle.probe.specs.Words.{wordsBytes}
 use Rattle.probe.proofs.Words.{words-next}
 use Rattle.probe.proofs.put_words.Statement.{statement}
