@@ -23,8 +23,8 @@ abbrev pub AtHost : Type 0
 AtHost = (bytes script : List ℕ) → Bytes bytes → Bytes script → SaidFeasible bytes → (room : ℕ)
     → NotLate (length script) (replaySays (replayOf bytes script room))
 
--- The same of the host's own calls. A status and an answer buffer are not those of a late replay: never 23; a 22 fills the buffer with a second number of 0, and a
--- 10 with a first number that is a place inside the script.
+-- The same of the host's own calls. A status and an answer buffer are not those of a late replay: never 23; a 22 fills the buffer with a second number of 0,
+-- and a 10 with a first number that is a place inside the script.
 pub record CallNotLate (end status : ℕ) (after : List ℕ) : Type 0 where
   pub not-23 : status ≢ 23
   pub none-late : status ≡ 22 → (told : Said) × (told .second ≡ 0) × Filled told after

@@ -1,4 +1,5 @@
--- What a start and many ticks in one call say. (What releases and ticks say is on the promises' page of answers, crate promise.) (docs/RULES.md, sections 6 and 10.)
+-- What a start and many ticks in one call say. (What releases and ticks say is on the promises' page of answers, crate promise.)
+-- (docs/RULES.md, sections 6 and 10.)
 use mathlib.Core.List.{[]}
 use Rattle.kinds.specs.Numbering.{Says, numbered, values, refusedSays, withoutPlace, NeverNumberedZero, SaysApart}
 use Rattle.run.specs.declared.StartAnswer.{StartAnswer}
