@@ -8,10 +8,10 @@ use native.Mathlib.Nat.{zero-add}
 use native.Mathlib.Omega.{arith}
 use lib.ListN.{length, take, length-append}
 use lib.Seq.{take-all, sets, sets-eq, length-sets}
+use Rattle.kinds.specs.Numbering.{Says, numbered, values}
 use Rattle.run.specs.declared.Run.{Run}
-use Rattle.run.specs.declared.StartAnswer.{StartAnswer}
-use Rattle.run.specs.declared.StartAnswer.the-variants as start
 use Rattle.run.specs.Runs.{started}
+use Rattle.run.specs.Answers.{startSays}
 use Rattle.promise.specs.Answers.{accepted, idle, ran}
 use Rattle.promise.specs.Answers as says
 use Rattle.promise.specs.Traces.{Call, Event, runAfter, eventOf, runAt, trace}
@@ -37,9 +37,9 @@ events-are-the-trace table calls = sym (then-later table calls [])
 -- ---- answers in words
 
 -- Each answer is four words.
-start-is-four : (a : StartAnswer) → length (startWords a) ≡ mostWords
-start-is-four start.Ready = refl
-start-is-four (start.Refused r) = refl
+start-is-four : (a : Says) → length (startWords a) ≡ mostWords
+start-is-four (values vs) = refl
+start-is-four (numbered s) = refl
 
 event-is-four : (e : Event) → length (eventWords e) ≡ mostWords
 event-is-four (Event.release row cost (accepted serial due)) = refl
@@ -91,7 +91,7 @@ answered-none run calls at = refl
 -- The answers that are shown: the start's, and those of the calls that are played.
 shown-answers : (table calls : List ℕ) (shown : ℕ) → 1 ≤ shown → shown ≤ length calls / callLength + 1
     → flatten (map wordsBytes (take shown (traceWords table calls)))
-    ≡ wordsBytes (startWords (started table .answer)) ++ answered (started table .run) (shown - 1) calls 0
+    ≡ wordsBytes (startWords (startSays (started table .answer))) ++ answered (started table .run) (shown - 1) calls 0
 unfolding flatten
 shown-answers table calls zero h there = absurd (omega arith)
 shown-answers table calls (suc k) h there =
@@ -139,12 +139,12 @@ module _ {calls answers₀ : List ℕ} {shown : ℕ} {run₀ : Run} {answers : L
 
 -- At last all stand there, and what comes after them is as it was.
 pub all-standing : (table calls answers : List ℕ) (shown : ℕ) {after : List ℕ} {run : Run} {i : ℕ}
-    → (let first = sets answers 0 (wordsBytes (take mostWords (startWords (started table .answer)))) in
+    → (let first = sets answers 0 (wordsBytes (take mostWords (startWords (startSays (started table .answer))))) in
     Standing calls first shown (started table .run) after run i) → shown ≤ i → shown ≤ length calls / callLength + 1
     → after ≡ answersAfter shown (traceWords table calls) answers
 all-standing table calls answers shown {after} {run} {i} p h there =
-    let first = startWords (started table .answer) in
-    let four = four-are-all first (start-is-four (started table .answer)) in
+    let first = startWords (startSays (started table .answer)) in
+    let four = four-are-all first (start-is-four (startSays (started table .answer))) in
     let bytes = wordsBytes first in
     let later = answered (started table .run) (shown - 1) calls 0 in
     let over : shown - i ≡ 0 = omega arith in

@@ -4,12 +4,10 @@ use mathlib.Core.Bool.{cond}
 use mathlib.Core.List.{List, [], _∷_, _++_}
 use lib.Dec.{eqb}
 use lib.ListN.{length, take, drop}
-use Rattle.kinds.specs.Numbering.{Said, refusalNumber}
+use Rattle.kinds.specs.Numbering.{Said, Says, numbered, values, refusalNumber}
 use Rattle.kinds.specs.declared.Refusal.the-variants.{AnswerSize}
-use Rattle.script.specs.declared.Which.{Which}
-use Rattle.script.specs.declared.Which.the-variants as which
 use Rattle.script.specs.declared.Chosen.{Chosen}
-use Rattle.script.specs.declared.Chosen.the-variants as answer
+use Rattle.script.specs.Answers.{chosenSays}
 use Rattle.script.specs.Chooser.{chosen, partOf}
 use Rattle.probe.specs.Words.{wordsBytes}
 
@@ -21,15 +19,19 @@ answerLength = 16
 abbrev pub copied : (bytes buffer : List ℕ) → List ℕ
 copied bytes buffer = let fit = min (length bytes) (length buffer) in take fit bytes ++ drop fit buffer
 
-abbrev pub whichNumber : Which → ℕ
-whichNumber which.First = 1
-whichNumber which.Second = 2
+-- The record's length among the values that the chooser says, which come after which script it is of; 0 where both scripts have ended.
+abbrev pub lengthIn : List ℕ → ℕ
+lengthIn [] = 0
+lengthIn (script ∷ []) = 0
+lengthIn (script ∷ long ∷ more) = long
 
--- 1, the record's length and 0, where both scripts have ended the length 0; of a refusal its number, its place and which script.
-abbrev pub chosenSays : Chosen → Said
-chosenSays (answer.Next n) = record { number = 1; first = n .length; second = 0 }
-chosenSays answer.Ended = record { number = 1; first = 0; second = 0 }
-chosenSays (answer.Refused r) = record { number = refusalNumber (r .at .refusal); first = r .at .place; second = whichNumber (r .script) }
+-- What is said in three numbers: 1, the record's length and 0, or what is numbered as it is.
+abbrev pub inThreeNumbers : Says → Said
+inThreeNumbers (values vs) = record { number = 1; first = lengthIn vs; second = 0 }
+inThreeNumbers (numbered s) = s
+
+abbrev pub chosenSaid : Chosen → Said
+chosenSaid c = inThreeNumbers (chosenSays c)
 
 -- What is returned, and the two buffers afterwards.
 pub record Answered : Type 0 where
@@ -40,9 +42,9 @@ pub record Answered : Type 0 where
 -- The answer's two numbers fill its buffer, and the record's bytes stand at the start of the part's.
 abbrev pub answeredBy : Chosen → (s₁ s₂ part : List ℕ) → Answered
 answeredBy c s₁ s₂ part = record {
-  status = chosenSays c .number;
+  status = chosenSaid c .number;
   part = copied (partOf c s₁ s₂) part;
-  answer = wordsBytes (chosenSays c .first ∷ chosenSays c .second ∷ []);
+  answer = wordsBytes (chosenSaid c .first ∷ chosenSaid c .second ∷ []);
 }
 
 -- 13 comes first and writes nothing.

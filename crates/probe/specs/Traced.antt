@@ -6,13 +6,12 @@ use mathlib.Core.Bool.{true, false, cond}
 use mathlib.Core.List.{List, [], _∷_, _++_, flatten, map, reverse}
 use lib.Dec.{eqb}
 use lib.ListN.{length, take, drop}
-use Rattle.kinds.specs.Numbering.{refusalNumber}
+use Rattle.kinds.specs.Numbering.{Says, numbered, values}
 use Rattle.numbers.specs.declared.NumberRead.{NumberRead}
 use Rattle.numbers.specs.declared.NumberRead.the-variants as number
 use Rattle.run.specs.declared.Run.{Run}
-use Rattle.run.specs.declared.StartAnswer.{StartAnswer}
-use Rattle.run.specs.declared.StartAnswer.the-variants as start
 use Rattle.run.specs.Runs.{started}
+use Rattle.run.specs.Answers.{startSays}
 use Rattle.promise.specs.Answers.{ReleaseSays, accepted, TickSays, idle, ran}
 use Rattle.promise.specs.Answers as says
 use Rattle.promise.specs.Traces.{Call, Event, runAfter, eventOf, trace}
@@ -62,9 +61,9 @@ abbrev pub refusedWords : (refusal place : ℕ) → List ℕ
 refusedWords refusal place = 6 ∷ refusal ∷ place ∷ 0 ∷ []
 
 -- A start: 1, or its refusal.
-abbrev pub startWords : StartAnswer → List ℕ
-startWords start.Ready = 1 ∷ 0 ∷ 0 ∷ 0 ∷ []
-startWords (start.Refused r) = refusedWords (refusalNumber (r .refusal)) (r .place)
+abbrev pub startWords : Says → List ℕ
+startWords (values vs) = 1 ∷ 0 ∷ 0 ∷ 0 ∷ []
+startWords (numbered s) = refusedWords (s .number) (s .first)
 
 -- A release: 2, serial and due time, or its refusal.
 abbrev pub releaseWords : ReleaseSays → List ℕ
@@ -98,7 +97,7 @@ answersShown calls room = min (min (calls / callLength + 1) (room / answerLength
 
 -- All answers: that of the start, and those of the calls.
 abbrev pub traceWords : (table calls : List ℕ) → List (List ℕ)
-traceWords table calls = startWords (started table .answer) ∷ map eventWords (eventsFrom (started table .run) (callsIn calls))
+traceWords table calls = startWords (startSays (started table .answer)) ∷ map eventWords (eventsFrom (started table .run) (callsIn calls))
 
 -- The buffer with so many of them at its start, and then what stood there.
 abbrev pub answersAfter : (shown : ℕ) → List (List ℕ) → List ℕ → List ℕ

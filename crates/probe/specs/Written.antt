@@ -1,10 +1,10 @@
--- What the number writer says in one number. (docs/RULES.md, 2.12 and 2.13.)
+-- What the number writer says, in one number. (docs/RULES.md, 2.12 and 2.13.)
 use Prim.Native.Nat.{ℕ}
-use Rattle.kinds.specs.Numbering.{refusalNumber}
-use Rattle.numbers.specs.declared.Written.{Written}
-use Rattle.numbers.specs.declared.Written.the-variants.{Length, Refused}
+use mathlib.Core.List.{[], _∷_}
+use Rattle.kinds.specs.Numbering.{Says, numbered, values}
 
--- The spelling's length, or the refusal's number.
-abbrev pub writtenSays : Written → ℕ
-writtenSays (Length k) = k
-writtenSays (Refused r) = refusalNumber r
+-- The spelling's length, which is the one value that is said, or the refusal's number.
+abbrev pub inOneNumber : Says → ℕ
+inOneNumber (values []) = 0
+inOneNumber (values (length ∷ more)) = length
+inOneNumber (numbered s) = s .number

@@ -15,12 +15,15 @@ ghost use mathlib.Core.Path.{_≡_};
 ghost use Prim.Native.Nat.{_+_, _*_, _≤_};
 ghost use lib.ListN.{length, take};
 ghost use lib.Seq.{sets};
+ghost use Rattle.numbers.specs.Answers.{writtenSays};
 ghost use Rattle.numbers.specs.Writing.{written, bufferAfter};
+ghost use Rattle.script.specs.Answers.{whichNumber};
 ghost use Rattle.words.specs.Words.{wordLength};
+ghost use Rattle.run.specs.Answers.{startSays};
 ghost use Rattle.promise.specs.Answers.{releaseSays, tickSays};
 ghost use Rattle.probe.specs.Words.{mostWords, wordsBytes};
-ghost use Rattle.probe.specs.Written.{writtenSays};
-ghost use Rattle.probe.specs.Chosen.{copied, whichNumber, chosenAnswered};
+ghost use Rattle.probe.specs.Written.{inOneNumber};
+ghost use Rattle.probe.specs.Chosen.{copied, chosenAnswered};
 ghost use Rattle.probe.specs.Traced.{wordOr0, callOf, startWords, releaseWords, tickWords, played, answersShown, traceWords, answersAfter};
 
 // How many bytes a word has.
@@ -62,7 +65,7 @@ fn put_words(buffer: &mut [u8], at: usize, words: [u64; 4], count: usize)
 // Writes a number at the start of the buffer: the spelling's length, 1 to 6, or the refusal's number.
 #[no_mangle]
 pub extern "C" fn write_number(number: u64, buffer: &mut [u8]) -> u32
-    ensures { λ r. ⌜ (r ≡ writtenSays (written number (length (now (buffer .entry)))))
+    ensures { λ r. ⌜ (r ≡ inOneNumber (writtenSays (written number (length (now (buffer .entry))))))
         × (now (buffer .exit) ≡ bufferAfter (written number (length (now (buffer .entry)))) number (now (buffer .entry))) ⌝ }
 {
     match numbers::write(buffer, number) {
@@ -156,7 +159,7 @@ fn word_at(bytes: &[u8], at: usize) -> u64
 }
 
 fn start_words(answer: StartAnswer) -> [u64; 4]
-    ensures { λ r. ⌜ r ≡ startWords answer ⌝ }
+    ensures { λ r. ⌜ r ≡ startWords (startSays answer) ⌝ }
 {
     match answer {
         StartAnswer::Ready => [1, 0, 0, 0],

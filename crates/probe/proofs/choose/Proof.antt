@@ -10,15 +10,15 @@ use borrow.Author.Needs.{needs}
 use Rattle.script.specs.declared.Chosen.{Chosen}
 use Rattle.script.specs.Chooser.{chosen, partOf}
 use Rattle.probe.specs.Words.{wordsBytes}
-use Rattle.probe.specs.Chosen.{Answered, answerLength, copied, chosenSays, chosenAnswered}
+use Rattle.probe.specs.Chosen.{Answered, answerLength, copied, chosenSaid, chosenAnswered}
 use Rattle.probe.proofs.Words.{words-fill}
 use Rattle.probe.proofs.choose.Statement.{statement}
 use Rattle.probe.proofs.choose.Tie as tie
 
 -- The answer buffer has its length, the record's bytes are copied, and the choice is answered by what it says.
-answered : (c : tie.After-choose) (v : Chosen) (status : ℕ) (after : List ℕ) → c .choose .result ≡ v → status ≡ chosenSays v .number
+answered : (c : tie.After-choose) (v : Chosen) (status : ℕ) (after : List ℕ) → c .choose .result ≡ v → status ≡ chosenSaid v .number
     → (let a = c .before .before .before .before .before .before .before .before .before .before .before .args in
-    after ≡ sets (a .answer .now) 0 (wordsBytes (chosenSays v .first ∷ chosenSays v .second ∷ []))
+    after ≡ sets (a .answer .now) 0 (wordsBytes (chosenSaid v .first ∷ chosenSaid v .second ∷ []))
     → _≡_ {A = Answered} (record { status = status; part = c .before .before .before .copy .last .1 .0; answer = after })
     (chosenAnswered (a .first .now) (a .second .now) (a .first-time) (a .second-time) (a .part .now) (a .answer .now)))
 answered c v status after e s w =
@@ -26,7 +26,7 @@ answered c v status after e s w =
     let is : chosen (a .first .now) (a .second .now) (a .first-time) (a .second-time) ≡ v = sym (c .choose .ensures) ∙ e in
     let part : c .before .before .before .copy .last .1 .0 ≡ copied (partOf v (a .first .now) (a .second .now)) (a .part .now) =
     rw (c .before .before .before .before .before .chosen-part .ensures .0, is) at (c .before .before .before .copy .ensures) in
-    let said = chosenSays v .first ∷ chosenSays v .second ∷ [] in
+    let said = chosenSaid v .first ∷ chosenSaid v .second ∷ [] in
     let full : after ≡ wordsBytes said = w ∙ words-fill (a .answer .now) said (omega arith) in
     rw (s, part, full, eq-eqb (length (a .answer .now)) answerLength (omega arith), is)
 

@@ -3,7 +3,8 @@ use mathlib.Core.Path.{sym, ap, _∙_}
 use native.Mathlib.Omega.{arith}
 use borrow.Author.Needs.{needs}
 use Rattle.numbers.proofs.Laws.{length-answered, spelling-length}
-use Rattle.probe.specs.Written.{writtenSays}
+use Rattle.numbers.specs.Answers.{writtenSays}
+use Rattle.probe.specs.Written.{inOneNumber}
 use Rattle.probe.proofs.write_number.Statement.{statement}
 use Rattle.probe.proofs.write_number.Tie as tie
 
@@ -32,7 +33,7 @@ same-length c = search needs
 returns : tie.Need-returns
 returns c =
     let e = c .before .before .before .before .before .write .ensures in
-    (ap writtenSays (sym (c .before .n .given .1) ∙ e .0), rw (e .0) at (e .1))
+    (ap (λ w. inOneNumber (writtenSays w)) (sym (c .before .n .given .1) ∙ e .0), rw (e .0) at (e .1))
 
 same-length-2 : tie.Need-same-length-2
 same-length-2 c = search needs
@@ -40,7 +41,7 @@ same-length-2 c = search needs
 returns-2 : tie.Need-returns-2
 returns-2 c =
     let e = c .before .before .before .before .before .before .write .ensures in
-    (c .number .ensures ∙ ap writtenSays (sym (c .before .before .r .given .1) ∙ e .0), rw (e .0) at (e .1))
+    (c .number .ensures ∙ ap (λ w. inOneNumber (writtenSays w)) (sym (c .before .before .r .given .1) ∙ e .0), rw (e .0) at (e .1))
 
 pub write-number-spec : {M : Type 1} → statement M
 write-number-spec =
