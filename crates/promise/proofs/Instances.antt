@@ -25,7 +25,7 @@ use Rattle.verdict.specs.declared.Verdict.the-variants.{Feasible, Overloaded}
 use Rattle.promise.specs.Traces.{runAt, trace, clockOf, jobsIn, unitsOf}
 use Rattle.promise.specs.NoOrder.{firstJobs, keptAfter}
 use Rattle.promise.specs.Examples.{v3, v4}
-use Rattle.promise.specs.Instances.{calls, answers, AnswersAreThese, job, ThreeJobs, AllThreeInTime, ShareIsReached, NamedByV4, NobodyServesV4}
+use Rattle.promise.specs.Instances.{calls, AnswersAreThese, job, ThreeJobs, AllThreeInTime, ShareIsReached, NamedByV4, NobodyServesV4}
 use Rattle.promise.proofs.InTime.{in-time}
 use Rattle.promise.proofs.NoOrder.{no-order}
 use Rattle.promise.proofs.Examples.{are-bytes, v3-is-feasible, v4-is-overloaded}

@@ -10,7 +10,7 @@ use lib.ListN.{length}
 use Rattle.kinds.specs.Numbering.{maxTime}
 use Rattle.theory.specs.Lists.{All, total}
 use Rattle.theory.specs.Jobs.{Job, DistinctNames}
-use Rattle.theory.specs.Ticks.{had, free, noneTaken}
+use Rattle.theory.specs.Ticks.{had, noneTaken}
 use Rattle.theory.specs.Curves.{SmallestFailing}
 use Rattle.theory.specs.Demand.{rowJobs}
 use Rattle.theory.specs.DueTimes.{dueTime, dues, allAtZero}
