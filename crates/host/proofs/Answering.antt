@@ -17,7 +17,8 @@ use Rattle.verdict.specs.Verdict.{verdictSays}
 use Rattle.replay.specs.declared.Replayed.{Replayed}
 use Rattle.replay.specs.declared.Replayed.the-variants as replayed
 use Rattle.replay.specs.Outcome.{replayOf, replaySays}
-use Rattle.replay.proofs.Answering.{refused-means, stopped-by}
+use Rattle.replay.proofs.Stopping.{stopped-by}
+use Rattle.replay.proofs.Answering.{refused-means}
 use Rattle.host.specs.Answer.{answerLength, answerBytes, wrong-size, said}
 use Rattle.host.specs.Laws.{Filled, AnswerFilled, VerdictOfAnotherSize, ReplayOfAnotherSize, VerdictOfSixteen, ReplayOfSixteen}
 use Rattle.host.specs.Laws.{ReplayIs13, ReplayNever11Or25}
