@@ -12,6 +12,7 @@ use borrow.Author.Tests.{leb-true, le-leb, lt-leb}
 use Rattle.kinds.specs.Numbering.{maxTime}
 use Rattle.kinds.specs.declared.Tick.{Tick}
 use Rattle.kinds.specs.declared.Refusal.the-variants.{ValueOutOfRange, DueTooLate}
+use Rattle.kinds.proofs.Apart.{impossible}
 use Rattle.theory.specs.DueTimes.{dueTime}
 use Rattle.theory.proofs.Cases.{by-lt}
 use Rattle.theory.proofs.DueTimes.{newest-are-enough}
@@ -110,10 +111,6 @@ module _ (k : Kept) (r : Row) (t : ℕ) where
       go true e = by-lt maxTime (byRule k r t) (λ h. late e h (due-refused e h)) (λ h. given e h (due-given e h))
       go false e = out e (no-due e)
 
--- Two answers at once can't be.
-never : {G : Type 0} → _≡_ {A = ℕ} 0 1 → G
-never e = absurd (omega arith)
-
 pub given-means : GivenMeans
 given-means k r t v = (
   λ e. by-answer k r t
@@ -121,19 +118,19 @@ given-means k r t v = (
       let same : record { 0 = byRule k r t } ≡ v = cc in
       let by-rule : byRule k r t ≡ v .0 = ap number same in
       record { row-in-range = fine; by-rule = by-rule; in-time = omega arith })
-      (λ fine h a. never (cc))
-      (λ out a. never (cc)),
+      (λ fine h a. impossible cc)
+      (λ out a. impossible cc),
   λ g. let in-time : byRule k r t ≤ maxTime = omega (arith, g .by-rule, g .in-time) in due-given k r t (g .row-in-range) in-time ∙ rw (g .by-rule),
 )
 
 pub too-late-means : TooLateMeans
 too-late-means k r t = (
-  λ e. by-answer k r t (λ fine h a. never (cc)) (λ fine h a. (fine, h)) (λ out a. never (cc)),
+  λ e. by-answer k r t (λ fine h a. impossible cc) (λ fine h a. (fine, h)) (λ out a. impossible cc),
   λ h. due-refused k r t (h .0) (h .1),
 )
 
 pub out-of-range-means : OutOfRangeMeans
-out-of-range-means k r t = (λ e. by-answer k r t (λ fine h a. never (cc)) (λ fine h a. never (cc)) (λ out a. out), no-due k r t)
+out-of-range-means k r t = (λ e. by-answer k r t (λ fine h a. impossible cc) (λ fine h a. impossible cc) (λ out a. out), no-due k r t)
 
 -- ---- sound
 

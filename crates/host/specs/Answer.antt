@@ -1,5 +1,5 @@
 -- What the host's calls return and write. (docs/RULES.md, section 9.)
-use Prim.Native.Nat.{ℕ, _^_, _<_, _≤_}
+use Prim.Native.Nat.{ℕ, _*_, _^_, _<_, _≤_}
 use mathlib.Core.Path.{_≡_}
 use mathlib.Core.Logic.{_≢_}
 use mathlib.Core.Bool.{cond}
@@ -14,9 +14,9 @@ use Rattle.verdict.specs.Verdict.{Judged, verdictSays}
 use Rattle.replay.specs.Play.{played}
 use Rattle.replay.specs.Outcome.{finishedIn, replayOf, logAfter, replaySays}
 
--- An answer buffer has so many bytes. (9.4)
+-- An answer buffer has the bytes of two words, 16. (9.4)
 abbrev pub answerLength : ℕ
-answerLength = 16
+answerLength = 2 * wordLength
 
 -- What is in it: the two numbers that are said, each in the bytes of a word, lowest first. (9.4)
 abbrev pub answerBytes : Said → List ℕ

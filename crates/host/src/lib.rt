@@ -4,14 +4,15 @@ use kinds::Refusal;
 use kinds::RefusedAt;
 use replay::Replayed;
 use verdict::Verdict;
+use words::WORD;
 ghost use mathlib.Core.Path.{_≡_};
 ghost use lib.ListN.{length};
 ghost use Rattle.host.specs.Answer.{answerBytes, VerdictAnswered, answerLength};
 ghost use Rattle.host.specs.Answer.{replayStatus, replayAnswer, replayLog};
 ghost use Rattle.kinds.specs.Numbering.{refusedSays};
 
-// The length of an answer buffer.
-const ANSWER: usize = 16;
+// The length of an answer buffer: two words.
+const ANSWER: usize = 2 * WORD;
 
 // The statuses that are no refusal.
 const FEASIBLE: u32 = 20;
@@ -28,7 +29,7 @@ fn say(answer: &mut [u8], status: u32, first: u64, second: u64) -> u32
     ensures { λ r. ⌜ (r ≡ status) × (now (answer .exit) ≡ answerBytes (record { number = status; first = first; second = second })) ⌝ }
 {
     words::put(answer, first);
-    words::put(&mut answer[8..], second);
+    words::put(&mut answer[WORD..], second);
     status
 }
 

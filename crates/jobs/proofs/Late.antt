@@ -8,6 +8,7 @@ use native.Mathlib.Omega.{arith}
 use lib.Dec.{ltb}
 use lib.ListN.{length, take, drop, getD, set, drop-of-length-le}
 use borrow.Author.Tests.{lt-ltb, le-ltb, eq-eqb, ne-eqb}
+use Rattle.kinds.proofs.Apart.{impossible}
 use Rattle.jobs.specs.declared.Job.{Job}
 use Rattle.jobs.specs.Places.{noJob, without}
 use Rattle.jobs.specs.Late.{isLate, lateCount}
@@ -37,7 +38,7 @@ by-late t j late other = elim (ℕ-discrete (j .due .0) t) [
 pub late-means : LateMeans
 late-means t j = by-late t j
     (λ p e. (λ _. p, λ _. e))
-    (λ other e. (λ f. absurd (let z : _≡_ {A = ℕ} 0 1 = cc in omega arith), λ p. absurd (other p)))
+    (λ other e. (λ f. impossible cc, λ p. absurd (other p)))
 
 pub none-late : NoneLate
 unfolding lateCount

@@ -4,3 +4,4 @@ pub mod Late
 pub mod Turns
 pub mod Serials
 pub mod Laws
+pub mod Answers

@@ -4,4 +4,5 @@ pub mod Units
 pub mod Late
 pub mod Serials
 pub mod Turns
+pub mod Answers
 pub mod Laws

@@ -1,2 +1,3 @@
 pub mod Numbering
 pub mod Lists
+pub mod Apart

@@ -1,8 +1,9 @@
 -- The laws of records and logs are proved: what was written reads back, and as nothing else. (docs/RULES.md, section 8.)
-use Prim.Native.Nat.{ℕ, _+_, _-_, _≤_}
+use Prim.Native.Nat.{ℕ, _+_, _-_, _≤_, _<_}
+use native.Mathlib.Decide.{decLe}
 use native.Mathlib.Omega.{arith}
 use mathlib.Core.Path.{_≡_, refl, sym, ap, _∙_}
-use mathlib.Core.Logic.{⊎-elim}
+use mathlib.Core.Logic.{_↔_, ⊎-elim}
 use mathlib.Core.Bool.{Bool, true, false, and-eq-true-iff}
 use mathlib.Core.Option.{Option, some}
 use mathlib.Core.List.{List, [], _∷_, _++_, flatten, append-nil, append-assoc, append-cancel-left, List·Memᴰ·head, List·Memᴰ·tail}
@@ -12,19 +13,21 @@ use lib.ListN.{length, take, drop, length-append, length-drop, take-append-drop,
 use lib.Seq.{length-take-le, drop-drop, drop-append-seam, take-at, drop-at}
 use borrow.Author.Tests.{leb-true, le-leb}
 use Rattle.kinds.specs.declared.Finish.{Finish}
+use Rattle.kinds.specs.declared.Refusal.the-variants.{NumberTooBig, NoRoom}
+use Rattle.kinds.proofs.Apart.{impossible}
 use Rattle.numbers.specs.declared.Number.{Number}
 use Rattle.numbers.specs.declared.NumberRead.{NumberRead}
 use Rattle.numbers.specs.declared.NumberRead.the-variants as number
-use Rattle.numbers.specs.declared.Written.the-variants.{Length}
+use Rattle.numbers.specs.declared.Written.the-variants.{Length, Refused}
 use Rattle.numbers.specs.Spelling.{maxNumber, spelling}
 use Rattle.numbers.specs.Reading.{readAt}
 use Rattle.numbers.specs.Laws.{Bytes}
 use Rattle.numbers.proofs.Laws.{reads-back, one-spelling, nothing-past-the-end, spelling-length}
 use Rattle.log.specs.Log.{valuesOf, spelledNumbers, spelledFinish, allInRange, writtenRecord}
 use Rattle.log.specs.Laws.{spelledLog, EachInRange, FinishAt, afterNumber, finishAt, ReadsAs, ended, one-more, WroteRecord}
-use Rattle.log.specs.Laws.{RecordLength, RecordReadsBack, RecordIsSpelled, RecordsDiffer, RecordWritten}
+use Rattle.log.specs.Laws.{RecordLength, RecordReadsBack, RecordIsSpelled, RecordsDiffer, RecordWritten, RecordRefused}
 use Rattle.log.specs.Laws.{LogReadsBack, LogIsSpelled, ReadsOneWay, OneLog, RestOfLog, LogGrows, LogKept}
-use Rattle.log.proofs.Records.{spelled-length, rest-of, rest-put}
+use Rattle.log.proofs.Records.{spelled-length, rest-of, rest-put, answers-too-big, answers-no-room, answers-length}
 
 pub record-length : RecordLength
 record-length f = spelled-length (valuesOf f)
@@ -77,7 +80,7 @@ first-stands {s} at {n} {vs} {next} b e p =
 after-number : {G : Type 0} (v : NumberRead) (k : Number → Option FinishAt) {found : FinishAt} → afterNumber v k ≡ some found
     → ((n : Number) → v ≡ number.Number n → k n ≡ some found → G) → G
 after-number (number.Number n) k e then = then n refl e
-after-number (number.Refused r) k e then = absurd (let z : _≡_ {A = ℕ} 0 1 = cc in omega arith)
+after-number (number.Refused r) k e then = impossible cc
 
 -- What is found is one thing.
 one-found : {x y : FinishAt} → some x ≡ some y → x ≡ y
@@ -129,12 +132,30 @@ by-tests : (f : Finish) (room took : ℕ) (in-range had-room : Bool) → allInRa
 by-tests f room took true true p q e =
     let z : took ≡ length (spelledFinish f) = cc in
     record { in-range = p; spelled = z; had-room = omega (arith, leb-true (length (spelledFinish f)) room q) }
-by-tests f room took true false p q e = absurd (let z : _≡_ {A = ℕ} 0 1 = cc in omega arith)
-by-tests f room took false true p q e = absurd (let z : _≡_ {A = ℕ} 0 1 = cc in omega arith)
-by-tests f room took false false p q e = absurd (let z : _≡_ {A = ℕ} 0 1 = cc in omega arith)
+by-tests f room took true false p q e = impossible cc
+by-tests f room took false true p q e = impossible cc
+by-tests f room took false false p q e = impossible cc
 
 pub record-written : RecordWritten
 record-written f room took e = by-tests f room took _ _ refl refl e
+
+pub record-refused : RecordRefused
+record-refused f room = by-range _ refl
+  where
+    by-range : (b : Bool) → allInRange (valuesOf f) ≡ b
+        → ((writtenRecord f room ≡ Refused NumberTooBig) ↔ (allInRange (valuesOf f) ≡ false))
+        × ((writtenRecord f room ≡ Refused NoRoom) ↔ ((allInRange (valuesOf f) ≡ true) × (room < length (spelledFinish f))))
+    by-range false p =
+        let answer = answers-too-big f room p in
+        ((λ e. p, λ q. answer), (λ e. impossible cc, λ q. impossible cc))
+    by-range true p = elim (decLe (length (spelledFinish f)) room) [
+      | yes l ↦
+          let answer = answers-length f room p l in
+          ((λ e. impossible cc, λ q. impossible cc), (λ e. impossible cc, λ q. absurd (omega arith)))
+      | no l ↦
+          let answer = answers-no-room f room p (omega arith) in
+          ((λ e. impossible cc, λ q. impossible cc), (λ e. (p, omega arith), λ q. answer))
+    ]
 
 -- ---- logs
 
@@ -168,8 +189,7 @@ log-is-spelled s fs b r = left-of-log b r
 none-at-the-end : (s : List ℕ) (at : ℕ) {found : FinishAt} → at ≡ length s → finishAt s at ≡ some found → ⊥
 none-at-the-end s at h e =
     let n = rw (nothing-past-the-end s at (omega arith)) at e in
-    let z : _≡_ {A = ℕ} 0 1 = cc in
-    omega arith
+    impossible cc
 
 pub reads-one-way : ReadsOneWay
 reads-one-way s at fs gs (ended e) (ended d) = refl

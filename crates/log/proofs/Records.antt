@@ -14,6 +14,7 @@ use borrow.Rule.Slice.PartMut.{midOf, putMid}
 use Rattle.kinds.specs.declared.Finish.{Finish}
 use Rattle.kinds.specs.declared.Refusal.{Refusal}
 use Rattle.kinds.specs.declared.Refusal.the-variants.{NumberTooBig, NoRoom}
+use Rattle.kinds.proofs.Apart.{impossible}
 use Rattle.kinds.proofs.Lists.{sets-append}
 use Rattle.numbers.specs.declared.Written.{Written}
 use Rattle.numbers.specs.declared.Written.the-variants.{Length, Refused}
@@ -155,7 +156,7 @@ module _ {values rest₀ rest : List ℕ} {at k : ℕ} (p : Standing values rest
   module _ {answer : Written} (e : answer ≡ written (getD values k 0) (length (midOf at (length rest - at) rest))) where
     -- .. never refused, ..
     pub never-refused : {r : Refusal} → answer ≡ Refused r → ⊥
-    never-refused a = let f = next-fits in let z : _≡_ {A = ℕ} 0 1 = cc in omega arith
+    never-refused a = let f = next-fits in impossible cc
 
     -- .. and stands there then.
     pub one-standing : {n : ℕ} {after : List ℕ} → after ≡ bufferAfter answer (getD values k 0) (midOf at (length rest - at) rest) → answer ≡ Length n

@@ -1,13 +1,15 @@
 -- What follows of records and logs, for other crates to cite. (docs/RULES.md, section 8.)
-use Prim.Native.Nat.{ℕ, _+_, _-_, _≤_}
+use Prim.Native.Nat.{ℕ, _+_, _-_, _≤_, _<_}
 use mathlib.Core.Path.{_≡_}
-use mathlib.Core.Bool.{true}
+use mathlib.Core.Logic.{_↔_}
+use mathlib.Core.Bool.{true, false}
 use mathlib.Core.Option.{Option, none, some}
 use mathlib.Core.List.{List, [], _∷_, _++_, flatten, map, List·Memᴰ}
 use lib.ListN.{length, take, drop}
 use borrow.Rule.Slice.PartMut.{midOf, putMid}
 use Rattle.kinds.specs.declared.Finish.{Finish}
 use Rattle.kinds.specs.declared.Refusal.{Refusal}
+use Rattle.kinds.specs.declared.Refusal.the-variants.{NumberTooBig, NoRoom}
 use Rattle.numbers.specs.declared.Number.{Number}
 use Rattle.numbers.specs.declared.NumberRead.{NumberRead}
 use Rattle.numbers.specs.declared.NumberRead.the-variants as number
@@ -93,6 +95,12 @@ pub record WroteRecord (f : Finish) (room took : ℕ) : Type 0 where
 
 abbrev pub RecordWritten : Type 0
 RecordWritten = (f : Finish) (room took : ℕ) → writtenRecord f room ≡ Length took → WroteRecord f room took
+
+-- A record is refused with 25 exactly where one of its numbers is too big, and with 12 exactly where none is and there is no room for it.
+abbrev pub RecordRefused : Type 0
+RecordRefused = (f : Finish) (room : ℕ)
+    → ((writtenRecord f room ≡ Refused NumberTooBig) ↔ (allInRange (valuesOf f) ≡ false))
+    × ((writtenRecord f room ≡ Refused NoRoom) ↔ ((allInRange (valuesOf f) ≡ true) × (room < length (spelledFinish f))))
 
 -- ---- what is proved of logs
 

@@ -1,8 +1,7 @@
 -- No answer of the number reader and the number writer is numbered 0, and different answers say different things.
-use Prim.Native.Nat.{ℕ}
 use mathlib.Core.Path.{_≡_, ap, ap₂}
-use native.Mathlib.Omega.{arith}
 use Rattle.kinds.specs.Numbering.{NeverNumberedZero, SaysApart}
+use Rattle.kinds.proofs.Apart.{impossible}
 use Rattle.kinds.proofs.Numbering.{never-zero, refusals-apart, plain-refusals-apart}
 use Rattle.numbers.specs.declared.NumberRead.the-variants as read
 use Rattle.numbers.specs.declared.Written.the-variants as write
@@ -24,14 +23,14 @@ read-apart (read.Number n) (read.Number m) e =
     let value : n .value ≡ m .value = cc in
     let next : n .next ≡ m .next = cc in
     ap₂ (λ v k. read.Number (record { value = v; next = k })) value next
-read-apart (read.Number n) (read.Refused r) e = absurd (let z : _≡_ {A = ℕ} 0 1 = cc in omega arith)
-read-apart (read.Refused q) (read.Number m) e = absurd (let z : _≡_ {A = ℕ} 0 1 = cc in omega arith)
+read-apart (read.Number n) (read.Refused r) e = impossible cc
+read-apart (read.Refused q) (read.Number m) e = impossible cc
 read-apart (read.Refused q) (read.Refused r) e = ap read.Refused (refusals-apart q r e)
 
 written-apart : SaysApart writtenSays
 written-apart (write.Length j) (write.Length k) e = cc
-written-apart (write.Length j) (write.Refused r) e = absurd (let z : _≡_ {A = ℕ} 0 1 = cc in omega arith)
-written-apart (write.Refused q) (write.Length k) e = absurd (let z : _≡_ {A = ℕ} 0 1 = cc in omega arith)
+written-apart (write.Length j) (write.Refused r) e = impossible cc
+written-apart (write.Refused q) (write.Length k) e = impossible cc
 written-apart (write.Refused q) (write.Refused r) e = ap write.Refused (plain-refusals-apart q r e)
 
 pub numbers-said-apart : NumbersSaidApart

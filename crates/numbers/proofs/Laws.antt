@@ -13,6 +13,7 @@ use lib.Dec.{ltb, eqb}
 use borrow.Author.Tests.{lt-ltb, le-ltb, le-leb, lt-leb, ne-eqb}
 use Rattle.kinds.specs.declared.Refusal.the-variants.{Misspelled, NumberTooBig, NoRoom}
 use Rattle.kinds.specs.declared.RefusedAt.{RefusedAt}
+use Rattle.kinds.proofs.Apart.{impossible}
 use Rattle.numbers.specs.declared.Number.{Number}
 use Rattle.numbers.specs.declared.NumberRead.the-variants as answer
 use Rattle.numbers.specs.declared.Written.the-variants.{Length, Refused}
@@ -132,12 +133,12 @@ by-answer n room has-room no-room too-big = elim (decLe n maxNumber) [
 pub length-answered : LengthAnswered
 length-answered n room took e = by-answer n room
     (λ l k w. let z : took ≡ length (spelling n) = cc in record { in-range = l; spelled = z; had-room = omega arith })
-    (λ l k w. absurd (let z : _≡_ {A = ℕ} 0 1 = cc in omega arith))
-    (λ l w. absurd (let z : _≡_ {A = ℕ} 0 1 = cc in omega arith))
+    (λ l k w. impossible cc)
+    (λ l w. impossible cc)
 
 pub refusal-answered : RefusalAnswered
 refusal-answered n room r e = by-answer n room
-    (λ l k w. absurd (let z : _≡_ {A = ℕ} 0 1 = cc in omega arith))
+    (λ l k w. impossible cc)
     (λ l k w. inr (cc, l, k))
     (λ l w. inl (cc, l))
 
@@ -157,19 +158,19 @@ written-reads-back n took buffer e =
 -- A number that stands behind a group, and the number that the later groups spell.
 before-inverse : (low n next : ℕ) (r : Spelt) → before low r ≡ number n next
     → (m : ℕ) × (r ≡ number m next) × (n ≡ low + 128 * m) × (0 < m)
-before-inverse low n next (number zero k) e = absurd (let z : _≡_ {A = ℕ} 0 1 = cc in omega arith)
+before-inverse low n next (number zero k) e = impossible cc
 before-inverse low n next (number (suc m) k) e =
     let q : eqb (suc m) 0 ≡ false = ne-eqb (suc m) 0 (λ h. omega arith) in
     (suc m, cc, cc, omega arith)
-before-inverse low n next (superfluous-zero k) e = absurd (let z : _≡_ {A = ℕ} 0 1 = cc in omega arith)
-before-inverse low n next (asks-for-more k) e = absurd (let z : _≡_ {A = ℕ} 0 1 = cc in omega arith)
-before-inverse low n next (cut-off k) e = absurd (let z : _≡_ {A = ℕ} 0 1 = cc in omega arith)
+before-inverse low n next (superfluous-zero k) e = impossible cc
+before-inverse low n next (asks-for-more k) e = impossible cc
+before-inverse low n next (cut-off k) e = impossible cc
 
 -- What is read in at most so many groups is below their limit.
 spelt-small : (most : ℕ) (s : List ℕ) (at n next : ℕ) → Bytes s → spelt most s at ≡ number n next → n < limit most
 unfolding spelt
-spelt-small zero s at n next h e = absurd (let z : _≡_ {A = ℕ} 0 1 = cc in omega arith)
-spelt-small (suc most) [] at n next h e = absurd (let z : _≡_ {A = ℕ} 0 1 = cc in omega arith)
+spelt-small zero s at n next h e = impossible cc
+spelt-small (suc most) [] at n next h e = impossible cc
 spelt-small (suc most) (b ∷ s) at n next h e = elim (decLe 128 b) [
   | yes l ↦
       let t = before-inverse (b - 128) n next (spelt most s (at + 1)) (simp (le-ltb b 128 l) at e) in
@@ -184,8 +185,8 @@ spelt-small (suc most) (b ∷ s) at n next h e = elim (decLe 128 b) [
 spelt-is-groups : (most : ℕ) (s : List ℕ) (at n next : ℕ) → Bytes s → spelt most s at ≡ number n next
     → (rest : List ℕ) × (s ≡ groupsOf most n ++ rest) × (next ≡ at + length (groupsOf most n))
 unfolding spelt
-spelt-is-groups zero s at n next h e = absurd (let z : _≡_ {A = ℕ} 0 1 = cc in omega arith)
-spelt-is-groups (suc most) [] at n next h e = absurd (let z : _≡_ {A = ℕ} 0 1 = cc in omega arith)
+spelt-is-groups zero s at n next h e = impossible cc
+spelt-is-groups (suc most) [] at n next h e = impossible cc
 spelt-is-groups (suc most) (b ∷ s) at n next h e = elim (decLe 128 b) [
   | yes l ↦
       let t = before-inverse (b - 128) n next (spelt most s (at + 1)) (simp (le-ltb b 128 l) at e) in
@@ -205,9 +206,9 @@ spelt-is-groups (suc most) (b ∷ s) at n next h e = elim (decLe 128 b) [
 -- An answer that is a number was a number's spelling.
 answered-number : (start : ℕ) (r : Spelt) (k : Number) → answered start r ≡ answer.Number k → r ≡ number (k .value) (k .next)
 answered-number start (number n next) k e = let v : n ≡ k .value = cc in let w : next ≡ k .next = cc in cc
-answered-number start (superfluous-zero place) k e = absurd (let z : _≡_ {A = ℕ} 0 1 = cc in omega arith)
-answered-number start (asks-for-more place) k e = absurd (let z : _≡_ {A = ℕ} 0 1 = cc in omega arith)
-answered-number start (cut-off place) k e = absurd (let z : _≡_ {A = ℕ} 0 1 = cc in omega arith)
+answered-number start (superfluous-zero place) k e = impossible cc
+answered-number start (asks-for-more place) k e = impossible cc
+answered-number start (cut-off place) k e = impossible cc
 
 -- What the spelling of a number at a place says of the place.
 spelled-rest : (s rest : List ℕ) (at : ℕ) (k : Number) → k .value ≤ maxNumber → drop at s ≡ spelling (k .value) ++ rest
@@ -234,7 +235,7 @@ nothing-past-the-end s at h = rw (spelt-cut maxGroups s at (omega arith) h)
 
 -- Each fault is answered with 1, at the start.
 answered-refused : (start : ℕ) (r : Spelt) (q : RefusedAt) → answered start r ≡ answer.Refused q → q ≡ record { refusal = Misspelled; place = start }
-answered-refused start (number n next) q e = absurd (let z : _≡_ {A = ℕ} 0 1 = cc in omega arith)
+answered-refused start (number n next) q e = impossible cc
 answered-refused start (superfluous-zero place) q e = cc
 answered-refused start (asks-for-more place) q e = cc
 answered-refused start (cut-off place) q e = cc

@@ -12,8 +12,8 @@ use Rattle.kinds.specs.Numbering.{Says, numbered, values}
 use Rattle.run.specs.declared.Run.{Run}
 use Rattle.run.specs.Runs.{started}
 use Rattle.run.specs.Answers.{startSays}
-use Rattle.promise.specs.Answers.{accepted, idle, ran}
-use Rattle.promise.specs.Answers as says
+use Rattle.run.specs.Answers.{accepted, idle, ran}
+use Rattle.run.specs.Answers as says
 use Rattle.promise.specs.Traces.{Call, Event, runAfter, eventOf, runAt, trace}
 use Rattle.kinds.proofs.Lists.{sets-append}
 use Rattle.probe.specs.Words.{mostWords, wordsBytes}

@@ -1,5 +1,5 @@
 -- What the chooser says, and what it leaves in the two buffers that are lent to it. (docs/RULES.md, section 7.)
-use Prim.Native.Nat.{ℕ, min}
+use Prim.Native.Nat.{ℕ, _*_, min}
 use mathlib.Core.Bool.{cond}
 use mathlib.Core.List.{List, [], _∷_, _++_}
 use lib.Dec.{eqb}
@@ -9,11 +9,12 @@ use Rattle.kinds.specs.declared.Refusal.the-variants.{AnswerSize}
 use Rattle.script.specs.declared.Chosen.{Chosen}
 use Rattle.script.specs.Answers.{chosenSays}
 use Rattle.script.specs.Chooser.{chosen, partOf}
+use Rattle.words.specs.Words.{wordLength}
 use Rattle.probe.specs.Words.{wordsBytes}
 
--- The length of the answer buffer.
-abbrev pub answerLength : ℕ
-answerLength = 16
+-- The answer buffer has the bytes of two words.
+abbrev pub choiceLength : ℕ
+choiceLength = 2 * wordLength
 
 -- Bytes at the start of a buffer, as many as fit, and then what stood there.
 abbrev pub copied : (bytes buffer : List ℕ) → List ℕ
@@ -50,6 +51,6 @@ answeredBy c s₁ s₂ part = record {
 -- 13 comes first and writes nothing.
 abbrev pub chosenAnswered : (s₁ s₂ : List ℕ) (time₁ time₂ : ℕ) (part answer : List ℕ) → Answered
 chosenAnswered s₁ s₂ time₁ time₂ part answer =
-    cond (eqb (length answer) answerLength)
+    cond (eqb (length answer) choiceLength)
     (answeredBy (chosen s₁ s₂ time₁ time₂) s₁ s₂ part)
     (record { status = refusalNumber AnswerSize; part = part; answer = answer })

@@ -12,8 +12,8 @@ use Rattle.numbers.specs.declared.NumberRead.the-variants as number
 use Rattle.run.specs.declared.Run.{Run}
 use Rattle.run.specs.Runs.{started}
 use Rattle.run.specs.Answers.{startSays}
-use Rattle.promise.specs.Answers.{ReleaseSays, accepted, TickSays, idle, ran}
-use Rattle.promise.specs.Answers as says
+use Rattle.run.specs.Answers.{ReleaseSays, accepted, TickSays, idle, ran}
+use Rattle.run.specs.Answers as says
 use Rattle.promise.specs.Traces.{Call, Event, runAfter, eventOf, trace}
 use Rattle.words.specs.Words.{wordLength, wordAt}
 use Rattle.probe.specs.declared.Played.{Played}

@@ -11,6 +11,7 @@ use run::StartAnswer;
 use run::Ticked;
 use script::Chosen;
 use script::Which;
+use words::WORD;
 ghost use mathlib.Core.Path.{_≡_};
 ghost use Prim.Native.Nat.{_+_, _*_, _≤_};
 ghost use lib.ListN.{length, take};
@@ -19,27 +20,23 @@ ghost use Rattle.numbers.specs.Answers.{writtenSays};
 ghost use Rattle.numbers.specs.Writing.{written, bufferAfter};
 ghost use Rattle.script.specs.Answers.{whichNumber};
 ghost use Rattle.words.specs.Words.{wordLength};
-ghost use Rattle.run.specs.Answers.{startSays};
-ghost use Rattle.promise.specs.Answers.{releaseSays, tickSays};
+ghost use Rattle.run.specs.Answers.{startSays, releaseSays, tickSays};
 ghost use Rattle.probe.specs.Words.{mostWords, wordsBytes};
 ghost use Rattle.probe.specs.Written.{inOneNumber};
 ghost use Rattle.probe.specs.Chosen.{copied, chosenAnswered};
 ghost use Rattle.probe.specs.Traced.{wordOr0, callOf, startWords, releaseWords, tickWords, played, answersShown, traceWords, answersAfter};
 
-// How many bytes a word has.
-const WORD: usize = 8;
-
 // The length of the chooser's answer buffer: two words.
-const CHOICE: usize = 16;
+const CHOICE: usize = 2 * WORD;
 
 // What the chooser returns where nothing is refused.
 const A_RECORD: u32 = 1;
 
 // How many bytes a call of a trace has, three words, ..
-const CALL: usize = 24;
+const CALL: usize = 3 * WORD;
 
 // .. and how many its answer has, four words.
-const ANSWER: usize = 32;
+const ANSWER: usize = 4 * WORD;
 
 // The first word of a call that is a release.
 const RELEASE: u64 = 1;

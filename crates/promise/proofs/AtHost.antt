@@ -26,6 +26,7 @@ use Rattle.theory.proofs.Lists.{all-of-members, none-passes}
 use Rattle.table.specs.declared.Table.{Table}
 use Rattle.table.specs.declared.TableAnswer.{TableAnswer}
 use Rattle.table.specs.declared.TableAnswer.the-variants as table
+use Rattle.table.specs.Rows.{fromOneTo}
 use Rattle.table.specs.Tables.{tableRead}
 use Rattle.verdict.specs.declared.Verdict.{Verdict}
 use Rattle.verdict.specs.Demand.{tableDemand}
@@ -37,7 +38,6 @@ use Rattle.run.specs.declared.Released.{Released}
 use Rattle.run.specs.declared.Released.the-variants as release
 use Rattle.run.specs.declared.StartAnswer.the-variants as start
 use Rattle.run.specs.Runs.{rowInUse, costLimit, startAnswer, started}
-use Rattle.run.specs.Sound.{fromOneTo}
 use Rattle.run.specs.Release.{released}
 use Rattle.run.specs.Ticking.{ticked}
 use Rattle.run.specs.Advance.{Since, oneMore, ticksWhilePending}

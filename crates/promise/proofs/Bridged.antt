@@ -33,8 +33,8 @@ use Rattle.run.specs.Laws.{GaveDue}
 use Rattle.run.proofs.Fresh.{started-is-sound}
 use Rattle.run.proofs.Release.{Passed, each-release, release-keeps-sound, fresh-has-no-history, due-by-whole-history}
 use Rattle.run.proofs.Ticking.{Good, facts, counted, tick-too-late, tick-idle, tick-busy, idle-keeps, busy-keeps}
-use Rattle.promise.specs.Answers.{accepted, releaseSays, TickSays, idle, tickSays}
-use Rattle.promise.specs.Answers as says
+use Rattle.run.specs.Answers.{accepted, releaseSays, TickSays, idle, tickSays}
+use Rattle.run.specs.Answers as says
 use Rattle.promise.specs.Traces.{Call, Event, runAt, trace, clockOf, jobsIn}
 use Rattle.promise.proofs.Bridge.{ticksOf, Follows, Bridge}
 use Rattle.promise.proofs.Waiting.{follows-refused-release, follows-refused-tick, follows-accepted, follows-idle, follows-ran}

@@ -3,6 +3,7 @@ use Prim.Native.Nat.{ℕ, _≤_, _<_}
 use mathlib.Core.Path.{_≡_, refl}
 use mathlib.Core.List.{_∷_, flatten}
 use native.Mathlib.Omega.{arith}
+use Rattle.kinds.proofs.Apart.{impossible}
 use Rattle.numbers.specs.Reading as reading
 use Rattle.numbers.specs.Spelling as spelling
 use Rattle.theory.specs.DueTimes.{dueTime}
@@ -28,7 +29,7 @@ use Rattle.run.specs.Sound.{soundOf, jobFits, jobSound}
 use Rattle.run.specs.Release.{released}
 use Rattle.run.specs.Ticking.{ticked}
 use Rattle.replay.proofs.Playing.{release-adds-one}
-use Rattle.promise.specs.Answers.{accepted, releaseSays}
+use Rattle.run.specs.Answers.{accepted, releaseSays}
 use Rattle.promise.specs.Traces.{Call, runAt}
 use Rattle.promise.specs.Examples.{v1, v8}
 use Rattle.promise.specs.Cheats.{NotAllRefused, NotAllReleasesRefused, NotAlwaysFeasible, NoBlankWitness, NotAlwaysIdle, ReleasesCount}
@@ -49,7 +50,7 @@ not-always-feasible v judged = rw (one-verdict v8 v (verdict.Overloaded (record 
 witness-is-right : (t : Table) (a : TableAnswer) (w : Witness) → RightOfRead t a (verdict.Overloaded w)
     → (1 ≤ w .length) × (w .length < w .demand) × (w .demand ≡ tableDemand t (w .length))
 witness-is-right t (answer.Accepted period) w right = (right .0 .some-length, rw (right .1) (right .0 .fails), right .1)
-witness-is-right t (answer.Refused r) w right = absurd (let z : _≡_ {A = ℕ} 0 1 = cc in omega arith)
+witness-is-right t (answer.Refused r) w right = impossible cc
 
 pub no-blank-witness : NoBlankWitness
 no-blank-witness bytes v judged L units said =
@@ -72,7 +73,7 @@ not-always-idle = refl
 -- What says accepted was accepted.
 says-accepted : (r : Released) (serial due : ℕ) → releaseSays r ≡ accepted serial due → (a : Accepted) × (r ≡ release.Accepted a)
 says-accepted (release.Accepted a) serial due said = (a, refl)
-says-accepted (release.Refused r) serial due said = absurd (let z : _≡_ {A = ℕ} 0 1 = cc in omega arith)
+says-accepted (release.Refused r) serial due said = impossible cc
 
 pub releases-count : ReleasesCount
 unfolding runAt

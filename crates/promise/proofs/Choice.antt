@@ -11,6 +11,7 @@ use lib.Dec.{eqb}
 use lib.ListN.{length, getD, take}
 use borrow.Author.Tests.{le-leb, lt-leb, lt-ltb, ne-eqb}
 use Rattle.kinds.specs.Numbering.{maxTime}
+use Rattle.kinds.proofs.Apart.{impossible}
 use Rattle.theory.specs.Lists.{total, weightIf}
 use Rattle.theory.specs.Jobs.{Job}
 use Rattle.theory.proofs.Cases.{by-lt, by-test}
@@ -28,7 +29,8 @@ use Rattle.jobs.proofs.Laws.{choice-is-first, job-among-the-rest, place-holds-j
 use Rattle.run.specs.declared.Run.{Run}
 use Rattle.run.specs.Ticking.{ticked}
 use Rattle.run.proofs.Ticking.{counted}
-use Rattle.promise.specs.Answers.{idle, ran, hasFinished, tickSays}
+use Rattle.jobs.specs.Answers.{hasFinished}
+use Rattle.run.specs.Answers.{idle, ran, tickSays}
 use Rattle.promise.specs.Traces.{Call, Event, eventOf, runAt, trace, clockOf, jobsIn, unitsOf, unfinished}
 use Rattle.promise.specs.Choice.{IdleWhenAllHaveTheirCost, GoesFirst, RanFirst, EarliestDueFirst, lateAt, LateCountIsTheLate}
 use Rattle.promise.proofs.Bridge.{Bridge}
@@ -120,7 +122,7 @@ module _ {t : Table} {run : Run} {es : List Event} (b : Bridge t run es) where
     first-finishes =
         let owed = pending-is-owed b first first-pending in
         by-lt 1 (first .left)
-        (λ more. rw (lt-leb (first .left) 1 more) (λ e. absurd (let z : _≡_ {A = ℕ} 0 1 = cc in omega arith), λ e. absurd (omega arith)))
+        (λ more. rw (lt-leb (first .left) 1 more) (λ e. impossible cc, λ e. absurd (omega arith)))
         (λ last. rw (le-leb (first .left) 1 last) (λ e. omega arith, λ e. refl))
 
     -- So this is what a tick that runs it says.
@@ -139,7 +141,7 @@ module _ {t : Table} {run : Run} {es : List Event} (b : Bridge t run es) where
       (λ last. absurd (omega arith))
       (λ h none. (λ e. none-pending none, λ done. refl))
       (λ h some. (
-        λ e. absurd (let z : _≡_ {A = ℕ} 0 1 = cc in omega arith),
+        λ e. impossible cc,
         λ done. absurd (let owed = pending-is-owed b (first some) (first-pending some) in omega (arith, done (jobOf (first some)) (owed .was-accepted))),
       ))
 
@@ -147,8 +149,8 @@ module _ {t : Table} {run : Run} {es : List Event} (b : Bridge t run es) where
   pub ran-the-first : (serial : ℕ) (finished : Bool) → tickSays (ticked run .answer) ≡ ran serial finished → RanFirst es serial finished
   ran-the-first serial finished =
       each-tick run (b .sound) (λ step. tickSays (step .answer) ≡ ran serial finished → RanFirst es serial finished)
-      (λ last e. absurd (let z : _≡_ {A = ℕ} 0 1 = cc in omega arith))
-      (λ h none e. absurd (let z : _≡_ {A = ℕ} 0 1 = cc in omega arith))
+      (λ last e. impossible cc)
+      (λ h none e. impossible cc)
       (λ h some. rw (first-stands some) (λ e.
       let its-serial : first some .serial .0 ≡ serial = cc in
       let its-finish : hasFinished (ranOf (first some) .finished) ≡ finished = cc in

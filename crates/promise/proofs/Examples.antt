@@ -21,7 +21,7 @@ use Rattle.table.specs.declared.Table.{Table}
 use Rattle.table.specs.declared.TableAnswer.{TableAnswer}
 use Rattle.table.specs.declared.TableAnswer.the-variants as answer
 use Rattle.table.specs.Limits.{maxX, maxY, maxD, maxC}
-use Rattle.table.specs.Rows.{rowInRange}
+use Rattle.table.specs.Rows.{fromOneTo, rowInRange}
 use Rattle.table.proofs.Ranges.{both-true, in-range-of}
 use Rattle.table.specs.Tables.{tableRead, readRows}
 use Rattle.table.specs.Period.{firstMultiple, leastCommonMultiple}
@@ -35,7 +35,6 @@ use Rattle.verdict.specs.declared.Verdict.the-variants as verdict
 use Rattle.verdict.specs.Demand.{tableDemand, tableGrowth, largestD, largestOf}
 use Rattle.verdict.specs.Verdict.{RightOf, RightOfRead, Judged}
 use Rattle.verdict.proofs.Accepted.{accepted-is-known}
-use Rattle.run.specs.Sound.{fromOneTo}
 use Rattle.promise.specs.Examples.{dueTimesFrom, v1, v2, v3, v4, v5, v6, v7, v8, ExamplesHold}
 
 -- ---- looks that can be made by computing

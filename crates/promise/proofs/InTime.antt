@@ -36,7 +36,7 @@ use Rattle.due.proofs.Laws.{given-means}
 use Rattle.run.specs.declared.Run.{Run}
 use Rattle.run.specs.Runs.{rowAt, keptOf}
 use Rattle.run.proofs.Release.{each-release}
-use Rattle.promise.specs.Answers.{releaseSays, tickSays}
+use Rattle.run.specs.Answers.{releaseSays, tickSays}
 use Rattle.promise.specs.Traces.{Call, Event, runAt, eventOf, trace, clockOf, jobsIn, unitsOf}
 use Rattle.promise.specs.InTime.{SaidFeasible, InTime, NeverMore, OneJobASerial, ticksIn, ClockCountsTicks, DueTimesCome}
 use Rattle.promise.proofs.Bridge.{ticksOf, Bridge}

@@ -8,6 +8,7 @@ use mathlib.Core.List.{List, [], _∷_, flatten}
 use native.Mathlib.Omega.{arith}
 use lib.ListN.{length}
 use Rattle.kinds.specs.Numbering.{maxTime}
+use Rattle.kinds.proofs.Apart.{impossible}
 use Rattle.theory.specs.Lists.{All, total}
 use Rattle.theory.specs.Jobs.{Job, DistinctNames}
 use Rattle.theory.specs.Ticks.{had, noneTaken}
@@ -187,7 +188,7 @@ says-overloaded v L demand said = said-apart v (verdict.Overloaded (record { len
 overloaded-is-right : (t : Table) (a : TableAnswer) (w : Witness) → RightOfRead t a (verdict.Overloaded w)
     → (period : ℕ) × (a ≡ answer.Accepted period) × SmallestFailing (tableDemand t) (w .length)
 overloaded-is-right t (answer.Accepted period) w right = (period, refl, right .0)
-overloaded-is-right t (answer.Refused r) w right = absurd (let z : _≡_ {A = ℕ} 0 1 = cc in omega arith)
+overloaded-is-right t (answer.Refused r) w right = impossible cc
 
 pub no-order : NoOrder
 no-order bytes b v judged L demand said who =

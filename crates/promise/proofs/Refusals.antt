@@ -11,25 +11,26 @@ use lib.Dec.{leb, ltb}
 use lib.ListN.{length}
 use borrow.Author.Tests.{lt-ltb, le-ltb}
 use Rattle.kinds.specs.Numbering.{maxTime}
+use Rattle.kinds.proofs.Apart.{impossible}
 use Rattle.theory.specs.Lists.{total}
 use Rattle.theory.specs.DueTimes.{dueTime, dues}
 use Rattle.theory.specs.Sources.{own}
 use Rattle.theory.proofs.Cases.{by-lt, by-test}
 use Rattle.table.specs.declared.Table.{Table}
-use Rattle.table.specs.Rows.{rowInRange}
+use Rattle.table.specs.Rows.{fromOneTo, rowInRange}
 use Rattle.table.proofs.Ranges.{in-range-of}
 use Rattle.due.specs.Kept.{earlier, dueOf}
 use Rattle.due.proofs.Laws.{due-is-the-papers}
 use Rattle.jobs.specs.Places.{maxPlaces, jobsOf}
 use Rattle.run.specs.declared.Run.{Run}
 use Rattle.run.specs.Runs.{rowAt, costLimit, keptOf}
-use Rattle.run.specs.Sound.{fromOneTo, soundOf}
+use Rattle.run.specs.Sound.{soundOf}
 use Rattle.run.specs.Release.{released}
 use Rattle.run.specs.Ticking.{ticked}
 use Rattle.run.proofs.Release.{each-release}
 use Rattle.run.proofs.Ticking.{counted}
-use Rattle.promise.specs.Answers.{ReleaseSays, accepted, releaseSays, tickSays}
-use Rattle.promise.specs.Answers as says
+use Rattle.run.specs.Answers.{ReleaseSays, accepted, releaseSays, tickSays}
+use Rattle.run.specs.Answers as says
 use Rattle.promise.specs.Traces.{Call, Event, runAfter, eventOf, runAt, clockOf, jobsIn, unfinishedIn}
 use Rattle.promise.specs.Refusals.{nextDue, releaseAnswer, ReleasesByTheTrace, TicksByTheTrace, PlacesAreEnough, Refused, RefusedChangesNothing}
 use Rattle.promise.proofs.Bridge.{Bridge}
@@ -106,8 +107,8 @@ module _ {t : Table} {run : Run} {es : List Event} (b : Bridge t run es) where
       each-tick run (b .sound)
       (λ step. (tickSays (step .answer) ≡ says.TickSays.refused number place) ↔ ((number ≡ 10) × (place ≡ 0) × (clockOf es ≡ maxTime)))
       (λ last. (λ e. (cc, cc, omega arith), λ h. rw (h .0, h .1)))
-      (λ h none. (λ e. absurd (let z : _≡_ {A = ℕ} 0 1 = cc in omega arith), λ k. absurd (omega arith)))
-      (λ h some. (λ e. absurd (let z : _≡_ {A = ℕ} 0 1 = cc in omega arith), λ k. absurd (omega arith)))
+      (λ h none. (λ e. impossible cc, λ k. absurd (omega arith)))
+      (λ h some. (λ e. impossible cc, λ k. absurd (omega arith)))
 
 -- A refused call leaves the run as it was.
 pub refused-leaves-the-run : (run : Run) → soundOf run ≡ true → (c : Call) → Refused (eventOf run c) → runAfter run c ≡ run

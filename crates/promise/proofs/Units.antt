@@ -8,6 +8,7 @@ use mathlib.Core.List.{List, [], _∷_, List·Memᴰ, List·Memᴰ·not-nil, Mem
 use native.Mathlib.Omega.{arith}
 use lib.Dec.{eqb}
 use borrow.Author.Tests.{ltb-true, ltb-false, lt-ltb, eq-eqb, ne-eqb, eqb-false, not-true}
+use Rattle.kinds.proofs.Apart.{impossible}
 use Rattle.theory.specs.Lists.{All, total, weightIf}
 use Rattle.theory.specs.Jobs.{Job, named, weighed}
 use Rattle.theory.specs.Trace.{Waiting, units, Accounted, Fate, waits, over, served, ended}
@@ -24,8 +25,8 @@ use Rattle.jobs.proofs.Laws.{distinct-means}
 use Rattle.run.specs.declared.Run.{Run}
 use Rattle.run.specs.Sound.{Sound}
 use Rattle.run.proofs.Ticking.{facts}
-use Rattle.promise.specs.Answers.{idle, ran}
-use Rattle.promise.specs.Answers as says
+use Rattle.run.specs.Answers.{idle, ran}
+use Rattle.run.specs.Answers as says
 use Rattle.promise.specs.Traces.{Event, jobsIn, unitsOf, unfinished}
 use Rattle.promise.proofs.Bridge.{waitingOf, waitingIn, ticksOf, Bridge}
 
@@ -140,8 +141,7 @@ module _ {t : Table} {run : Run} {es : List Event} (b : Bridge t run es) where
   not-its j m h p k e =
       let same : jobOf p ≡ j = one-job-a-name (b .distinct) (pending-is-owed p k .was-accepted) m (sym e) in
       let open-still : unfinished es j ≡ true = subst (λ i. unfinished es i ≡ true) same (pending-is-unfinished p k) in
-      let z : _≡_ {A = ℕ} 0 1 = cc in
-      omega arith
+      impossible cc
 
   module _ (w : Job → ℕ) where
     -- What an accepted job weighs for a pending one: its weight, if it has the serial of that.

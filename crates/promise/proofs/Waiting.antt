@@ -20,8 +20,8 @@ use Rattle.jobs.specs.Units.{worked}
 use Rattle.jobs.specs.Laws.{IsFirst, unitAt}
 use Rattle.run.specs.declared.Run.{Run}
 use Rattle.run.specs.Ticking.{runWith}
-use Rattle.promise.specs.Answers.{accepted, idle, ran}
-use Rattle.promise.specs.Answers as says
+use Rattle.run.specs.Answers.{accepted, idle, ran}
+use Rattle.run.specs.Answers as says
 use Rattle.promise.specs.Traces.{Event, clockOf, jobsIn}
 use Rattle.promise.proofs.Bridge.{waitingOf, waitingIn, ticksOf, Follows}
 

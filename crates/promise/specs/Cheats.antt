@@ -9,7 +9,7 @@ use Rattle.verdict.specs.declared.Verdict.{Verdict}
 use Rattle.verdict.specs.Demand.{tableDemand}
 use Rattle.verdict.specs.Verdict.{Judged, verdictSays}
 use Rattle.run.specs.Release.{released}
-use Rattle.promise.specs.Answers.{accepted, ran, releaseSays}
+use Rattle.run.specs.Answers.{accepted, ran, releaseSays}
 use Rattle.promise.specs.Traces.{Call, runAt, trace, unfinishedIn}
 use Rattle.promise.specs.Choice.{nextTick}
 use Rattle.promise.specs.Examples.{v1, v3, v8}

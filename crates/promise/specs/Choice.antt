@@ -11,7 +11,7 @@ use Rattle.numbers.specs.Laws.{Bytes}
 use Rattle.theory.specs.Lists.{total, weightIf}
 use Rattle.theory.specs.Jobs.{Job}
 use Rattle.run.specs.Ticking.{ticked}
-use Rattle.promise.specs.Answers.{TickSays, idle, ran, tickSays}
+use Rattle.run.specs.Answers.{TickSays, idle, ran, tickSays}
 use Rattle.promise.specs.Traces.{Call, Event, runAt, trace, clockOf, jobsIn, unitsOf, unfinished}
 
 -- What the next tick answers after some calls, and its late count.

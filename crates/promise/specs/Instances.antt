@@ -8,8 +8,8 @@ use mathlib.Core.List.{List, [], _∷_}
 use Rattle.theory.specs.Lists.{All}
 use Rattle.theory.specs.Jobs.{Job}
 use Rattle.table.specs.Tables.{tableRead}
-use Rattle.promise.specs.Answers.{accepted, idle, ran}
-use Rattle.promise.specs.Answers as says
+use Rattle.run.specs.Answers.{accepted, idle, ran}
+use Rattle.run.specs.Answers as says
 use Rattle.promise.specs.Traces.{Call, Event, trace, clockOf, jobsIn, unitsOf}
 use Rattle.promise.specs.Share.{costsIn, consumedIn}
 use Rattle.promise.specs.NoOrder.{namedJobs, unitsBy}

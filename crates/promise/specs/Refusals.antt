@@ -13,13 +13,13 @@ use Rattle.numbers.specs.Laws.{Bytes}
 use Rattle.theory.specs.DueTimes.{dueTime, dues}
 use Rattle.theory.specs.Sources.{own}
 use Rattle.table.specs.declared.Table.{Table}
+use Rattle.table.specs.Rows.{fromOneTo}
 use Rattle.table.specs.Tables.{tableRead}
 use Rattle.jobs.specs.Places.{maxPlaces}
 use Rattle.run.specs.Runs.{rowInUse, rowAt, costLimit}
-use Rattle.run.specs.Sound.{fromOneTo}
 use Rattle.run.specs.Release.{released}
-use Rattle.promise.specs.Answers.{ReleaseSays, accepted, releaseSays, TickSays}
-use Rattle.promise.specs.Answers as says
+use Rattle.run.specs.Answers.{ReleaseSays, accepted, releaseSays, TickSays}
+use Rattle.run.specs.Answers as says
 use Rattle.promise.specs.Traces.{Call, Event, runAt, eventOf, trace, clockOf, jobsIn, unfinishedIn}
 use Rattle.promise.specs.Choice.{nextTick}
 

@@ -1,6 +1,6 @@
 -- What a replay answers and leaves in the log buffer, case by case: how the play ended, whether its log fits, and whether a job is late.
 -- (docs/RULES.md, sections 8.8 to 8.17, 9.5 and 10.)
-use Prim.Native.Nat.{ℕ, zero, suc, _+_, _-_, _≤_, _<_}
+use Prim.Native.Nat.{ℕ, _-_, _≤_, _<_}
 use mathlib.Core.Path.{_≡_, refl, sym, ap, ap₂, subst, _∙_}
 use mathlib.Core.Logic.{_⊎_, inl, inr, ⊎-elim}
 use mathlib.Core.List.{List, [], _∷_, _++_, flatten, List·Memᴰ·head, List·Memᴰ·tail, List·Memᴰ·cases-cons, List·Memᴰ·not-nil}
@@ -18,7 +18,6 @@ use Rattle.table.specs.declared.TableAnswer.the-variants as answer
 use Rattle.table.specs.Tables.{tableRead}
 use Rattle.due.specs.declared.Due.the-variants as due
 use Rattle.run.specs.Runs.{started}
-use Rattle.run.specs.Advance.{Since, ticksWhilePending}
 use Rattle.log.specs.Laws.{spelledLog}
 use Rattle.replay.specs.declared.Replayed.{Replayed}
 use Rattle.replay.specs.declared.Replayed.the-variants as replayed
@@ -27,6 +26,7 @@ use Rattle.replay.specs.Play.{Played, whole, stopped, finalTicks, played
 use Rattle.replay.specs.Outcome.{lateFinishes, replayOf}
 use Rattle.replay.specs.Answers as laws
 use Rattle.replay.specs.Answers.{AllInTime, Ended, LogHolds}
+use Rattle.replay.proofs.Ticking.{no-more}
 use Rattle.replay.proofs.Laws.{log-reads-back}
 use Rattle.replay.proofs.Stopping.{stopped-by}
 
@@ -183,15 +183,10 @@ pub log-after-refusal : laws.LogAfterRefusal
 log-after-refusal t s log r said = rw said (length-replicate (length log) 0, λ i h. getD-replicate (length log) i 0 0 h)
 
 -- With nothing pending no final tick is made, ..
-no-final-tick : (n : ℕ) (s : Since) → s .run .pending .count ≡ 0 → ticksWhilePending n s ≡ s
-unfolding ticksWhilePending
-no-final-tick zero s none = refl
-no-final-tick (suc n) s none = rw (eq-eqb (s .run .pending .count) 0 none)
-
 ends-at-once : (end : ℕ) (p : Progress) → p .since .run .pending .count ≡ 0 → finalTicks end p ≡ whole p
 unfolding finalTicks
 ends-at-once end p none =
-    rw (no-final-tick (maxTime - p .since .run .clock .0) (p .since) none, eq-eqb (p .since .run .pending .count) 0 none)
+    rw (no-more (maxTime - p .since .run .clock .0) (p .since) none, eq-eqb (p .since .run .pending .count) 0 none)
 
 -- .. as it is with a fresh run.
 nothing-played : (t : List ℕ) (period : ℕ) → tableRead t .answer ≡ answer.Accepted period → played t [] ≡ whole (begun (started t .run))

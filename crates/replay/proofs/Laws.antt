@@ -8,6 +8,7 @@ use lib.ListN.{length, getD}
 use borrow.Author.Tests.{le-leb, lt-leb, lt-ltb, le-ltb}
 use Rattle.kinds.specs.Numbering.{Said, maxTime}
 use Rattle.kinds.specs.declared.Finish.{Finish}
+use Rattle.kinds.proofs.Apart.{impossible}
 use Rattle.kinds.proofs.Numbering.{numbers-differ, never-zero, no-answer}
 use Rattle.theory.proofs.Cases.{by-lt}
 use Rattle.table.proofs.Each.{stands-in}
@@ -115,7 +116,7 @@ module _ (run : Run) (f : Finish) (good : Good run) (in-time : run .clock .0 < m
       by-lt 0 (run .pending .count)
       (λ some. by-lt 1 (first .left)
       (λ more. absurd (let none = rw (lt-ltb 0 (run .pending .count) some, lt-leb (first .left) 1 more) at e in
-      let z : _≡_ {A = ℕ} 0 1 = cc in omega arith))
+      impossible cc))
       (λ last.
       let its : f ≡ finishAt (run .clock .0 + 1) first = let one = last-unit some last in cc in
       let sound = first-sound run good some in
@@ -125,7 +126,7 @@ module _ (run : Run) (f : Finish) (good : Good run) (in-time : run .clock .0 < m
         its-own = record { serial = refl; row = refl; release = refl; due = refl; after-release = omega (arith, sound .released) };
         at-the-clock = sym (tick-clock run good in-time);
       })))
-      (λ none. absurd (let nothing = rw (le-ltb 0 (run .pending .count) none) at e in let z : _≡_ {A = ℕ} 0 1 = cc in omega arith))
+      (λ none. let nothing = rw (le-ltb 0 (run .pending .count) none) at e in impossible cc)
 
   from-last-unit : LastUnit run f → finishedBy run ≡ f ∷ []
   from-last-unit l =
@@ -134,7 +135,7 @@ module _ (run : Run) (f : Finish) (good : Good run) (in-time : run .clock .0 < m
       let clock : f .finish .0 ≡ run .clock .0 + 1 = l .at-the-clock ∙ tick-clock run good in-time in
       last-unit some (omega (arith, l .one-left)) ∙ ap (λ (g : Finish). g ∷ []) (its-record first f (run .clock .0 + 1) (l .its-own) clock))
       (λ none. absurd (let nothing = rw (tick-idle run (good .0) in-time (omega arith)) at (l .answered) in
-      let z : _≡_ {A = ℕ} 0 1 = cc in omega arith))
+      impossible cc))
 
 pub finish-is-the-last-unit : laws.FinishIsTheLastUnit
 finish-is-the-last-unit run f whole sound in-time = (to-last-unit run f (sound, whole) in-time, from-last-unit run f (sound, whole) in-time)

@@ -6,6 +6,7 @@ use mathlib.Core.List.{List, [], _∷_, _++_, flatten}
 use native.Mathlib.Omega.{arith}
 use lib.ListN.{length, length-append, take-append-drop}
 use borrow.Author.Tests.{le-leb, lt-leb, eq-eqb, ne-eqb}
+use Rattle.kinds.proofs.Apart.{impossible}
 use Rattle.theory.proofs.Cases.{by-lt, by-test}
 use Rattle.kinds.specs.declared.Finish.{Finish}
 use Rattle.kinds.specs.declared.Refusal.the-variants.{NoRoom}
@@ -28,7 +29,7 @@ logs-none log = record {
   within = omega arith;
   same-length = refl;
   holds = λ e. record { up-to = refl; within = omega arith; same-length = refl; stands = refl };
-  no-room = λ e. absurd (let z : _≡_ {A = ℕ} 0 1 = cc in omega arith);
+  no-room = λ e. impossible cc;
 }
 
 -- No more are late than have finished.
@@ -57,7 +58,7 @@ module _ {fs : List Finish} {log₀ log : List ℕ} {l : Logged} (w : Logs fs lo
     late = rw (late-finishes-more fs f, w .late);
     within = w .within;
     same-length = w .same-length;
-    holds = λ e. absurd (let z : _≡_ {A = ℕ} 0 1 = cc in omega arith);
+    holds = λ e. impossible cc;
     no-room = λ e. omega (arith, w .no-room full, length-of-one-more fs f);
   })
 
@@ -72,7 +73,7 @@ module _ {fs : List Finish} {log₀ log : List ℕ} {l : Logged} (w : Logs fs lo
           within = more .within;
           same-length = more .same-length;
           holds = λ e. more;
-          no-room = λ e. absurd (let z : _≡_ {A = ℕ} 0 1 = cc in omega arith);
+          no-room = λ e. impossible cc;
         })
 
     -- .. or the log is full from now on.
@@ -83,7 +84,7 @@ module _ {fs : List Finish} {log₀ log : List ℕ} {l : Logged} (w : Logs fs lo
           late = rw (late-finishes-more fs f, w .late);
           within = w .within;
           same-length = w .same-length;
-          holds = λ e. absurd (let z : _≡_ {A = ℕ} 0 1 = cc in omega arith);
+          holds = λ e. impossible cc;
           no-room = λ e. omega (arith, known .up-to, known .within, known .same-length, length-of-one-more fs f);
         })
 

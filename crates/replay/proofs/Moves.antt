@@ -10,6 +10,7 @@ use borrow.Author.Tests.{le-leb, lt-leb, lt-ltb, le-ltb}
 use Rattle.kinds.specs.Numbering.{maxTime}
 use Rattle.kinds.specs.declared.Finish.{Finish}
 use Rattle.kinds.specs.declared.Tick.{Tick}
+use Rattle.kinds.proofs.Apart.{impossible}
 use Rattle.numbers.specs.Laws.{Bytes}
 use Rattle.theory.proofs.Cases.{by-lt}
 use Rattle.theory.proofs.DueTimes.{due-time-at-least-d}
@@ -191,7 +192,7 @@ module _ (p : Progress) (row cost : ℕ) (a : Accepted) (good : Good (p .since .
       → released before row cost .answer ≡ release.Accepted a → Q (seenOf (releaseMore p row cost (a .due)))
   release-moves Q moves q =
       each-release before row cost (λ step. step .answer ≡ release.Accepted a → Q (seenAfter step))
-      (λ r e. absurd (let z : _≡_ {A = ℕ} 0 1 = cc in omega arith))
+      (λ r e. impossible cc)
       (λ t passed given e.
       let same : t ≡ a .due = cc in
       rw (one-pending-more t passed given, ← same) (moves .release (seenOf p) (newJob before row cost t) refl (due-later t passed given) q))

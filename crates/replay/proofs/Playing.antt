@@ -9,6 +9,7 @@ use native.Mathlib.Omega.{arith}
 use lib.Dec.{eqb, ltb}
 use lib.ListN.{length, getD, length-append, length-set}
 use borrow.Author.Tests.{leb-true, le-leb, lt-ltb, le-ltb}
+use Rattle.kinds.proofs.Apart.{impossible}
 use Rattle.theory.proofs.Cases.{by-lt, by-test}
 use Rattle.kinds.specs.Numbering.{maxTime}
 use Rattle.kinds.specs.declared.Finish.{Finish}
@@ -18,6 +19,7 @@ use Rattle.numbers.specs.declared.Number.{Number}
 use Rattle.numbers.specs.declared.NumberRead.{NumberRead}
 use Rattle.numbers.specs.declared.NumberRead.the-variants as number
 use Rattle.table.specs.declared.Table.{Table}
+use Rattle.table.specs.Rows.{fromOneTo}
 use Rattle.jobs.specs.declared.Job.{Job}
 use Rattle.jobs.specs.Places.{maxPlaces, noJob, jobsOf, used, put}
 use Rattle.jobs.specs.Choice.{firstPlace}
@@ -29,7 +31,7 @@ use Rattle.run.specs.declared.Run.{Run}
 use Rattle.run.specs.declared.Accepted.{Accepted}
 use Rattle.run.specs.declared.Released.the-variants as release
 use Rattle.run.specs.Runs.{costLimit}
-use Rattle.run.specs.Sound.{fromOneTo, SoundJob}
+use Rattle.run.specs.Sound.{SoundJob}
 use Rattle.run.specs.Ticking.{runWith, ticked}
 use Rattle.run.specs.Release.{released}
 use Rattle.run.specs.Advance.{finishedBy, Since, oneMore, ticks, ticksWhilePending, sinceNow}
@@ -221,13 +223,13 @@ Passed t time n r = PassedBy (t .count) (λ row cost. fromOneTo (costLimit t row
 number-passed : (v : NumberRead) (k : Number → Tested) {r : Ready} → onNumber v k ≡ tested.Ready r
     → (n : Number) × (v ≡ number.Number n) × (k n ≡ tested.Ready r)
 number-passed (number.Number n) k e = (n, refl, e)
-number-passed (number.Refused r) k e = absurd (let z : _≡_ {A = ℕ} 0 1 = cc in omega arith)
+number-passed (number.Refused r) k e = impossible cc
 
 -- .. and after a test because it says yes.
 test-passed : (test : Bool) (then : Tested) (refusal : Refusal) (place : ℕ) {r : Ready} → cond test then (refusedAt refusal place) ≡ tested.Ready r
     → (test ≡ true) × (then ≡ tested.Ready r)
 test-passed true then refusal place e = (refl, e)
-test-passed false then refusal place e = absurd (let z : _≡_ {A = ℕ} 0 1 = cc in omega arith)
+test-passed false then refusal place e = impossible cc
 
 -- So a record that is ready passed them all.
 pub ready-passed-by : (rows : ℕ) (allows : (row cost : ℕ) → Bool) (time : ℕ) (n : Numbers) (r : Ready) → testedBy rows allows time n ≡ tested.Ready r
@@ -285,7 +287,7 @@ unfolding put
 release-adds-one run row cost a =
     each-release run row cost
     (λ step. step .answer ≡ release.Accepted a → (step .run .pending .count ≡ run .pending .count + 1) × (step .run .next .0 ≡ run .next .0 + 1))
-    (λ r e. absurd (let z : _≡_ {A = ℕ} 0 1 = cc in omega arith))
+    (λ r e. impossible cc)
     (λ t p given e. (rw (lt-ltb (run .pending .count) maxPlaces (p .room)), refl))
 
 -- What a release that is accepted makes of what had happened.

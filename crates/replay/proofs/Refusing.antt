@@ -10,6 +10,7 @@ use Rattle.kinds.specs.Numbering.{maxTime, refusalNumber}
 use Rattle.kinds.specs.declared.Refusal.the-variants.{NoSuchRow, CostOutOfRange, TimeTooLate, ScriptMisspelled}
 use Rattle.kinds.specs.declared.Refusal.{Refusal}
 use Rattle.kinds.specs.declared.RefusedAt.{RefusedAt}
+use Rattle.kinds.proofs.Apart.{impossible}
 use Rattle.kinds.proofs.Numbering.{numbers-differ}
 use Rattle.numbers.specs.declared.Number.{Number}
 use Rattle.numbers.specs.declared.NumberRead.{NumberRead}
@@ -42,7 +43,7 @@ by-number {G} s at read unread = by-answer (readAt s at) refl
   where
     by-answer : (v : NumberRead) → readAt s at ≡ v → G
     by-answer (number.Number n) e = read n e
-    by-answer (number.Refused r) e = unread (λ n f. let z : _≡_ {A = ℕ} 0 1 = cc in omega arith)
+    by-answer (number.Refused r) e = unread (λ n f. impossible cc)
 
 -- Of a script, what can't be read is refused with 14, at its start.
 none-there : (s : List ℕ) (at : ℕ) → Unreadable s at → scriptNumber s at ≡ number.Refused (record { refusal = ScriptMisspelled; place = at })

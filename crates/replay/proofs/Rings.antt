@@ -14,6 +14,7 @@ use lib.ListN.{getD-replicate, drop-of-length-le, List·getD-append, List·getD-
 use lib.Seq.{length-take-le, take-all, take-append-seam, take-set-le, take-set-lt, take-suc-set, drop-append-le, drop-drop, drop-set-lt, drop-set-add}
 use lib.Seq.{getD-take, getD-drop, getD-set-same, getD-set-other}
 use borrow.Author.Tests.{lt-ltb, le-ltb}
+use Rattle.kinds.proofs.Apart.{impossible}
 use Rattle.theory.proofs.Cases.{by-lt, by-eq}
 use Rattle.kinds.specs.Numbering.{maxTime}
 use Rattle.kinds.specs.declared.Tick.{Tick}
@@ -265,7 +266,7 @@ module _ {g : Ring} {row : ℕ} {r : Row} {clock : ℕ} (fits : Fits g row r clo
   refused : ((k : Kept) → KeptAt g row (r .x) k → maxTime < byRule k r clock) → Gives g row r clock (due.Refused DueTooLate) g
   refused late = record {
     by-kept = λ k kept. sym (too-late-means k r clock .1 (fits .in-range, late k kept));
-    keeps = λ k t kept e. absurd (let z : _≡_ {A = ℕ} 0 1 = cc in omega arith);
+    keeps = λ k t kept e. impossible cc;
     others = λ other x k ne few kept. kept;
   }
 

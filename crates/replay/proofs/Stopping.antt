@@ -25,7 +25,7 @@ use Rattle.table.specs.declared.TableAnswer.{TableAnswer}
 use Rattle.table.specs.declared.TableAnswer.the-variants as answer
 use Rattle.table.specs.Limits.{maxRows, maxPeriod, maxX, maxY, maxD, maxC}
 use Rattle.table.specs.Period.{periodOf}
-use Rattle.table.specs.Rows.{rowInRange, withinLimit, ruleOfX, ruleOfY, ruleOfD, ruleOfC, readValue, readRow}
+use Rattle.table.specs.Rows.{fromOneTo, rowInRange, withinLimit, ruleOfX, ruleOfY, ruleOfD, ruleOfC, readValue, readRow}
 use Rattle.table.specs.Rows as value
 use Rattle.table.specs.Tables.{Rows, rows, inFront, afterRow, readRows, afterRows, afterCount, tableRead}
 use Rattle.due.specs.declared.Due.{Due}
@@ -37,7 +37,7 @@ use Rattle.run.specs.declared.Run.{Run}
 use Rattle.run.specs.declared.Released.{Released}
 use Rattle.run.specs.declared.Released.the-variants as release
 use Rattle.run.specs.Runs.{freshRun, rowInUse, rowAt, costLimit, keptOf}
-use Rattle.run.specs.Sound.{fromOneTo, soundOf}
+use Rattle.run.specs.Sound.{soundOf}
 use Rattle.run.specs.Release.{atDue, released}
 use Rattle.run.specs.Advance.{ticks}
 use Rattle.run.proofs.Ticking.{Good}

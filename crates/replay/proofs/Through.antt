@@ -10,6 +10,7 @@ use lib.ListN.{length}
 use borrow.Author.Tests.{eqb-true, eqb-false}
 use Rattle.kinds.specs.Numbering.{maxTime}
 use Rattle.kinds.specs.declared.Tick.{Tick}
+use Rattle.kinds.proofs.Apart.{impossible}
 use Rattle.numbers.specs.Laws.{Bytes}
 use Rattle.theory.proofs.Cases.{by-test}
 use Rattle.run.specs.declared.Accepted.{Accepted}
@@ -72,12 +73,12 @@ module _ (p : Progress) (n : Numbers) (q : Progress) (next : ℕ) where
       → afterRelease (n .gap .place) r (tickedTo (r .time .0) p) a ≡ goes-on q next → Went p n q next
   by-answer r passed (release.Accepted a) e went =
       record { ready = r; passed = passed; answer = a; answered = e; reached = cc; goes-on-after = cc }
-  by-answer r passed (release.Refused f) e went = absurd (let z : _≡_ {A = ℕ} 0 1 = cc in omega arith)
+  by-answer r passed (release.Refused f) e went = impossible cc
 
   by-tests : (t : Tested) → testedNumbers (p .since .run .table) (p .since .run .clock .0) n ≡ t
       → afterTests (n .gap .place) p t ≡ goes-on q next → Went p n q next
   by-tests (tested.Ready r) e went = by-answer r (ready-passed (p .since .run .table) (p .since .run .clock .0) n r e) _ refl went
-  by-tests (tested.Refused f) e went = absurd (let z : _≡_ {A = ℕ} 0 1 = cc in omega arith)
+  by-tests (tested.Refused f) e went = impossible cc
 
   pub went-on : stepped p n ≡ goes-on q next → Went p n q next
   unfolding stepped
@@ -97,7 +98,7 @@ by-record {G} n s at p q e ended further =
   where
     after : at ≢ length s → (step : Step) → stepped p (numbersAt s at) ≡ step → andThen step (λ m next. playedFrom n s next m) ≡ whole q → G
     after ne (goes-on m next) g rest = further ne m next (went-on p (numbersAt s at) m next g) rest
-    after ne (stops r) g rest = absurd (let z : _≡_ {A = ℕ} 0 1 = cc in omega arith)
+    after ne (stops r) g rest = impossible cc
 
 -- The final ticks came to the end: nothing is pending.
 pub came-to-the-end : (end : ℕ) (p q : Progress) → finalTicks end p ≡ whole q
@@ -107,7 +108,7 @@ came-to-the-end end p q e =
     let last : Progress = record { since = ticksWhilePending (maxTime - p .since .run .clock .0) (p .since); accepted = p .accepted } in
     by-test (eqb (last .since .run .pending .count) 0)
     (λ t. let same : last ≡ q = let ended = rw t at e in cc in (same, rw (← same) (eqb-true _ _ t)))
-    (λ f. absurd (let ended = rw f at e in let z : _≡_ {A = ℕ} 0 1 = cc in omega arith))
+    (λ f. let ended = rw f at e in impossible cc)
 
 -- A replay that came to its end was started.
 pub was-started : (t s : List ℕ) (p : Progress) → played t s ≡ whole p → playedOn s (started t .run) ≡ whole p
@@ -116,7 +117,7 @@ was-started t s p e = once (started t .answer) e
   where
     once : (a : StartAnswer) → onceStarted s (started t .run) a ≡ whole p → playedOn s (started t .run) ≡ whole p
     once start.Ready e₂ = e₂
-    once (start.Refused r) e₂ = absurd (let z : _≡_ {A = ℕ} 0 1 = cc in omega arith)
+    once (start.Refused r) e₂ = impossible cc
 
 -- ---- what is kept all through
 

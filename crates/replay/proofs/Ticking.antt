@@ -180,7 +180,7 @@ one-and-the-rest until clock s h some =
     rw (many, ne-eqb (s .run .pending .count) 0 (λ e. omega arith))
 
 -- Where nothing is, they are none.
-no-more : (n : ℕ) (s : Since) → s .run .pending .count ≡ 0 → ticksWhilePending n s ≡ s
+pub no-more : (n : ℕ) (s : Since) → s .run .pending .count ≡ 0 → ticksWhilePending n s ≡ s
 unfolding ticksWhilePending
 no-more zero s e = refl
 no-more (suc n) s e = rw (eq-eqb (s .run .pending .count) 0 e)

@@ -8,6 +8,7 @@ use lib.Dec.{leb, ltb}
 use lib.ListN.{length, length-append, length-drop}
 use lib.Seq.{length-take-le}
 use borrow.Author.Tests.{leb-true, ltb-true, le-leb, lt-leb, lt-ltb, le-ltb}
+use Rattle.kinds.proofs.Apart.{impossible}
 use Rattle.theory.proofs.Cases.{by-test}
 use Rattle.kinds.specs.Numbering.{maxTime}
 use Rattle.kinds.specs.declared.Finish.{Finish}
@@ -23,8 +24,8 @@ use Rattle.log.specs.Log.{writtenRecord}
 use Rattle.log.specs.Laws.{RecordBehind}
 use Rattle.log.proofs.Laws.{record-written, log-kept}
 use Rattle.table.specs.declared.Table.{Table}
+use Rattle.table.specs.Rows.{fromOneTo}
 use Rattle.run.specs.Runs.{costLimit}
-use Rattle.run.specs.Sound.{fromOneTo}
 use Rattle.replay.specs.declared.Placed.{Placed}
 use Rattle.replay.specs.declared.Numbers.{Numbers}
 use Rattle.replay.specs.declared.Ready.{Ready}
@@ -135,7 +136,7 @@ refused-after-test false then instead other e f = e
 refused-at-cost : (some within : Bool) (asked : Ready) (place : ℕ) {r : RefusedAt}
     → cond some (tested.Ready asked) (refusedAt CostOutOfRange place) ≡ tested.Refused r
     → cond (some && within) (tested.Ready asked) (refusedAt CostOutOfRange place) ≡ tested.Refused r
-refused-at-cost true within asked place e = absurd (let z : _≡_ {A = ℕ} 0 1 = cc in omega arith)
+refused-at-cost true within asked place e = impossible cc
 refused-at-cost false within asked place e = e
 
 module _ (t : Table) (time : ℕ) (n : Numbers) where

@@ -10,8 +10,8 @@ use Rattle.numbers.specs.declared.Number.{Number}
 use Rattle.numbers.specs.declared.NumberRead.{NumberRead}
 use Rattle.numbers.specs.declared.NumberRead.the-variants as number
 use Rattle.table.specs.declared.Table.{Table}
+use Rattle.table.specs.Rows.{fromOneTo}
 use Rattle.run.specs.Runs.{costLimit}
-use Rattle.run.specs.Sound.{fromOneTo}
 use Rattle.script.specs.Records.{scriptNumber}
 use Rattle.replay.specs.declared.Placed.{Placed}
 use Rattle.replay.specs.declared.Numbers.{Numbers}

@@ -1,12 +1,18 @@
--- No answer of a start and of many ticks is numbered 0, and different answers say different things.
-use Prim.Native.Nat.{ℕ}
-use mathlib.Core.Path.{_≡_, refl, ap}
-use native.Mathlib.Omega.{arith}
-use Rattle.kinds.specs.Numbering.{NeverNumberedZero, SaysApart}
-use Rattle.kinds.proofs.Numbering.{never-zero, refusals-apart, plain-refusals-apart}
+-- No answer of a run's calls is numbered 0, and different answers say different things.
+use Prim.Native.Nat.{ℕ, _≤_}
+use mathlib.Core.Path.{_≡_, refl, sym, ap, ap₂}
+use Rattle.kinds.specs.Numbering.{refusalNumber, NeverNumberedZero, SaysApart}
+use Rattle.kinds.proofs.Apart.{impossible}
+use Rattle.kinds.proofs.Numbering.{numbers-differ, never-zero, refusals-apart, plain-refusals-apart}
+use Rattle.jobs.specs.declared.Finished.{Finished}
+use Rattle.jobs.proofs.Answers.{finished-apart}
 use Rattle.run.specs.declared.StartAnswer.the-variants as start
+use Rattle.run.specs.declared.Released.{Released}
+use Rattle.run.specs.declared.Released.the-variants as release
+use Rattle.run.specs.declared.Ticked.{Ticked}
+use Rattle.run.specs.declared.Ticked.the-variants as tick
 use Rattle.run.specs.declared.AdvanceAnswer.the-variants as advance
-use Rattle.run.specs.Answers.{startSays, advanceSays, RunsNeverZero, RunsSaidApart}
+use Rattle.run.specs.Answers.{startSays, ReleaseSays, releaseSays, TickSays, tickSays, advanceSays, RunsNeverZero, RunsSaidApart}
 
 start-never-zero : NeverNumberedZero startSays
 start-never-zero start.Ready = tt
@@ -16,20 +22,51 @@ advance-never-zero : NeverNumberedZero advanceSays
 advance-never-zero advance.Done = tt
 advance-never-zero (advance.Refused r) = never-zero r
 
+release-never-zero : (a : Released) (number place : ℕ) → releaseSays a ≡ ReleaseSays.refused number place → 1 ≤ number
+release-never-zero (release.Accepted a) number place e = impossible cc
+release-never-zero (release.Refused r) number place e = let its : refusalNumber r ≡ number = cc in rw (sym its) (never-zero r)
+
+tick-never-zero : (a : Ticked) (number place : ℕ) → tickSays a ≡ TickSays.refused number place → 1 ≤ number
+tick-never-zero tick.Idle number place e = impossible cc
+tick-never-zero (tick.Ran r) number place e = impossible cc
+tick-never-zero (tick.Refused r) number place e = let its : refusalNumber r ≡ number = cc in rw (sym its) (never-zero r)
+
 pub runs-never-zero : RunsNeverZero
-runs-never-zero = (start-never-zero, advance-never-zero)
+runs-never-zero = (start-never-zero, release-never-zero, tick-never-zero, advance-never-zero)
 
 start-apart : SaysApart startSays
 start-apart start.Ready start.Ready e = refl
-start-apart start.Ready (start.Refused r) e = absurd (let z : _≡_ {A = ℕ} 0 1 = cc in omega arith)
-start-apart (start.Refused q) start.Ready e = absurd (let z : _≡_ {A = ℕ} 0 1 = cc in omega arith)
+start-apart start.Ready (start.Refused r) e = impossible cc
+start-apart (start.Refused q) start.Ready e = impossible cc
 start-apart (start.Refused q) (start.Refused r) e = ap start.Refused (refusals-apart q r e)
+
+release-apart : (a b : Released) → releaseSays a ≡ releaseSays b → a ≡ b
+release-apart (release.Accepted a) (release.Accepted b) e =
+    let serial : a .serial .0 ≡ b .serial .0 = cc in
+    let due : a .due .0 ≡ b .due .0 = cc in
+    ap₂ (λ (s d : ℕ). release.Accepted (record { serial = record { 0 = s }; due = record { 0 = d } })) serial due
+release-apart (release.Accepted a) (release.Refused r) e = impossible cc
+release-apart (release.Refused q) (release.Accepted b) e = impossible cc
+release-apart (release.Refused q) (release.Refused r) e = ap release.Refused (numbers-differ q r cc)
+
+tick-apart : (a b : Ticked) → tickSays a ≡ tickSays b → a ≡ b
+tick-apart tick.Idle tick.Idle e = refl
+tick-apart tick.Idle (tick.Ran r) e = impossible cc
+tick-apart tick.Idle (tick.Refused r) e = impossible cc
+tick-apart (tick.Ran q) tick.Idle e = impossible cc
+tick-apart (tick.Ran q) (tick.Ran r) e =
+    let serial : q .serial .0 ≡ r .serial .0 = cc in
+    ap₂ (λ (s : ℕ) (f : Finished). tick.Ran (record { serial = record { 0 = s }; finished = f })) serial (finished-apart (q .finished) (r .finished) cc)
+tick-apart (tick.Ran q) (tick.Refused r) e = impossible cc
+tick-apart (tick.Refused q) tick.Idle e = impossible cc
+tick-apart (tick.Refused q) (tick.Ran r) e = impossible cc
+tick-apart (tick.Refused q) (tick.Refused r) e = ap tick.Refused (numbers-differ q r cc)
 
 advance-apart : SaysApart advanceSays
 advance-apart advance.Done advance.Done e = refl
-advance-apart advance.Done (advance.Refused r) e = absurd (let z : _≡_ {A = ℕ} 0 1 = cc in omega arith)
-advance-apart (advance.Refused q) advance.Done e = absurd (let z : _≡_ {A = ℕ} 0 1 = cc in omega arith)
+advance-apart advance.Done (advance.Refused r) e = impossible cc
+advance-apart (advance.Refused q) advance.Done e = impossible cc
 advance-apart (advance.Refused q) (advance.Refused r) e = ap advance.Refused (plain-refusals-apart q r e)
 
 pub runs-said-apart : RunsSaidApart
-runs-said-apart = (start-apart, advance-apart)
+runs-said-apart = (start-apart, release-apart, tick-apart, advance-apart)

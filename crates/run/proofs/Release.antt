@@ -13,6 +13,7 @@ use Rattle.kinds.specs.Numbering.{maxTime}
 use Rattle.kinds.specs.declared.Refusal.{Refusal}
 use Rattle.kinds.specs.declared.Refusal.the-variants.{RunNotSound, NoSuchRow, CostOutOfRange, PlacesFull}
 use Rattle.kinds.specs.declared.Tick.{Tick}
+use Rattle.kinds.proofs.Apart.{impossible}
 use Rattle.theory.proofs.Cases.{by-lt, by-eq, by-test}
 use Rattle.table.specs.declared.Row.{Row}
 use Rattle.table.specs.Limits.{maxRows}
@@ -292,7 +293,7 @@ serials-grow run row cost = each-release run row cost (λ step. run .next .0 ≤
 pub refused-release-changes-nothing : RefusedReleaseChangesNothing
 refused-release-changes-nothing run row cost r =
     each-release run row cost (λ step. step .answer ≡ answer.Refused r → step .run ≡ run) (λ q e. refl)
-    (λ t p given e. absurd (let z : _≡_ {A = ℕ} 0 1 = cc in omega arith))
+    (λ t p given e. impossible cc)
 
 pub fresh-has-no-history : FreshHasNoHistory
 fresh-has-no-history t few = record {
@@ -302,7 +303,7 @@ fresh-has-no-history t few = record {
 pub due-by-whole-history : DueByWholeHistory
 due-by-whole-history run history row cost a whole keeps =
     each-release run row cost (λ step. step .answer ≡ answer.Accepted a → GaveDue run history row (a .due .0) (step .run))
-    (λ r e. absurd (let z : _≡_ {A = ℕ} 0 1 = cc in omega arith))
+    (λ r e. impossible cc)
     (λ t p given e.
     let same : record { serial = run .next; due = t } ≡ a = cc in
     rw (← same) (due-by-history t whole p given history keeps))

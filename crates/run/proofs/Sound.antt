@@ -15,7 +15,7 @@ use Rattle.kinds.specs.Numbering.{maxTime}
 use Rattle.table.specs.declared.Row.{Row}
 use Rattle.table.specs.declared.Table.{Table}
 use Rattle.table.specs.Limits.{maxRows}
-use Rattle.table.specs.Rows.{rowInRange}
+use Rattle.table.specs.Rows.{fromOneTo, rowInRange}
 use Rattle.table.specs.Tables.{noRow, rowsOf}
 use Rattle.table.proofs.Laws.{in-range-means}
 use Rattle.table.proofs.Ranges.{both-true}
@@ -30,7 +30,7 @@ use Rattle.jobs.proofs.Places.{rest-cons}
 use Rattle.jobs.proofs.Laws.{distinct-means}
 use Rattle.run.specs.declared.Run.{Run}
 use Rattle.run.specs.Runs.{rowAt, costLimit, keptOf}
-use Rattle.run.specs.Sound.{fromOneTo, jobFits, jobSound, jobsSound, rowsSound, serialBound, soundOf, SoundJob, Sound, Whole, SoundMeans}
+use Rattle.run.specs.Sound.{jobFits, jobSound, jobsSound, rowsSound, serialBound, soundOf, SoundJob, Sound, Whole, SoundMeans}
 
 -- ---- what the tests of jobs and rows mean
 

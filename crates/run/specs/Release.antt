@@ -6,6 +6,7 @@ use lib.ListN.{set}
 use Rattle.kinds.specs.declared.Refusal.{Refusal}
 use Rattle.kinds.specs.declared.Refusal.the-variants.{RunNotSound, NoSuchRow, CostOutOfRange, PlacesFull}
 use Rattle.kinds.specs.declared.Tick.{Tick}
+use Rattle.table.specs.Rows.{fromOneTo}
 use Rattle.due.specs.declared.Due.{Due}
 use Rattle.due.specs.declared.Due.the-variants as due
 use Rattle.due.specs.Kept.{dueOf, keptWith}
@@ -15,7 +16,7 @@ use Rattle.run.specs.declared.Run.{Run}
 use Rattle.run.specs.declared.ReleaseStep.{ReleaseStep}
 use Rattle.run.specs.declared.Released.the-variants as answer
 use Rattle.run.specs.Runs.{rowInUse, rowAt, costLimit, keptOf}
-use Rattle.run.specs.Sound.{fromOneTo, soundOf}
+use Rattle.run.specs.Sound.{soundOf}
 
 -- A refused release leaves the run as it was.
 abbrev pub refusedRelease : Run → Refusal → ReleaseStep

@@ -10,8 +10,7 @@ use Rattle.kinds.specs.Numbering.{maxTime}
 use Rattle.table.specs.declared.Row.{Row}
 use Rattle.table.specs.declared.Table.{Table}
 use Rattle.table.specs.Limits.{maxRows}
-use Rattle.table.specs.Rows as rows
-use Rattle.table.specs.Rows.{rowInRange}
+use Rattle.table.specs.Rows.{fromOneTo, rowInRange}
 use Rattle.table.specs.Tables.{rowsOf}
 use Rattle.table.specs.Laws.{WithinLimits}
 use Rattle.due.specs.declared.Kept.{Kept}
@@ -22,10 +21,6 @@ use Rattle.jobs.specs.Places.{maxPlaces, noJob, jobsOf}
 use Rattle.jobs.specs.Serials.{distinctSerials}
 use Rattle.run.specs.declared.Run.{Run}
 use Rattle.run.specs.Runs.{rowInUse, rowAt, costLimit, keptOf}
-
--- A number from 1 to a limit, as a row's values are.
-abbrev pub fromOneTo : (most n : ℕ) → Bool
-fromOneTo most n = rows.fromOneTo most n
 
 -- A job can be pending under a limit of its cost: it was released by the clock, has a cost within the limit and some of it left, is due in time and has a serial that was
 -- given out.

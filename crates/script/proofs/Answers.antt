@@ -3,6 +3,7 @@ use Prim.Native.Nat.{ℕ}
 use mathlib.Core.Path.{_≡_, refl, ap, ap₂}
 use native.Mathlib.Omega.{arith}
 use Rattle.kinds.specs.Numbering.{NeverNumberedZero, SaysApart}
+use Rattle.kinds.proofs.Apart.{impossible}
 use Rattle.kinds.proofs.Numbering.{never-zero, numbers-differ, saidIn, refusals-apart}
 use Rattle.script.specs.declared.RecordAt.{RecordAt}
 use Rattle.script.specs.declared.RecordRead.the-variants as read
@@ -35,13 +36,13 @@ same-record a b gap row cost next =
 
 record-apart : SaysApart recordSays
 record-apart (read.Record a) (read.Record b) e = ap read.Record (same-record a b (cc) (cc) (cc) (cc))
-record-apart (read.Record a) read.End e = absurd (let z : _≡_ {A = ℕ} 0 1 = cc in omega arith)
-record-apart (read.Record a) (read.Refused r) e = absurd (let z : _≡_ {A = ℕ} 0 1 = cc in omega arith)
-record-apart read.End (read.Record b) e = absurd (let z : _≡_ {A = ℕ} 0 1 = cc in omega arith)
+record-apart (read.Record a) read.End e = impossible cc
+record-apart (read.Record a) (read.Refused r) e = impossible cc
+record-apart read.End (read.Record b) e = impossible cc
 record-apart read.End read.End e = refl
-record-apart read.End (read.Refused r) e = absurd (let z : _≡_ {A = ℕ} 0 1 = cc in omega arith)
-record-apart (read.Refused q) (read.Record b) e = absurd (let z : _≡_ {A = ℕ} 0 1 = cc in omega arith)
-record-apart (read.Refused q) read.End e = absurd (let z : _≡_ {A = ℕ} 0 1 = cc in omega arith)
+record-apart read.End (read.Refused r) e = impossible cc
+record-apart (read.Refused q) (read.Record b) e = impossible cc
+record-apart (read.Refused q) read.End e = impossible cc
 record-apart (read.Refused q) (read.Refused r) e = ap read.Refused (refusals-apart q r e)
 
 -- The two scripts have two numbers.
@@ -64,13 +65,13 @@ chosen-apart (answer.Next n) (answer.Next m) e =
     let script : whichNumber (n .script) ≡ whichNumber (m .script) = cc in
     let long : n .length ≡ m .length = cc in
     ap₂ (λ s k. answer.Next (record { script = s; length = k })) (which-apart (n .script) (m .script) script) long
-chosen-apart (answer.Next n) answer.Ended e = absurd (let z : _≡_ {A = ℕ} 0 1 = cc in omega arith)
-chosen-apart (answer.Next n) (answer.Refused r) e = absurd (let z : _≡_ {A = ℕ} 0 1 = cc in omega arith)
-chosen-apart answer.Ended (answer.Next m) e = absurd (let z : _≡_ {A = ℕ} 0 1 = cc in omega arith)
+chosen-apart (answer.Next n) answer.Ended e = impossible cc
+chosen-apart (answer.Next n) (answer.Refused r) e = impossible cc
+chosen-apart answer.Ended (answer.Next m) e = impossible cc
 chosen-apart answer.Ended answer.Ended e = refl
-chosen-apart answer.Ended (answer.Refused r) e = absurd (let z : _≡_ {A = ℕ} 0 1 = cc in omega arith)
-chosen-apart (answer.Refused q) (answer.Next m) e = absurd (let z : _≡_ {A = ℕ} 0 1 = cc in omega arith)
-chosen-apart (answer.Refused q) answer.Ended e = absurd (let z : _≡_ {A = ℕ} 0 1 = cc in omega arith)
+chosen-apart answer.Ended (answer.Refused r) e = impossible cc
+chosen-apart (answer.Refused q) (answer.Next m) e = impossible cc
+chosen-apart (answer.Refused q) answer.Ended e = impossible cc
 chosen-apart (answer.Refused q) (answer.Refused r) e = ap answer.Refused (refused-apart q r e)
 
 pub scripts-said-apart : ScriptsSaidApart

@@ -10,6 +10,7 @@ use lib.ListN.{take}
 use lib.Seq.{take-at}
 use borrow.Author.Tests.{le-leb, lt-leb}
 use Rattle.kinds.specs.Numbering.{maxTime}
+use Rattle.kinds.proofs.Apart.{impossible}
 use Rattle.numbers.specs.Laws.{Bytes}
 use Rattle.script.specs.declared.RecordAt.{RecordAt}
 use Rattle.script.specs.declared.RecordRead.{RecordRead}
@@ -61,8 +62,8 @@ module _ (s₁ s₂ : List ℕ) (time₁ time₂ : ℕ) where
 not-too-late : (t u : Bool) (then : Chosen) (n : Next) → cond t (cond u then (tooLate which.Second)) (tooLate which.First) ≡ answer.Next n
     → then ≡ answer.Next n
 not-too-late true true then n e = e
-not-too-late true false then n e = absurd (let z : _≡_ {A = ℕ} 0 1 = cc in omega arith)
-not-too-late false u then n e = absurd (let z : _≡_ {A = ℕ} 0 1 = cc in omega arith)
+not-too-late true false then n e = impossible cc
+not-too-late false u then n e = impossible cc
 
 -- The part of a script that is named is its beginning.
 part-named : (w : Which) (k : ℕ) (s₁ s₂ : List ℕ) → partOf (nextOf w k) s₁ s₂ ≡ take k (scriptNamed w s₁ s₂)
@@ -106,15 +107,15 @@ module _ (s₁ s₂ : List ℕ) (b₁ : Bytes s₁) (b₂ : Bytes s₂) where
   -- .. whatever was read ..
   named-by-records : (one other : RecordRead) (time₁ time₂ : ℕ) (n : Next) → recordAt s₁ 0 ≡ one → recordAt s₂ 0 ≡ other
       → comesNext one other time₁ time₂ ≡ answer.Next n → (first : RecordAt) × FirstOfItsScript s₁ s₂ n first
-  named-by-records (read.Refused r) (read.Refused other) time₁ time₂ n p q e = absurd (let z : _≡_ {A = ℕ} 0 1 = cc in omega arith)
-  named-by-records (read.Refused r) (read.Record b) time₁ time₂ n p q e = absurd (let z : _≡_ {A = ℕ} 0 1 = cc in omega arith)
-  named-by-records (read.Refused r) read.End time₁ time₂ n p q e = absurd (let z : _≡_ {A = ℕ} 0 1 = cc in omega arith)
-  named-by-records (read.Record a) (read.Refused r) time₁ time₂ n p q e = absurd (let z : _≡_ {A = ℕ} 0 1 = cc in omega arith)
+  named-by-records (read.Refused r) (read.Refused other) time₁ time₂ n p q e = impossible cc
+  named-by-records (read.Refused r) (read.Record b) time₁ time₂ n p q e = impossible cc
+  named-by-records (read.Refused r) read.End time₁ time₂ n p q e = impossible cc
+  named-by-records (read.Record a) (read.Refused r) time₁ time₂ n p q e = impossible cc
   named-by-records (read.Record a) (read.Record b) time₁ time₂ n p q e = named-of-two (leb (time₁ + a .release .gap) (time₂ + b .release .gap)) a b n p q e
   named-by-records (read.Record a) read.End time₁ time₂ n p q e = named which.First a n p e
-  named-by-records read.End (read.Refused r) time₁ time₂ n p q e = absurd (let z : _≡_ {A = ℕ} 0 1 = cc in omega arith)
+  named-by-records read.End (read.Refused r) time₁ time₂ n p q e = impossible cc
   named-by-records read.End (read.Record b) time₁ time₂ n p q e = named which.Second b n q e
-  named-by-records read.End read.End time₁ time₂ n p q e = absurd (let z : _≡_ {A = ℕ} 0 1 = cc in omega arith)
+  named-by-records read.End read.End time₁ time₂ n p q e = impossible cc
 
   -- .. so that it always is.
   pub next-is-first : (time₁ time₂ : ℕ) (n : Next) → chosen s₁ s₂ time₁ time₂ ≡ answer.Next n → (first : RecordAt) × FirstOfItsScript s₁ s₂ n first

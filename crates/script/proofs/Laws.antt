@@ -8,6 +8,7 @@ use mathlib.Core.List.{List, [], _∷_, _++_, flatten, List·Memᴰ·head, List�
 use lib.ListN.{length, length-drop}
 use lib.Seq.{drop-length}
 use Rattle.kinds.specs.declared.RefusedAt.{RefusedAt}
+use Rattle.kinds.proofs.Apart.{impossible}
 use Rattle.numbers.specs.Laws.{Bytes}
 use Rattle.script.specs.declared.Record.{Record}
 use Rattle.script.specs.declared.RecordAt.{RecordAt}
@@ -67,8 +68,8 @@ script-reads-back front rs all = records-here rs all (from-behind front (spelled
 
 pub read-in-one-way : ReadInOneWay
 read-in-one-way s at _ _ (ended e) (ended d) = refl
-read-in-one-way s at _ _ (ended e) (then found d more) = absurd (let z : _≡_ {A = ℕ} 0 1 = cc in omega arith)
-read-in-one-way s at _ _ (then found e more) (ended d) = absurd (let z : _≡_ {A = ℕ} 0 1 = cc in omega arith)
+read-in-one-way s at _ _ (ended e) (then found d more) = impossible cc
+read-in-one-way s at _ _ (then found e more) (ended d) = impossible cc
 read-in-one-way s at _ _ (then found e more) (then other d rest) =
     let same : other ≡ found = cc in
     cc (read-in-one-way s (found .next) _ _ more (rw same at rest))

@@ -11,6 +11,7 @@ use lib.Dec.{ltb, eqb}
 use borrow.Author.Tests.{lt-ltb, le-ltb, eq-eqb, ne-eqb, eqb-true}
 use Rattle.kinds.specs.declared.RefusedAt.{RefusedAt}
 use Rattle.kinds.specs.declared.Refusal.the-variants.{ScriptMisspelled}
+use Rattle.kinds.proofs.Apart.{impossible}
 use Rattle.numbers.specs.declared.Number.{Number}
 use Rattle.numbers.specs.declared.NumberRead.{NumberRead}
 use Rattle.numbers.specs.declared.NumberRead.the-variants as number
@@ -75,19 +76,19 @@ module _ (s : List ℕ) (at : ℕ) (inside : at < length s) where
 -- A number of a script that was read is the number at its place.
 number-read : (v : NumberRead) (n : Number) → asScripts v ≡ number.Number n → v ≡ number.Number n
 number-read (number.Number m) n e = e
-number-read (number.Refused r) n e = absurd (let z : _≡_ {A = ℕ} 0 1 = cc in omega arith)
+number-read (number.Refused r) n e = impossible cc
 
 -- Where a record was read, the number before it was.
 number-before : (v : NumberRead) (k : Number → RecordRead) (found : RecordAt) → afterNumber v k ≡ read.Record found
     → (n : Number) × (v ≡ number.Number n) × (k n ≡ read.Record found)
 number-before (number.Number n) k found e = (n, refl, e)
-number-before (number.Refused r) k found e = absurd (let z : _≡_ {A = ℕ} 0 1 = cc in omega arith)
+number-before (number.Refused r) k found e = impossible cc
 
 -- Where a record was read, neither test of the place ended the script.
 not-ended : (t u : Bool) (r : RefusedAt) (then : RecordRead) (found : RecordAt) → cond t (read.Refused r) (cond u read.End then) ≡ read.Record found
     → then ≡ read.Record found
-not-ended true u r then found e = absurd (let z : _≡_ {A = ℕ} 0 1 = cc in omega arith)
-not-ended false true r then found e = absurd (let z : _≡_ {A = ℕ} 0 1 = cc in omega arith)
+not-ended true u r then found e = impossible cc
+not-ended false true r then found e = impossible cc
 not-ended false false r then found e = e
 
 -- The three numbers of a record that was read, one after another.
@@ -135,17 +136,17 @@ record-stands s at found b e =
 
 -- A record is no end, ..
 no-end : (found : RecordAt) → read.Record found ≡ read.End → ⊥
-no-end found e = let z : _≡_ {A = ℕ} 0 1 = cc in omega arith
+no-end found e = impossible cc
 
 -- .. and neither is one with a number before it.
 no-end-after : (v : NumberRead) (k : Number → RecordRead) → ((n : Number) → k n ≡ read.End → ⊥) → afterNumber v k ≡ read.End → ⊥
 no-end-after (number.Number n) k h e = h n e
-no-end-after (number.Refused r) k h e = let z : _≡_ {A = ℕ} 0 1 = cc in omega arith
+no-end-after (number.Refused r) k h e = impossible cc
 
 -- So where the end is answered, it is the test of the length that holds, ..
 length-passed : (t u : Bool) (past : RefusedAt) (then : RecordRead) → (then ≡ read.End → ⊥)
     → cond t (read.Refused past) (cond u read.End then) ≡ read.End → u ≡ true
-length-passed true u past then h e = absurd (let z : _≡_ {A = ℕ} 0 1 = cc in omega arith)
+length-passed true u past then h e = impossible cc
 length-passed false true past then h e = refl
 length-passed false false past then h e = absurd (h e)
 

@@ -1,7 +1,6 @@
 -- No answer of a table that is read is numbered 0, and different answers say different things.
-use Prim.Native.Nat.{ℕ}
-use mathlib.Core.Path.{_≡_, ap}
-use native.Mathlib.Omega.{arith}
+use mathlib.Core.Path.{ap}
+use Rattle.kinds.proofs.Apart.{impossible}
 use Rattle.kinds.proofs.Numbering.{never-zero, refusals-apart}
 use Rattle.table.specs.declared.TableAnswer.the-variants as answer
 use Rattle.table.specs.Answers.{TablesNeverZero, TablesSaidApart}
@@ -12,6 +11,6 @@ tables-never-zero (answer.Refused r) = never-zero (r .refusal)
 
 pub tables-said-apart : TablesSaidApart
 tables-said-apart (answer.Accepted h) (answer.Accepted k) e = cc
-tables-said-apart (answer.Accepted h) (answer.Refused r) e = absurd (let z : _≡_ {A = ℕ} 0 1 = cc in omega arith)
-tables-said-apart (answer.Refused q) (answer.Accepted k) e = absurd (let z : _≡_ {A = ℕ} 0 1 = cc in omega arith)
+tables-said-apart (answer.Accepted h) (answer.Refused r) e = impossible cc
+tables-said-apart (answer.Refused q) (answer.Accepted k) e = impossible cc
 tables-said-apart (answer.Refused q) (answer.Refused r) e = ap answer.Refused (refusals-apart q r e)

@@ -11,6 +11,7 @@ use borrow.Author.Tests.{le-leb, lt-leb}
 use Rattle.kinds.specs.declared.Refusal.{Refusal}
 use Rattle.kinds.specs.declared.Refusal.the-variants.{Misspelled}
 use Rattle.kinds.specs.declared.RefusedAt.{RefusedAt}
+use Rattle.kinds.proofs.Apart.{impossible}
 use Rattle.numbers.specs.declared.Number.{Number}
 use Rattle.numbers.specs.declared.NumberRead.{NumberRead}
 use Rattle.numbers.specs.declared.NumberRead.the-variants as number
@@ -49,7 +50,7 @@ module _ {s : List ℕ} {at : ℕ} where
 
   -- .. and where a place is refused, none is spelled.
   pub refused-none : {r : RefusedAt} → readAt s at ≡ number.Refused r → NoNumber s at
-  refused-none e = λ n p. let q = spelled-read p in let z : _≡_ {A = ℕ} 0 1 = cc in omega arith
+  refused-none e = λ n p. let q = spelled-read p in impossible cc
 
 -- ---- a value
 
@@ -210,7 +211,7 @@ row-refused {s} {at} values b first stand wrong = row-from-values s at ∙ badly
 row-ends-badly : {s : List ℕ} {at : ℕ} {r : RefusedAt} → Bytes s → readRow s at ≡ row.Refused r → EndsBadly valueLimits s at r
 unfolding ofFour
 row-ends-badly {s} {at} b e =
-    ends-badly valueLimits at ofFour b (λ values next made. let z : _≡_ {A = ℕ} 0 1 = cc in omega arith) (sym (row-from-values s at) ∙ e)
+    ends-badly valueLimits at ofFour b (λ values next made. impossible cc) (sym (row-from-values s at) ∙ e)
 
 -- ---- rows
 
@@ -247,13 +248,13 @@ later-ends-badly {q} p e = record {
 
 -- A row in front hides no refusal.
 behind-front : (q : Row) (v : Rows) {r : RefusedAt} → inFront q v ≡ refused r → v ≡ refused r
-behind-front q (rows rs next) e = absurd (let z : _≡_ {A = ℕ} 0 1 = cc in omega arith)
+behind-front q (rows rs next) e = impossible cc
 behind-front q (refused at) e = e
 
 -- Rows that are refused end badly ..
 pub rows-end-badly : (n : ℕ) {s : List ℕ} (at : ℕ) {r : RefusedAt} → Bytes s → readRows n s at ≡ refused r → RowsEndBadly n s at r
 unfolding readRows
-rows-end-badly zero at b e = absurd (let z : _≡_ {A = ℕ} 0 1 = cc in omega arith)
+rows-end-badly zero at b e = impossible cc
 rows-end-badly (suc n) {s} at {r} b e = go (readRow s at) refl e (λ next f. rows-end-badly n next b f)
   where
     go : (v : RowRead) → readRow s at ≡ v → afterRow v (λ q after. inFront q (readRows n s after)) ≡ refused r

@@ -10,6 +10,7 @@ use lib.Seq.{take-append-seam}
 use lib.Dec.{ltb, leb}
 use borrow.Author.Tests.{le-leb, le-ltb, leb-true, ltb-false}
 use Rattle.kinds.specs.declared.RefusedAt.{RefusedAt}
+use Rattle.kinds.proofs.Apart.{impossible}
 use Rattle.numbers.specs.declared.Number.{Number}
 use Rattle.numbers.specs.declared.NumberRead.{NumberRead}
 use Rattle.numbers.specs.declared.NumberRead.the-variants as number
@@ -85,7 +86,7 @@ rows-accepted s (rows rs next) h e =
       period = cc (short .1);
       table = simp (last .0, short .0);
     }
-rows-accepted s (refused at) h e = absurd (let z : _≡_ {A = ℕ} 0 1 = cc in omega arith)
+rows-accepted s (refused at) h e = impossible cc
 
 -- A count after which a table is accepted was read, is not too large, and the rows came after it.
 record CountAccepted (s : List ℕ) (v : NumberRead) (h : ℕ) : Type 0 where
@@ -98,7 +99,7 @@ count-accepted : (s : List ℕ) (v : NumberRead) (h : ℕ) → afterCount s v .a
 count-accepted s (number.Number n) h e =
     let few = refused-unless (leb (n .value) maxRows) _ _ e in
     record { count = n; was-read = refl; few-rows = leb-true (n .value) maxRows (few .0); then = simp (few .0) }
-count-accepted s (number.Refused at) h e = absurd (let z : _≡_ {A = ℕ} 0 1 = cc in omega arith)
+count-accepted s (number.Refused at) h e = impossible cc
 
 pub accepted-is-spelled : AcceptedIsSpelled
 accepted-is-spelled s h b e =

@@ -31,6 +31,7 @@ use lib.Dec.{eqb}
 use lib.ListN.{length, drop, getD, drop-of-length-le}
 use lib.Seq.{drop-cons, getD-take, length-take-le}
 use borrow.Author.Tests.{eqb-true, eq-eqb, le-leb, lt-leb}
+use Rattle.kinds.proofs.Apart.{impossible}
 use Rattle.table.specs.declared.Row.{Row}
 use Rattle.table.specs.declared.Table.{Table}
 use Rattle.table.specs.declared.Period.the-variants.{Ticks, TooLong}
@@ -89,7 +90,7 @@ past ys n e m l h = elim (decLe (n + 1) m) [
   | yes p ↦ p
   | no p ↦
       let same : m ≡ n = omega arith in
-      absurd (let z : _≡_ {A = ℕ} 0 1 = cc (test-finds ys m h) in omega arith)
+      impossible (cc (test-finds ys m h))
 ]
 
 -- The search finds the first, where some m is within its reach.

@@ -15,6 +15,7 @@ use borrow.Author.Tests.{le-leb, lt-leb, lt-ltb, le-ltb}
 use Rattle.kinds.specs.declared.Refusal.{Refusal}
 use Rattle.kinds.specs.declared.Refusal.the-variants.{TooManyRows, ValueOutOfRange, ExtraBytes, PeriodTooLong}
 use Rattle.kinds.specs.declared.RefusedAt.{RefusedAt}
+use Rattle.kinds.proofs.Apart.{impossible}
 use Rattle.numbers.specs.declared.Number.{Number}
 use Rattle.numbers.specs.declared.NumberRead.{NumberRead}
 use Rattle.numbers.specs.declared.NumberRead.the-variants as number
@@ -74,7 +75,7 @@ value-before : (rule : ℕ → Option Refusal) (s : List ℕ) (at : ℕ) (v : Nu
 value-before rule s at (number.Number n) k r q e =
     let p = fine-before at (rule (n .value)) n k r e in
     (n, record { reads = q; is-fine = p .0 }, p .1)
-value-before rule s at (number.Refused a) k r q e = absurd (let z : _≡_ {A = ℕ} 0 1 = cc in omega arith)
+value-before rule s at (number.Refused a) k r q e = impossible cc
 
 -- The four values of a row that was read, one after another.
 pub record FourValues (s : List ℕ) (at : ℕ) (r : RowAt) : Type 0 where

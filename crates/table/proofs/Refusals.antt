@@ -9,6 +9,7 @@ use lib.Seq.{length-take-le, take-append-seam}
 use borrow.Author.Tests.{le-leb, lt-leb, lt-ltb, le-ltb}
 use Rattle.kinds.specs.declared.Refusal.the-variants.{Misspelled, TooManyRows, ExtraBytes, PeriodTooLong}
 use Rattle.kinds.specs.declared.RefusedAt.{RefusedAt}
+use Rattle.kinds.proofs.Apart.{impossible}
 use Rattle.numbers.specs.declared.Number.{Number}
 use Rattle.numbers.specs.declared.NumberRead.{NumberRead}
 use Rattle.numbers.specs.declared.NumberRead.the-variants as number
@@ -100,7 +101,7 @@ refused-after-rows {s} {at} {rs} {r} p e = elim (decLe (length s) at) [
       elim (decLe (periodOf rs) maxPeriod) [
         | yes h ↦
             let z : Accepted (periodOf rs) ≡ Refused r = simp (le-ltb at (length s) l, le-leb (periodOf rs) maxPeriod h) at e in
-            absurd (let o : _≡_ {A = ℕ} 0 1 = cc in omega arith)
+            impossible cc
         | no h ↦
             let f = simp (le-ltb at (length s) l, lt-leb (periodOf rs) maxPeriod (omega arith)) at e in
             let is : r ≡ record { refusal = PeriodTooLong; place = length s } = cc in

@@ -6,6 +6,7 @@ use mathlib.Core.Path.{_≡_, refl, sym, ap, _∙_}
 use mathlib.Core.List.{List, [], _∷_, _++_, flatten, map, append-assoc, append-nil}
 use lib.ListN.{length, take, drop, length-append, length-drop, take-append-drop}
 use lib.Seq.{length-take-le, drop-drop, drop-length, drop-append-seam}
+use Rattle.kinds.proofs.Apart.{impossible}
 use Rattle.numbers.specs.declared.Number.{Number}
 use Rattle.numbers.specs.declared.NumberRead.the-variants as number
 use Rattle.numbers.specs.Spelling.{maxNumber, spelling}
@@ -122,12 +123,12 @@ rows-read (r ∷ rs) p =
 first-row : (n : ℕ) (s : List ℕ) (v : RowRead) {rs : List Row} {next : ℕ} → afterRow v (λ r after. inFront r (readRows n s after)) ≡ rows rs next
     → (r : RowAt) × (v ≡ row.Row r) × (inFront (r .row) (readRows n s (r .next)) ≡ rows rs next)
 first-row n s (row.Row r) e = (r, refl, e)
-first-row n s (row.Refused at) e = absurd (let z : _≡_ {A = ℕ} 0 1 = cc in omega arith)
+first-row n s (row.Refused at) e = impossible cc
 
 -- .. and the others after it.
 other-rows : (r : Row) (v : Rows) {rs : List Row} {next : ℕ} → inFront r v ≡ rows rs next → (qs : List Row) × (v ≡ rows qs next) × (r ∷ qs ≡ rs)
 other-rows r (rows qs next) e = (qs, cc, cc)
-other-rows r (refused at) e = absurd (let z : _≡_ {A = ℕ} 0 1 = cc in omega arith)
+other-rows r (refused at) e = impossible cc
 
 -- Where so many rows are read, their spellings stand, within their limits.
 pub rows-stand : {s : List ℕ} (n at : ℕ) (rs : List Row) (next : ℕ) → Bytes s → readRows n s at ≡ rows rs next
@@ -136,7 +137,7 @@ unfolding readRows flatten
 rows-stand zero at [] next b e =
     let same : at ≡ next = cc in
     (refl, record { limits = each-none _; stand = record { here = rw same; ends = omega arith } })
-rows-stand zero at (r ∷ rs) next b e = absurd (let z : _≡_ {A = ℕ} 0 1 = cc in omega arith)
+rows-stand zero at (r ∷ rs) next b e = impossible cc
 rows-stand {s} (suc n) at rs next b e =
     let f = first-row n s (readRow s at) e in
     let o = other-rows (f .0 .row) (readRows n s (f .0 .next)) (f .2) in

@@ -10,6 +10,7 @@ use native.Mathlib.Omega.{arith}
 use lib.Dec.{ltb, leb}
 use lib.ListN.{length, getD, replicate, length-append, length-replicate, List·getD-append}
 use lib.Seq.{getD-append-add}
+use Rattle.kinds.proofs.Apart.{impossible}
 use Rattle.numbers.specs.declared.NumberRead.{NumberRead}
 use Rattle.numbers.specs.declared.NumberRead.the-variants as number
 use Rattle.numbers.specs.Laws.{Bytes}
@@ -89,4 +90,4 @@ unused-hold-zeros s b i = let t = read-as-rows s b in rw (t .1) (unused-of-rows 
 
 pub refused-is-empty : RefusedIsEmpty
 refused-is-empty s r e =
-    ⊎-elim (λ accepted. absurd (let z : _≡_ {A = ℕ} 0 1 = cc (accepted .1, e) in omega arith)) (λ empty. empty) (after-count s (readAt s 0))
+    ⊎-elim (λ accepted. impossible (cc (accepted .1, e))) (λ empty. empty) (after-count s (readAt s 0))

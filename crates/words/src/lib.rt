@@ -10,7 +10,7 @@ ghost use Rattle.numbers.specs.Reading.{misspelledAt};
 ghost use Rattle.words.specs.Words.{putWord, restWith, wordAt};
 
 // How many bytes a word has.
-const WORD: usize = 8;
+pub const WORD: usize = 8;
 
 // Writes a number into the first eight bytes of the rest of a buffer, and keeps what comes after: 12 where it has no room, with the rest as it was.
 pub fn put(rest: &mut [u8], value: u64) -> Written

@@ -10,7 +10,7 @@ use borrow.Author.Needs.{needs}
 use Rattle.script.specs.declared.Chosen.{Chosen}
 use Rattle.script.specs.Chooser.{chosen, partOf}
 use Rattle.probe.specs.Words.{wordsBytes}
-use Rattle.probe.specs.Chosen.{Answered, answerLength, copied, chosenSaid, chosenAnswered}
+use Rattle.probe.specs.Chosen.{Answered, choiceLength, copied, chosenSaid, chosenAnswered}
 use Rattle.probe.proofs.Words.{words-fill}
 use Rattle.probe.proofs.choose.Statement.{statement}
 use Rattle.probe.proofs.choose.Tie as tie
@@ -28,7 +28,7 @@ answered c v status after e s w =
     rw (c .before .before .before .before .before .chosen-part .ensures .0, is) at (c .before .before .before .copy .ensures) in
     let said = chosenSaid v .first ∷ chosenSaid v .second ∷ [] in
     let full : after ≡ wordsBytes said = w ∙ words-fill (a .answer .now) said (omega arith) in
-    rw (s, part, full, eq-eqb (length (a .answer .now)) answerLength (omega arith), is)
+    rw (s, part, full, eq-eqb (length (a .answer .now)) choiceLength (omega arith), is)
 
 number-requires : tie.Need-number-requires
 number-requires c κs = search needs
@@ -36,7 +36,7 @@ number-requires c κs = search needs
 returns : tie.Need-returns
 returns c =
     let a = c .before .before .before .before .before .before .args in
-    rw (c .number .ensures, ne-eqb (length (a .answer .now)) answerLength (λ e. omega arith))
+    rw (c .number .ensures, ne-eqb (length (a .answer .now)) choiceLength (λ e. omega arith))
 
 chosen-part-requires : tie.Need-chosen-part-requires
 chosen-part-requires c κs = search needs

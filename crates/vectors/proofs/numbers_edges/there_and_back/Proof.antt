@@ -9,6 +9,7 @@ use borrow.Author.Needs.{needs}
 use borrow.Author.Tests.{le-leb, lt-leb}
 use lib.ListN.{length}
 use Rattle.kinds.specs.declared.Refusal.{Refusal}
+use Rattle.kinds.proofs.Apart.{impossible}
 use Rattle.numbers.specs.declared.NumberRead.the-variants as answer
 use Rattle.numbers.specs.declared.Written.the-variants.{Length, Refused}
 use Rattle.numbers.specs.Spelling.{maxGroups, maxNumber, spelling}
@@ -30,7 +31,7 @@ too-big : (n : ℕ) (refusal : Refusal) → written n maxGroups ≡ Refused refu
 too-big n refusal e = elim (decLe n maxNumber) [
   | yes l ↦
       let never = simp (le-leb n maxNumber l, le-leb (length (spelling n)) maxGroups (spelling-length n .1)) at e in
-      absurd (let z : _≡_ {A = ℕ} 0 1 = cc in omega arith)
+      impossible cc
   | no l ↦
       let over = lt-leb n maxNumber (omega arith) in
       let same = simp over at e in
