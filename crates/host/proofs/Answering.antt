@@ -9,7 +9,8 @@ use lib.ListN.{length, getD, length-append, List·getD-append}
 use lib.Seq.{getD-append-add, ext-getD}
 use borrow.Author.Tests.{eq-eqb, ne-eqb}
 use Rattle.kinds.specs.Numbering.{Said, refusalNumber}
-use Rattle.kinds.proofs.Numbering.{never-zero}
+use Rattle.kinds.specs.declared.Refusal.the-variants.{NoRoom}
+use Rattle.kinds.proofs.Numbering.{numbers-differ, never-zero}
 use Rattle.numbers.specs.Laws.{Bytes}
 use Rattle.theory.proofs.Cases.{by-lt, by-eq}
 use Rattle.table.specs.declared.TableAnswer.{TableAnswer}
@@ -24,10 +25,11 @@ use Rattle.replay.specs.declared.Replayed.{Replayed}
 use Rattle.replay.specs.declared.Replayed.the-variants as replayed
 use Rattle.replay.specs.Outcome.{replayOf, replaySays}
 use Rattle.replay.proofs.Stopping.{table-refusals, stopped-by}
-use Rattle.replay.proofs.Answering.{refused-means}
+use Rattle.replay.proofs.Answering.{no-room-means, refused-means}
+use Rattle.replay.proofs.Lengths.{log-is-short}
 use Rattle.host.specs.Answer.{answerLength, answerBytes, wrong-size, said}
 use Rattle.host.specs.Laws.{Filled, AnswerFilled, VerdictOfAnotherSize, ReplayOfAnotherSize, VerdictOfSixteen, ReplayOfSixteen}
-use Rattle.host.specs.Laws.{ReplayIs13, ReplayNever11Or25, VerdictStatuses, VerdictIs13}
+use Rattle.host.specs.Laws.{ReplayIs13, ReplayNever11Or25, TenTimesIsRoom, VerdictStatuses, VerdictIs13}
 
 -- ---- what fills the answer buffer
 
@@ -116,6 +118,20 @@ replay-never-11-or-25 table script room size rows records = by-eq size answerLen
       never-said table script room 25 rows records (omega arith) (λ e. omega arith) (λ e. omega arith) (λ e. omega arith) (λ e. omega arith),
     ))
     (λ other. rw (ne-eqb size answerLength other) (λ e. omega arith, λ e. omega arith))
+
+-- 12 is for a log that is longer than the room, and none is longer than ten times its script.
+pub ten-times-is-room : TenTimesIsRoom
+ten-times-is-room table script room size rows records enough = by-eq size answerLength
+    (λ same. rw (eq-eqb size answerLength same) (by-outcome (replayOf table script room) refl))
+    (λ other. rw (ne-eqb size answerLength other) (λ e. omega arith))
+  where
+    by-outcome : (v : Replayed) → replayOf table script room ≡ v → replaySays v .number ≢ 12
+    by-outcome (replayed.InTime m) e is = omega arith
+    by-outcome (replayed.Late l) e is = omega arith
+    by-outcome (replayed.Refused r) e is =
+        let no-room = ap (λ kind. replayed.Refused (record { refusal = kind; place = r .place })) (numbers-differ (r .refusal) NoRoom is) in
+        let w = no-room-means table script room (r .place) rows records .0 (e ∙ no-room) in
+        omega (arith, w .2 .log-length, w .3, log-is-short table script (w .0) rows records (w .2 .came-to-its-end))
 
 -- ---- numbers that a verdict has
 
