@@ -1,7 +1,7 @@
 -- What the two calls return and write, by the size of the answer buffer. (docs/RULES.md, sections 9.4 to 9.7.)
-use Prim.Native.Nat.{ℕ, zero, suc, _+_, _-_, _/_, _%_, _^_, _<_}
+use Prim.Native.Nat.{ℕ, zero, suc, _+_, _-_, _/_, _%_, _^_, _≤_, _<_}
 use mathlib.Core.Path.{_≡_, refl, sym, ap, _∙_}
-use mathlib.Core.Logic.{_≢_, ⊎-elim}
+use mathlib.Core.Logic.{_≢_, _⊎_, inl, inr, ⊎-elim}
 use mathlib.Core.List.{List}
 use native.Mathlib.Nat.{not-suc-le-zero, le-of-suc-le-suc, div-one, div-div-eq-div-mul, pow-succ'}
 use native.Mathlib.Omega.{arith}
@@ -9,19 +9,27 @@ use lib.ListN.{length, getD, length-append, List·getD-append}
 use lib.Seq.{getD-append-add, ext-getD}
 use borrow.Author.Tests.{eq-eqb, ne-eqb}
 use Rattle.kinds.specs.Numbering.{Said, refusalNumber}
+use Rattle.kinds.specs.declared.Refusal.the-variants.{NoRoom}
+use Rattle.kinds.proofs.Numbering.{numbers-differ, never-zero}
 use Rattle.numbers.specs.Laws.{Bytes}
 use Rattle.theory.proofs.Cases.{by-lt, by-eq}
+use Rattle.table.specs.declared.TableAnswer.{TableAnswer}
+use Rattle.table.specs.declared.TableAnswer.the-variants as answer
+use Rattle.table.specs.Tables.{tableRead}
 use Rattle.words.specs.Words.{wordLength, lowestFirst}
 use Rattle.words.proofs.Laws.{lowest-first-length}
-use Rattle.verdict.specs.Verdict.{verdictSays}
+use Rattle.verdict.specs.declared.Verdict.{Verdict}
+use Rattle.verdict.specs.declared.Verdict.the-variants as verdict
+use Rattle.verdict.specs.Verdict.{RightOfRead, Judged, verdictSays}
 use Rattle.replay.specs.declared.Replayed.{Replayed}
 use Rattle.replay.specs.declared.Replayed.the-variants as replayed
 use Rattle.replay.specs.Outcome.{replayOf, replaySays}
-use Rattle.replay.proofs.Stopping.{stopped-by}
-use Rattle.replay.proofs.Answering.{refused-means}
+use Rattle.replay.proofs.Stopping.{table-refusals, stopped-by}
+use Rattle.replay.proofs.Answering.{no-room-means, refused-means}
+use Rattle.replay.proofs.Lengths.{log-is-short}
 use Rattle.host.specs.Answer.{answerLength, answerBytes, wrong-size, said}
 use Rattle.host.specs.Laws.{Filled, AnswerFilled, VerdictOfAnotherSize, ReplayOfAnotherSize, VerdictOfSixteen, ReplayOfSixteen}
-use Rattle.host.specs.Laws.{ReplayIs13, ReplayNever11Or25}
+use Rattle.host.specs.Laws.{ReplayIs13, ReplayNever11Or25, TenTimesIsRoom, VerdictStatuses, VerdictIs13}
 
 -- ---- what fills the answer buffer
 
@@ -110,3 +118,42 @@ replay-never-11-or-25 table script room size rows records = by-eq size answerLen
       never-said table script room 25 rows records (omega arith) (λ e. omega arith) (λ e. omega arith) (λ e. omega arith) (λ e. omega arith),
     ))
     (λ other. rw (ne-eqb size answerLength other) (λ e. omega arith, λ e. omega arith))
+
+-- 12 is for a log that is longer than the room, and none is longer than ten times its script.
+pub ten-times-is-room : TenTimesIsRoom
+ten-times-is-room table script room size rows records enough = by-eq size answerLength
+    (λ same. rw (eq-eqb size answerLength same) (by-outcome (replayOf table script room) refl))
+    (λ other. rw (ne-eqb size answerLength other) (λ e. omega arith))
+  where
+    by-outcome : (v : Replayed) → replayOf table script room ≡ v → replaySays v .number ≢ 12
+    by-outcome (replayed.InTime m) e is = omega arith
+    by-outcome (replayed.Late l) e is = omega arith
+    by-outcome (replayed.Refused r) e is =
+        let no-room = ap (λ kind. replayed.Refused (record { refusal = kind; place = r .place })) (numbers-differ (r .refusal) NoRoom is) in
+        let w = no-room-means table script room (r .place) rows records .0 (e ∙ no-room) in
+        omega (arith, w .2 .log-length, w .3, log-is-short table script (w .0) rows records (w .2 .came-to-its-end))
+
+-- ---- numbers that a verdict has
+
+-- A verdict that is right of a table is known by 1 to 5, as the table is refused, or by 20 or 21.
+verdict-says : (table : List ℕ) (v : Verdict) → Judged table v
+    → ((1 ≤ verdictSays v .number) × (verdictSays v .number ≤ 5)) ⊎ ((20 ≤ verdictSays v .number) × (verdictSays v .number ≤ 21))
+verdict-says table verdict.Feasible j = inr (omega arith, omega arith)
+verdict-says table (verdict.Overloaded w) j = inr (omega arith, omega arith)
+verdict-says table (verdict.Refused r) j = inl (never-zero (r .refusal), by-answer (tableRead table .answer) refl j)
+  where
+    by-answer : (a : TableAnswer) → tableRead table .answer ≡ a → RightOfRead (tableRead table .table) a (verdict.Refused r)
+        → refusalNumber (r .refusal) ≤ 5
+    by-answer (answer.Accepted period) e right = absurd right
+    by-answer (answer.Refused q) e right = let same : r ≡ q = cc in rw same (table-refusals table q e)
+
+pub verdict-statuses : VerdictStatuses
+verdict-statuses table answer status after (wrong-size l s k) = inr (inl s)
+verdict-statuses table answer status after (said l v j s k) = rw s (⊎-elim (λ low. inl low) (λ high. inr (inr high)) (verdict-says table v j))
+
+pub verdict-is-13 : VerdictIs13
+verdict-is-13 table answer status after (wrong-size l s k) = (λ is. l, λ other. s)
+verdict-is-13 table answer status after (said l v j s k) = (
+  λ is. absurd (⊎-elim (λ low. omega arith) (λ high. omega arith) (verdict-says table v j)),
+  λ other. absurd (other l),
+)

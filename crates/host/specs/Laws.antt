@@ -1,7 +1,7 @@
 -- What the host's two calls return and write, exactly. (docs/RULES.md, section 9.)
-use Prim.Native.Nat.{ℕ, _+_, _/_, _%_, _^_, _<_}
+use Prim.Native.Nat.{ℕ, _+_, _*_, _/_, _%_, _^_, _≤_, _<_}
 use mathlib.Core.Path.{_≡_}
-use mathlib.Core.Logic.{_≢_, _↔_}
+use mathlib.Core.Logic.{_⊎_, _≢_, _↔_}
 use mathlib.Core.List.{List}
 use lib.ListN.{length, getD}
 use Rattle.kinds.specs.Numbering.{Said}
@@ -67,3 +67,16 @@ ReplayIs13 = (table script : List ℕ) (room size : ℕ) → Bytes table → Byt
 abbrev pub ReplayNever11Or25 : Type 0
 ReplayNever11Or25 = (table script : List ℕ) (room size : ℕ) → Bytes table → Bytes script
     → (replayStatus table script room size ≢ 11) × (replayStatus table script room size ≢ 25)
+
+-- A log of ten times the script's length has room for any replay: 12 is not given. (8.11)
+abbrev pub TenTimesIsRoom : Type 0
+TenTimesIsRoom = (table script : List ℕ) (room size : ℕ) → Bytes table → Bytes script → 10 * length script ≤ room → replayStatus table script room size ≢ 12
+
+-- A verdict's status is 1 to 5, 13, 20 or 21 (so never 11 or 25) .. (10.4, 10.6)
+abbrev pub VerdictStatuses : Type 0
+VerdictStatuses = (table answer : List ℕ) (status : ℕ) (after : List ℕ) → VerdictAnswered table answer status after
+    → ((1 ≤ status) × (status ≤ 5)) ⊎ ((status ≡ 13) ⊎ ((20 ≤ status) × (status ≤ 21)))
+
+-- .. and it is 13 exactly where the answer buffer is not 16 bytes long. (9.6)
+abbrev pub VerdictIs13 : Type 0
+VerdictIs13 = (table answer : List ℕ) (status : ℕ) (after : List ℕ) → VerdictAnswered table answer status after → (status ≡ 13) ↔ (length answer ≢ 16)

@@ -13,6 +13,7 @@ pub mod Conservation
 pub mod InOrder
 pub mod Asked
 pub mod Laws
+pub mod Lengths
 pub mod Refusing
 pub mod Stopping
 pub mod Answering

@@ -20,6 +20,7 @@ use Rattle.numbers.specs.declared.NumberRead.{NumberRead}
 use Rattle.numbers.specs.declared.NumberRead.the-variants as number
 use Rattle.table.specs.declared.Table.{Table}
 use Rattle.table.specs.Rows.{fromOneTo}
+use Rattle.table.proofs.Each.{Each, each-none}
 use Rattle.jobs.specs.declared.Job.{Job}
 use Rattle.jobs.specs.Places.{maxPlaces, noJob, jobsOf, used, put}
 use Rattle.jobs.specs.Choice.{firstPlace}
@@ -48,6 +49,7 @@ use Rattle.replay.specs.declared.Tested.{Tested}
 use Rattle.replay.specs.declared.Tested.the-variants as tested
 use Rattle.replay.specs.Numbers.{numbersAt, onNumber, refusedAt, testedBy, testedNumbers}
 use Rattle.replay.specs.Inside.{OnItsWay}
+use Rattle.replay.specs.Laws.{SmallNumbers}
 
 -- ---- one tick
 
@@ -55,6 +57,16 @@ use Rattle.replay.specs.Inside.{OnItsWay}
 length-if : {A : Type 0} (test : Bool) (x : A) → length (cond test (x ∷ []) []) ≡ cond test 1 0
 length-if true x = refl
 length-if false x = refl
+
+-- Small numbers have spellings.
+small-in-range : (f : Finish) → SmallNumbers f → allInRange (valuesOf f) ≡ true
+small-in-range f small = rw (
+  le-leb (f .serial .0) maxNumber (omega arith),
+  le-leb (f .row .0) maxNumber (omega arith),
+  le-leb (f .release .0) maxNumber (omega arith),
+  le-leb (f .due .0) maxNumber (omega arith),
+  le-leb (f .finish .0) maxNumber (omega arith),
+)
 
 module _ (run : Run) (good : Good run) where
   -- The jobs pending, and the place of the one that goes first.
@@ -93,26 +105,29 @@ module _ (run : Run) (good : Good run) where
         (omega (arith, counted run good, unit-takes (first-there some))))
         (λ none. rw (le-ltb 0 (run .pending .count) none, tick-idle run (good .0) in-time (omega arith)) (omega arith))
 
-    -- The numbers of a job that finishes have spellings.
-    finish-in-range : 1 ≤ run .pending .count → allInRange (valuesOf (finishAt (run .clock .0 + 1) (firstJob (run .pending)))) ≡ true
-    finish-in-range some =
-        let j = firstJob (run .pending) in
+    -- The numbers of a job that finishes are small, ..
+    finish-small : 1 ≤ run .pending .count → SmallNumbers (finishAt (run .clock .0 + 1) (firstJob (run .pending)))
+    finish-small some =
         let s = first-sound some in
         let known = facts run good in
-        rw (
-          le-leb (j .serial .0) maxNumber (omega (arith, known .serials, known .few-pending)),
-          le-leb (j .row .0) maxNumber (omega (arith, known .few-rows)),
-          le-leb (j .release .0) maxNumber (omega arith),
-          le-leb (j .due .0) maxNumber (omega arith),
-          le-leb (run .clock .0 + 1) maxNumber (omega arith),
-        )
+        record {
+          serial = omega (arith, known .serials, known .few-pending);
+          row = omega (arith, known .few-rows);
+          release = omega arith;
+          due = s .due-in-time;
+          finish = omega arith;
+        }
 
-    pub finished-in-range : EachInRange (finishedBy run)
-    finished-in-range f = by-lt 0 (run .pending .count)
+    pub finished-small : Each SmallNumbers (finishedBy run)
+    finished-small f = by-lt 0 (run .pending .count)
         (λ some. rw (lt-ltb 0 (run .pending .count) some) (by-test (lastUnit (firstJob (run .pending)))
-        (λ last. rw last (λ m. rw (List·Memᴰ·eq-of-singleton m) (finish-in-range some)))
+        (λ last. rw last (λ m. rw (List·Memᴰ·eq-of-singleton m) (finish-small some)))
         (λ more. rw more (λ m. absurd (List·Memᴰ·not-nil m)))))
         (λ none. rw (le-ltb 0 (run .pending .count) none) (λ m. absurd (List·Memᴰ·not-nil m)))
+
+    -- .. and so have spellings.
+    pub finished-in-range : EachInRange (finishedBy run)
+    finished-in-range f m = small-in-range f (finished-small f m)
 
     -- The clock goes up by one, and of the rest only the pending jobs change.
     tick-touches : ticked run .run ≡ runWith run (run .clock .0 + 1) (ticked run .run .pending)
@@ -151,12 +166,9 @@ module _ (P : Since → Type 0) (one-more : (s : Since) → Good (s .run) → s 
       (λ some. rw some
       (along-draining n (oneMore s) (tick-keeps-good (s .run) good) (omega (arith, tick-clock (s .run) good (omega arith))) (one-more s good (omega arith) p)))
 
--- No records are in range, and records that are, with others behind them.
-none-in-range : EachInRange []
-none-in-range f m = absurd (List·Memᴰ·not-nil m)
-
-in-range-behind : (fs gs : List Finish) → EachInRange fs → EachInRange gs → EachInRange (fs ++ gs)
-in-range-behind fs gs a b f m = ⊎-elim (a f) (b f) (List·Memᴰ·append-cases fs m)
+-- What holds of each record, and of each of others behind them, holds of each of them all.
+pub each-behind : {P : Finish → Type 0} (fs gs : List Finish) → Each P fs → Each P gs → Each P (fs ++ gs)
+each-behind fs gs a b f m = ⊎-elim (a f) (b f) (List·Memᴰ·append-cases fs m)
 
 -- What ticks keep: the run stays sound, on its table, with its next serial and its kept due times; each job that was pending is so still, or has finished; and the numbers of those
 -- that finished have spellings.
@@ -179,7 +191,7 @@ module _ (s : Since) where
     same-next = tick-next (t .run) good in-time ∙ before .same-next;
     same-kept = tick-kept (t .run) good in-time ∙ before .same-kept;
     conserved = omega (arith, tick-conserves (t .run) good in-time, before .conserved, length-append (t .finishes) (finishedBy (t .run)));
-    in-range = λ r. in-range-behind (t .finishes) _ (before .in-range r) (finished-in-range (t .run) good in-time);
+    in-range = λ r. each-behind (t .finishes) _ (before .in-range r) (finished-in-range (t .run) good in-time);
   }
 
   pub one-tick-keeps : Good (s .run) → s .run .clock .0 < maxTime → TicksFrom s (oneMore s)
@@ -270,7 +282,7 @@ passed-is-read s at inside p =
 
 -- A replay is on its way before the first serial, ..
 pub on-its-way-first : (run : Run) → Good run → run .next .0 ≡ 0 → run .pending .count ≡ 0 → OnItsWay (sinceNow run)
-on-its-way-first run good e f = record { good = good; in-range = none-in-range; all-there = omega arith }
+on-its-way-first run good e f = record { good = good; in-range = each-none _; all-there = omega arith }
 
 -- .. after ticks, ..
 pub on-its-way-ticked : {s t : Since} → OnItsWay s → TicksFrom s t → OnItsWay t

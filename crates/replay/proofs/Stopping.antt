@@ -8,7 +8,7 @@ use native.Mathlib.Omega.{arith}
 use lib.Dec.{leb, ltb}
 use lib.ListN.{length, drop}
 use borrow.Author.Tests.{le-ltb, eq-eqb, ne-eqb}
-use Rattle.kinds.specs.Numbering.{maxTime}
+use Rattle.kinds.specs.Numbering.{maxTime, refusalNumber}
 use Rattle.kinds.specs.declared.Refusal.the-variants.{TimeTooLate}
 use Rattle.kinds.specs.declared.RefusedAt.{RefusedAt}
 use Rattle.numbers.specs.Laws.{Bytes}
@@ -195,19 +195,24 @@ whole-means t s q bytes = (
 
 -- ---- the refusals that stop a play
 
--- Each answer that may be a refusal: if it is, it is one that can stop a play.
+-- The refusals of tables are 1 to 5.
+abbrev OfTables : RefusedAt → Type 0
+OfTables r = refusalNumber (r .refusal) ≤ 5
+
+-- Each answer that may be a refusal: if it is, it is one of tables, ..
 abbrev NumberStops : NumberRead → Type 0
 NumberStops (number.Number n) = Unit {0}
-NumberStops (number.Refused r) = CanStop (r .refusal)
+NumberStops (number.Refused r) = OfTables r
 
 abbrev RowsStop : Rows → Type 0
 RowsStop (rows rs next) = Unit {0}
-RowsStop (Rows.refused r) = CanStop (r .refusal)
+RowsStop (Rows.refused r) = OfTables r
 
 abbrev TableStops : TableAnswer → Type 0
 TableStops (answer.Accepted period) = Unit {0}
-TableStops (answer.Refused r) = CanStop (r .refusal)
+TableStops (answer.Refused r) = OfTables r
 
+-- .. or else one that can stop a play.
 abbrev DueStops : Due → Type 0
 DueStops (due.At t) = Unit {0}
 DueStops (due.Refused r) = CanStop r
@@ -222,20 +227,20 @@ number-stops s at = by-spelt (spelt maxGroups (drop at s) at)
   where
     by-spelt : (x : Spelt) → NumberStops (answered at x)
     by-spelt (spelt.number n next) = tt
-    by-spelt (superfluous-zero place) = inl (omega arith)
-    by-spelt (asks-for-more place) = inl (omega arith)
-    by-spelt (cut-off place) = inl (omega arith)
+    by-spelt (superfluous-zero place) = omega arith
+    by-spelt (asks-for-more place) = omega arith
+    by-spelt (cut-off place) = omega arith
 
 value-stops : (most : ℕ) (s : List ℕ) (at : ℕ) → NumberStops (readValue (withinLimit most) s at)
 value-stops most s at = by-number (readAt s at) (number-stops s at)
   where
     by-number : (v : NumberRead) → NumberStops v → NumberStops (value.tested (withinLimit most) at v)
-    by-number (number.Number n) h = by-test (leb 1 (n .value) && leb (n .value) most) (λ y. rw y tt) (λ no. rw no (inl (omega arith)))
+    by-number (number.Number n) h = by-test (leb 1 (n .value) && leb (n .value) most) (λ y. rw y tt) (λ no. rw no (omega arith))
     by-number (number.Refused r) h = h
 
--- A number is read, or is refused with what can stop a play.
+-- A number is read, or is refused as tables are.
 by-read : {G : Type 0} (v : NumberRead) → NumberStops v → ((n : Number) → v ≡ number.Number n → G)
-    → ((r : RefusedAt) → v ≡ number.Refused r → CanStop (r .refusal) → G) → G
+    → ((r : RefusedAt) → v ≡ number.Refused r → OfTables r → G) → G
 by-read (number.Number n) h one none = one n refl
 by-read (number.Refused r) h one none = none r refl h
 
@@ -264,14 +269,18 @@ table-stops : (s : List ℕ) → TableStops (tableRead s .answer)
 table-stops s = by-count (readAt s 0) (number-stops s 0)
   where
     by-rows : (rs : Rows) → RowsStop rs → TableStops (afterRows s rs .answer)
-    by-rows (rows rs next) h = by-test (ltb next (length s)) (λ y. rw y (inl (omega arith)))
-        (λ no. rw no (by-test (leb (periodOf rs) maxPeriod) (λ y. rw y tt) (λ no₂. rw no₂ (inl (omega arith)))))
+    by-rows (rows rs next) h = by-test (ltb next (length s)) (λ y. rw y (omega arith))
+        (λ no. rw no (by-test (leb (periodOf rs) maxPeriod) (λ y. rw y tt) (λ no₂. rw no₂ (omega arith))))
     by-rows (Rows.refused at) h = h
 
     by-count : (v : NumberRead) → NumberStops v → TableStops (afterCount s v .answer)
     by-count (number.Number n) h = by-test (leb (n .value) maxRows)
-        (λ y. rw y (by-rows (readRows (n .value) s (n .next)) (rows-stop (n .value) s (n .next)))) (λ no. rw no (inl (omega arith)))
+        (λ y. rw y (by-rows (readRows (n .value) s (n .next)) (rows-stop (n .value) s (n .next)))) (λ no. rw no (omega arith))
     by-count (number.Refused r) h = h
+
+-- (So a table is refused with 1 to 5 only.)
+pub table-refusals : (s : List ℕ) (r : RefusedAt) → tableRead s .answer ≡ answer.Refused r → refusalNumber (r .refusal) ≤ 5
+table-refusals s r e = subst TableStops e (table-stops s)
 
 -- .. a release's, of a sound run, ..
 due-stops : (k : Kept) (r : Row) (t : ℕ) → DueStops (dueOf k r t)
@@ -315,7 +324,7 @@ record-can-stop s at p good (release-refused gap row cost q r e) =
     subst ReleaseStops e (release-stops run (row .value) (cost .value) (ticks-keep-good (gap .value) (p .since) good .0))
 
 stops-so : (t s : List ℕ) (r : RefusedAt) → Bytes t → StoppedFor t s r → CanStop (r .refusal)
-stops-so t s r table (the-table e) = subst TableStops e (table-stops t)
+stops-so t s r table (the-table e) = inl (omega (arith, table-refusals t r e))
 stops-so t s r table (a-record at p c more refused) = record-can-stop s at p (comes-sound t s at p table c) refused
 stops-so t s r table (the-clock p c some ten place) = inl (omega arith)
 

@@ -1,5 +1,5 @@
 -- What follows of replays, for other crates to cite. (docs/RULES.md, section 8.)
-use Prim.Native.Nat.{ℕ, _+_, _≤_, _<_}
+use Prim.Native.Nat.{ℕ, _+_, _*_, _≤_, _<_}
 use mathlib.Core.Path.{_≡_}
 use mathlib.Core.Logic.{_↔_}
 use mathlib.Core.Bool.{true}
@@ -8,9 +8,10 @@ use lib.ListN.{length, getD}
 use Rattle.kinds.specs.Numbering.{maxTime}
 use Rattle.kinds.specs.declared.Finish.{Finish}
 use Rattle.numbers.specs.Laws.{Bytes}
+use Rattle.table.specs.Limits.{maxRows}
 use Rattle.jobs.specs.declared.Job.{Job}
 use Rattle.jobs.specs.declared.Finished.the-variants as finished
-use Rattle.jobs.specs.Places.{noJob}
+use Rattle.jobs.specs.Places.{maxPlaces, noJob}
 use Rattle.jobs.specs.Turns.{noFinish, firstJob}
 use Rattle.run.specs.declared.Run.{Run}
 use Rattle.run.specs.declared.Ticked.the-variants as tick
@@ -49,11 +50,19 @@ pub record LastUnit (run : Run) (f : Finish) : Type 0 where
   pub its-own : RecordOf (firstJob (run .pending)) f
   pub at-the-clock : f .finish .0 ≡ ticked run .run .clock .0
 
+-- The numbers of a log are small: a row below 16, times of at most 2^40, and serials below 2^40 + 64.
+pub record SmallNumbers (f : Finish) : Type 0 where
+  pub serial : f .serial .0 < maxTime + maxPlaces
+  pub row : f .row .0 < maxRows
+  pub release : f .release .0 ≤ maxTime
+  pub due : f .due .0 ≤ maxTime
+  pub finish : f .finish .0 ≤ maxTime
+
 -- What is said of every replay that comes to its end.
 abbrev pub OfWhole : (List ℕ → List ℕ → Progress → Type 0) → Type 0
 OfWhole P = (t s : List ℕ) (p : Progress) → Bytes t → Bytes s → played t s ≡ whole p → P t s p
 
--- ---- what is proved (proofs/Laws.antt)
+-- ---- what is proved (proofs/Laws.antt and Lengths.antt)
 
 -- Jobs late, as those that finished after their due time, are the sum of all ticks' late counts. (8.14)
 abbrev pub LateIsTheSum : Type 0
@@ -86,6 +95,14 @@ FinishIsTheLastUnit = (run : Run) (f : Finish) → Whole run → soundOf run ≡
 -- The log of a whole replay reads back as its records.
 abbrev pub LogReadsBack : Type 0
 LogReadsBack = OfWhole λ t s p. EachInRange (p .since .finishes) × ReadsAs (spelledLog (p .since .finishes)) 0 (p .since .finishes)
+
+-- Its numbers are small. (10.6)
+abbrev pub LogHoldsSmallNumbers : Type 0
+LogHoldsSmallNumbers = OfWhole λ t s p. (i : ℕ) → i < length (p .since .finishes) → SmallNumbers (getD (p .since .finishes) i noFinish)
+
+-- It is at most ten times as long as the script: a record of it has at most 30 bytes, and one of the script at least 3. (8.11)
+abbrev pub LogIsShort : Type 0
+LogIsShort = OfWhole λ t s p. length (spelledLog (p .since .finishes)) ≤ 10 * length s
 
 -- Outside, no outcome is known by the number 0 ..
 abbrev pub NeverSaysZero : Type 0
