@@ -52,7 +52,8 @@ use Rattle.replay.specs.Numbers.{numbersAt, refusedAt, onNumber, testedNumbers}
 use Rattle.replay.specs.Play.{Progress, begun, Step, goes-on, stops, afterRelease, tickedTo, afterTests, stepped}
 use Rattle.replay.specs.Play.{Played, whole, stopped, finalTicks, andThen, playedFrom, played}
 use Rattle.replay.specs.Outcome.{lateFinishes, answerOf, replayOf, replaySays}
-use Rattle.replay.proofs.Playing.{tick-clock, along-draining, passed-is-read}
+use Rattle.replay.proofs.SingleTicks.{tick-clock, along-draining}
+use Rattle.replay.proofs.Passing.{passed-is-read}
 use Rattle.replay.proofs.Through.{Keeps, went-on, step-keeps}
 use Rattle.replay.proofs.Laws.{late-is-the-sum}
 use Rattle.host.specs.Answer.{VerdictAnswered, answerLength}
@@ -63,7 +64,7 @@ use Rattle.promise.specs.Choice.{lateAt}
 use Rattle.promise.specs.InTime.{SaidFeasible}
 use Rattle.promise.specs.AtHost.{NotLate, AtHost, AtHostCalls}
 use Rattle.promise.proofs.Bridge.{Bridge}
-use Rattle.promise.proofs.Bridged.{bridge-of-started, release-keeps-bridge, tick-keeps-bridge}
+use Rattle.promise.proofs.BridgeHolds.{bridge-of-started, release-keeps-bridge, tick-keeps-bridge}
 use Rattle.promise.proofs.Units.{jobOf, sound-facts, pending-is-owed}
 use Rattle.promise.proofs.InTime.{feasible-fits, due-had-its-cost}
 use Rattle.promise.proofs.Choice.{late-of-the-trace}

@@ -28,12 +28,12 @@ use Rattle.run.specs.declared.Released.the-variants as release
 use Rattle.run.specs.Sound.{soundOf, jobFits, jobSound}
 use Rattle.run.specs.Release.{released}
 use Rattle.run.specs.Ticking.{ticked}
-use Rattle.replay.proofs.Playing.{release-adds-one}
+use Rattle.replay.proofs.OnItsWay.{release-adds-one}
 use Rattle.run.specs.Answers.{accepted, releaseSays}
 use Rattle.promise.specs.Traces.{Call, runAt}
 use Rattle.promise.specs.Examples.{v1, v8}
 use Rattle.promise.specs.Cheats.{NotAllRefused, NotAllReleasesRefused, NotAlwaysFeasible, NoBlankWitness, NotAlwaysIdle, ReleasesCount}
-use Rattle.promise.proofs.Bridged.{bridge}
+use Rattle.promise.proofs.BridgeHolds.{bridge}
 use Rattle.promise.proofs.Refusals.{pending-count}
 use Rattle.promise.proofs.NoOrder.{says-overloaded}
 use Rattle.promise.proofs.Examples.{v1-is-feasible, v8-is-overloaded}

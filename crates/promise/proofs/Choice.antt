@@ -34,7 +34,7 @@ use Rattle.run.specs.Answers.{idle, ran, tickSays}
 use Rattle.promise.specs.Traces.{Call, Event, eventOf, runAt, trace, clockOf, jobsIn, unitsOf, unfinished}
 use Rattle.promise.specs.Choice.{IdleWhenAllHaveTheirCost, GoesFirst, RanFirst, EarliestDueFirst, lateAt, LateCountIsTheLate}
 use Rattle.promise.proofs.Bridge.{Bridge}
-use Rattle.promise.proofs.Bridged.{bridge}
+use Rattle.promise.proofs.BridgeHolds.{bridge}
 use Rattle.promise.proofs.Units.{total-same, jobOf, sound-facts, pending-is-owed, pending-is-unfinished, unfinished-is-pending}
 use Rattle.promise.proofs.Units.{finished-had-its-cost, unfinished-weigh-as-pending}
 use Rattle.promise.proofs.Ticks.{each-tick}

@@ -40,7 +40,7 @@ use Rattle.run.specs.Answers.{releaseSays, tickSays}
 use Rattle.promise.specs.Traces.{Call, Event, runAt, eventOf, trace, clockOf, jobsIn, unitsOf}
 use Rattle.promise.specs.InTime.{SaidFeasible, InTime, NeverMore, OneJobASerial, ticksIn, ClockCountsTicks, DueTimesCome}
 use Rattle.promise.proofs.Bridge.{ticksOf, Bridge}
-use Rattle.promise.proofs.Bridged.{bridge}
+use Rattle.promise.proofs.BridgeHolds.{bridge}
 use Rattle.promise.proofs.Units.{units-counted, sound-facts, never-more-units}
 use Rattle.promise.proofs.Ticks.{each-tick}
 use Rattle.promise.proofs.Share.{own-member, row-share}

@@ -1,7 +1,7 @@
 pub mod Bridge
 pub mod Waiting
 pub mod Histories
-pub mod Bridged
+pub mod BridgeHolds
 pub mod Units
 pub mod Ticks
 pub mod Share

@@ -7,7 +7,7 @@ use Rattle.verdict.proofs.Rows.{row-within}
 use Rattle.run.specs.Runs.{rowAt}
 use Rattle.promise.specs.Traces.{trace, jobsIn}
 use Rattle.promise.specs.Paper.{DueTimesAreRecurrenceOne}
-use Rattle.promise.proofs.Bridged.{bridge}
+use Rattle.promise.proofs.BridgeHolds.{bridge}
 
 -- The accepted jobs of a row are due as the recurrence says.
 pub due-times-are-recurrence-one : DueTimesAreRecurrenceOne

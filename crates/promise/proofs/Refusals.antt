@@ -34,7 +34,7 @@ use Rattle.run.specs.Answers as says
 use Rattle.promise.specs.Traces.{Call, Event, runAfter, eventOf, runAt, clockOf, jobsIn, unfinishedIn}
 use Rattle.promise.specs.Refusals.{nextDue, releaseAnswer, ReleasesByTheTrace, TicksByTheTrace, PlacesAreEnough, Refused, RefusedChangesNothing}
 use Rattle.promise.proofs.Bridge.{Bridge}
-use Rattle.promise.proofs.Bridged.{bridge}
+use Rattle.promise.proofs.BridgeHolds.{bridge}
 use Rattle.promise.proofs.Units.{sound-facts, unfinished-weigh-as-pending}
 use Rattle.promise.proofs.Ticks.{each-tick}
 

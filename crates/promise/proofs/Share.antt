@@ -22,7 +22,7 @@ use Rattle.run.specs.Runs.{rowAt}
 use Rattle.promise.specs.Traces.{Event, jobsIn, unitsOf}
 use Rattle.promise.specs.Share.{costsIn, consumedIn, Share, NoDemandInNoTime}
 use Rattle.promise.proofs.Bridge.{Bridge}
-use Rattle.promise.proofs.Bridged.{bridge}
+use Rattle.promise.proofs.BridgeHolds.{bridge}
 use Rattle.promise.proofs.Units.{never-more-units}
 
 -- What every job of a list has, every job of a source has.

@@ -28,7 +28,8 @@ use Rattle.run.proofs.Release.{Passed, due-settles}
 use Rattle.run.proofs.Ticking.{Good, facts, tick-idle, idle-keeps, tick-keeps-good}
 use Rattle.replay.specs.Inside.{Held, held, AllPlaces, Stands, LeadsTo}
 use Rattle.replay.proofs.Places.{columns-more}
-use Rattle.replay.proofs.Playing.{TicksFrom, tick-clock, ticks-keep, on-its-way-ticked, release-adds-one, releasedOn, on-its-way-released}
+use Rattle.replay.proofs.SingleTicks.{TicksFrom, tick-clock, ticks-keep}
+use Rattle.replay.proofs.OnItsWay.{on-its-way-ticked, release-adds-one, releasedOn, on-its-way-released}
 
 -- ---- ticks until a time
 

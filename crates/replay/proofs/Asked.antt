@@ -18,7 +18,8 @@ use Rattle.replay.specs.declared.Ready.{Ready}
 use Rattle.replay.specs.Numbers.{numbersAt}
 use Rattle.replay.specs.Play.{Progress, tickedTo, whole, finalTicks, playedFrom}
 use Rattle.replay.specs.Laws.{AskedFor}
-use Rattle.replay.proofs.Playing.{ticks-clock, passed-is-read}
+use Rattle.replay.proofs.SingleTicks.{ticks-clock}
+use Rattle.replay.proofs.Passing.{passed-is-read}
 use Rattle.replay.proofs.Through.{Keeps, Went, went-in-time, by-record, came-to-the-end, step-keeps}
 
 -- A release leaves the clock where it is.

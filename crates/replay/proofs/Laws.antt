@@ -28,7 +28,8 @@ use Rattle.replay.specs.Outcome.{replaySays}
 use Rattle.replay.specs.Laws as laws
 use Rattle.replay.specs.Laws.{RecordOf, AskedFor, LastUnit, OfWhole}
 use Rattle.replay.specs.Inside.{OnItsWay}
-use Rattle.replay.proofs.Playing.{on-its-way-first, on-its-way-ticked, on-its-way-released, first-sound, ticks-keep, tick-clock}
+use Rattle.replay.proofs.SingleTicks.{first-sound, ticks-keep, tick-clock}
+use Rattle.replay.proofs.OnItsWay.{on-its-way-first, on-its-way-ticked, on-its-way-released}
 use Rattle.replay.proofs.Through.{Keeps, kept-through, was-started}
 use Rattle.replay.proofs.Moves.{kept-by-moves}
 use Rattle.replay.proofs.Lateness.{dueBefore, LateSoFar, late-so-far}

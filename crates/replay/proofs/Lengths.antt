@@ -17,7 +17,7 @@ use Rattle.script.specs.Laws.{spelledScript}
 use Rattle.script.proofs.Laws.{script-is-read}
 use Rattle.replay.specs.Play.{Progress}
 use Rattle.replay.specs.Laws.{AskedFor, SmallNumbers, LogHoldsSmallNumbers, LogIsShort}
-use Rattle.replay.proofs.Playing.{finished-small, each-behind}
+use Rattle.replay.proofs.SingleTicks.{finished-small, each-behind}
 use Rattle.replay.proofs.Through.{Keeps, kept-through}
 use Rattle.replay.proofs.Laws.{every-record-is-accepted, one-record-each}
 

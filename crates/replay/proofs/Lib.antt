@@ -2,7 +2,9 @@ pub mod Places
 pub mod Rings
 pub mod Writing
 pub mod Logging
-pub mod Playing
+pub mod SingleTicks
+pub mod Passing
+pub mod OnItsWay
 pub mod Ticking
 pub mod Arriving
 pub mod Replaying

@@ -47,7 +47,8 @@ use Rattle.replay.specs.Inside.{Held, held, AllPlaces, Stands, LeadsTo, 
 use Rattle.replay.proofs.Writing.{tests-refuse, tests-pass, cost-above, ready-row, ready-time, ready-cost}
 use Rattle.replay.proofs.Rings.{rings-empty, fits-here, kept-after-release, kept-carried}
 use Rattle.replay.proofs.Logging.{logs-none, late-are-few, answers-full, answers-in-time, answers-late}
-use Rattle.replay.proofs.Playing.{on-its-way-first, ready-passed, passed-is-read, releasedOn}
+use Rattle.replay.proofs.Passing.{ready-passed, passed-is-read}
+use Rattle.replay.proofs.OnItsWay.{on-its-way-first, releasedOn}
 use Rattle.replay.proofs.Arriving.{heldAt, arrived-keeps, stands-arrived, withMore, release-accepted, stands-released}
 
 -- ---- a script, record by record

@@ -31,7 +31,8 @@ use Rattle.replay.specs.declared.Tested.the-variants as tested
 use Rattle.replay.specs.Numbers.{numbersAt, testedNumbers}
 use Rattle.replay.specs.Play.{Progress, begun, Step, goes-on, stops, afterRelease, tickedTo, afterTests, stepped}
 use Rattle.replay.specs.Play.{whole, finalTicks, andThen, playedFrom, playedOn, onceStarted, played}
-use Rattle.replay.proofs.Playing.{along-ticks, along-draining, ticks-keep, draining-keeps, Passed, ready-passed}
+use Rattle.replay.proofs.SingleTicks.{along-ticks, along-draining, ticks-keep, draining-keeps}
+use Rattle.replay.proofs.Passing.{Passed, ready-passed}
 
 -- ---- one tick and one release
 

@@ -23,7 +23,8 @@ use Rattle.replay.specs.declared.Logged.{Logged}
 use Rattle.replay.specs.Inside.{IsFirstOf, ClosedUp, OneLogged, OnItsWay, Held, held, AllPlaces, Stands, LeadsTo}
 use Rattle.replay.proofs.Places.{serial-at, row-at, release-at, due-at, left-at, columns-without, columns-worked}
 use Rattle.replay.proofs.Logging.{logs-one-more}
-use Rattle.replay.proofs.Playing.{first-is-pending, tick-conserves, finished-in-range, tick-clock, one-tick-keeps, on-its-way-ticked}
+use Rattle.replay.proofs.SingleTicks.{first-is-pending, tick-conserves, finished-in-range, tick-clock, one-tick-keeps}
+use Rattle.replay.proofs.OnItsWay.{on-its-way-ticked}
 
 -- ---- one tick
 

@@ -35,7 +35,7 @@ use Rattle.replay.specs.declared.Logged.{Logged}
 use Rattle.replay.specs.Numbers.{placedAt, placeAfter, numbersAt, onNumber, refusedAt, testedBy, testedNumbers}
 use Rattle.replay.specs.Outcome.{finishedLate}
 use Rattle.replay.specs.Inside.{lateOr, oneWritten, OneLogged}
-use Rattle.replay.proofs.Playing.{PassedBy, ready-passed-by}
+use Rattle.replay.proofs.Passing.{PassedBy, ready-passed-by}
 
 -- ---- the numbers of a record
 

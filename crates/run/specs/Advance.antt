@@ -15,7 +15,8 @@ use Rattle.run.specs.declared.AdvanceAnswer.the-variants as answer
 use Rattle.run.specs.Sound.{soundOf}
 use Rattle.run.specs.Ticking.{ticked}
 
--- What the next tick of a sound run finishes: the job that goes first, if that is its last unit, at the new clock.
+-- What the next tick of a sound run finishes, if its clock can go on: the job that goes first, if that is its last unit, at the new clock. (No definition below ticks on at
+-- the latest time.)
 abbrev pub finishedBy : Run → List Finish
 finishedBy run =
     cond (ltb 0 (run .pending .count) && lastUnit (firstJob (run .pending))) (finishAt (run .clock .0 + 1) (firstJob (run .pending)) ∷ []) []

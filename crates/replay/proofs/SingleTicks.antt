@@ -1,54 +1,33 @@
--- A replay on its way: what ticks keep, one by one, what a record's tests say, and what a release adds. (docs/RULES.md, sections 8.1 to 8.7.)
-use Prim.Native.Nat.{ℕ, zero, suc, _+_, _-_, _≤_, _<_}
+-- What ticks keep of a replay, one by one and many in a row. (docs/RULES.md, sections 6.10 to 6.17, 8.2 and 8.3.)
+use Prim.Native.Nat.{ℕ, zero, suc, _+_, _≤_, _<_}
 use mathlib.Core.Path.{_≡_, refl, sym, ap, _∙_}
 use mathlib.Core.Logic.{⊎-elim}
 use mathlib.Core.Bool.{Bool, true, false, cond}
 use mathlib.Core.List.{List, [], _∷_, _++_, List·Memᴰ·append-cases, List·Memᴰ·eq-of-singleton, List·Memᴰ·not-nil}
 use native.Mathlib.Nat.{add-zero}
 use native.Mathlib.Omega.{arith}
-use lib.Dec.{eqb, ltb}
+use lib.Dec.{eqb}
 use lib.ListN.{length, getD, length-append, length-set}
-use borrow.Author.Tests.{leb-true, le-leb, lt-ltb, le-ltb}
-use Rattle.kinds.proofs.Apart.{impossible}
+use borrow.Author.Tests.{le-leb, lt-ltb, le-ltb}
 use Rattle.theory.proofs.Cases.{by-lt, by-test}
 use Rattle.kinds.specs.Numbering.{maxTime}
 use Rattle.kinds.specs.declared.Finish.{Finish}
-use Rattle.kinds.specs.declared.Refusal.{Refusal}
 use Rattle.numbers.specs.Spelling.{maxNumber}
-use Rattle.numbers.specs.declared.Number.{Number}
-use Rattle.numbers.specs.declared.NumberRead.{NumberRead}
-use Rattle.numbers.specs.declared.NumberRead.the-variants as number
-use Rattle.table.specs.declared.Table.{Table}
-use Rattle.table.specs.Rows.{fromOneTo}
-use Rattle.table.proofs.Each.{Each, each-none}
+use Rattle.table.proofs.Each.{Each}
 use Rattle.jobs.specs.declared.Job.{Job}
-use Rattle.jobs.specs.Places.{maxPlaces, noJob, jobsOf, used, put}
+use Rattle.jobs.specs.Places.{noJob, jobsOf, used}
 use Rattle.jobs.specs.Choice.{firstPlace}
 use Rattle.jobs.specs.Units.{lastUnit, worked}
 use Rattle.jobs.specs.Turns.{firstJob, finishAt}
 use Rattle.jobs.specs.Laws.{unitAt}
 use Rattle.jobs.proofs.Laws.{first-is-there, place-holds-job, without-is-one-less}
 use Rattle.run.specs.declared.Run.{Run}
-use Rattle.run.specs.declared.Accepted.{Accepted}
-use Rattle.run.specs.declared.Released.the-variants as release
-use Rattle.run.specs.Runs.{costLimit}
 use Rattle.run.specs.Sound.{SoundJob}
 use Rattle.run.specs.Ticking.{runWith, ticked}
-use Rattle.run.specs.Release.{released}
-use Rattle.run.specs.Advance.{finishedBy, Since, oneMore, ticks, ticksWhilePending, sinceNow}
-use Rattle.run.proofs.Release.{each-release, release-keeps-sound}
+use Rattle.run.specs.Advance.{finishedBy, Since, oneMore, ticks, ticksWhilePending}
 use Rattle.run.proofs.Ticking.{Good, facts, counted, tick-idle, tick-busy, tick-keeps-good, tick-gives-one-unit}
 use Rattle.log.specs.Log.{valuesOf, allInRange}
 use Rattle.log.specs.Laws.{EachInRange}
-use Rattle.script.specs.declared.RecordRead.the-variants as read
-use Rattle.script.specs.Records.{scriptNumber, recordAt}
-use Rattle.script.proofs.Records.{record-read}
-use Rattle.replay.specs.declared.Numbers.{Numbers}
-use Rattle.replay.specs.declared.Ready.{Ready}
-use Rattle.replay.specs.declared.Tested.{Tested}
-use Rattle.replay.specs.declared.Tested.the-variants as tested
-use Rattle.replay.specs.Numbers.{numbersAt, onNumber, refusedAt, testedBy, testedNumbers}
-use Rattle.replay.specs.Inside.{OnItsWay}
 use Rattle.replay.specs.Laws.{SmallNumbers}
 
 -- ---- one tick
@@ -211,105 +190,3 @@ ticks-clock zero s good room = sym (add-zero (s .run .clock .0))
 ticks-clock (suc n) s good room =
     let one = tick-clock (s .run) good (omega arith) in
     omega (arith, ticks-clock n (oneMore s) (tick-keeps-good (s .run) good) (omega arith))
-
--- ---- a record that passes its tests
-
--- What is known of a record's numbers that passed the tests: all three were read, and what the record asks for.
-pub record PassedBy (rows : ℕ) (allows : (row cost : ℕ) → Bool) (time : ℕ) (n : Numbers) (r : Ready) : Type 0 where
-  pub gap : Number
-  pub row : Number
-  pub cost : Number
-  pub gap-read : n .gap .read ≡ number.Number gap
-  pub row-read : n .row .read ≡ number.Number row
-  pub cost-read : n .cost .read ≡ number.Number cost
-  pub in-time : time + gap .value ≤ maxTime
-  pub in-use : ltb (row .value) rows ≡ true
-  pub allowed : allows (row .value) (cost .value) ≡ true
-  pub asks-for : r ≡ record { time = record { 0 = time + gap .value }; row = record { 0 = row .value }; cost = cost .value; next = cost .next }
-
--- The same by a table.
-abbrev pub Passed : Table → (time : ℕ) → Numbers → Ready → Type 0
-Passed t time n r = PassedBy (t .count) (λ row cost. fromOneTo (costLimit t row) cost) time n r
-
--- What is ready after a number is so because the number was read ..
-number-passed : (v : NumberRead) (k : Number → Tested) {r : Ready} → onNumber v k ≡ tested.Ready r
-    → (n : Number) × (v ≡ number.Number n) × (k n ≡ tested.Ready r)
-number-passed (number.Number n) k e = (n, refl, e)
-number-passed (number.Refused r) k e = impossible cc
-
--- .. and after a test because it says yes.
-test-passed : (test : Bool) (then : Tested) (refusal : Refusal) (place : ℕ) {r : Ready} → cond test then (refusedAt refusal place) ≡ tested.Ready r
-    → (test ≡ true) × (then ≡ tested.Ready r)
-test-passed true then refusal place e = (refl, e)
-test-passed false then refusal place e = impossible cc
-
--- So a record that is ready passed them all.
-pub ready-passed-by : (rows : ℕ) (allows : (row cost : ℕ) → Bool) (time : ℕ) (n : Numbers) (r : Ready) → testedBy rows allows time n ≡ tested.Ready r
-    → PassedBy rows allows time n r
-ready-passed-by rows allows time n r e =
-    let gap = number-passed _ _ e in
-    let in-time = test-passed _ _ _ _ (gap .2) in
-    let row = number-passed _ _ (in-time .1) in
-    let in-use = test-passed _ _ _ _ (row .2) in
-    let cost = number-passed _ _ (in-use .1) in
-    let allowed = test-passed _ _ _ _ (cost .2) in
-    record {
-      gap = gap .0;
-      row = row .0;
-      cost = cost .0;
-      gap-read = gap .1;
-      row-read = row .1;
-      cost-read = cost .1;
-      in-time = leb-true _ _ (in-time .0);
-      in-use = in-use .0;
-      allowed = allowed .0;
-      asks-for = cc;
-    }
-
-pub ready-passed : (t : Table) (time : ℕ) (n : Numbers) (r : Ready) → testedNumbers t time n ≡ tested.Ready r → Passed t time n r
-ready-passed t time n r e = ready-passed-by (t .count) (λ row cost. fromOneTo (costLimit t row) cost) time n r e
-
--- The three numbers at a place that passed are the record that is read there.
-pub passed-is-read : (s : List ℕ) (at : ℕ) → at < length s → {rows : ℕ} {allows : (row cost : ℕ) → Bool} {time : ℕ} {r : Ready}
-    → (p : PassedBy rows allows time (numbersAt s at) r)
-    → recordAt s at ≡ read.Record (record { release = record { gap = p .gap .value; row = r .row; cost = r .cost }; next = r .next })
-passed-is-read s at inside p =
-    let row : scriptNumber s (p .gap .next) ≡ number.Number (p .row) = rw (p .gap-read) at (p .row-read) in
-    let cost : scriptNumber s (p .row .next) ≡ number.Number (p .cost) = rw (p .gap-read, row) at (p .cost-read) in
-    rw (p .asks-for) (record-read s at inside (p .gap) (p .gap-read) (p .row) row (p .cost) cost)
-
--- ---- a replay on its way
-
--- A replay is on its way before the first serial, ..
-pub on-its-way-first : (run : Run) → Good run → run .next .0 ≡ 0 → run .pending .count ≡ 0 → OnItsWay (sinceNow run)
-on-its-way-first run good e f = record { good = good; in-range = each-none _; all-there = omega arith }
-
--- .. after ticks, ..
-pub on-its-way-ticked : {s t : Since} → OnItsWay s → TicksFrom s t → OnItsWay t
-on-its-way-ticked {s} {t} w k = record {
-  good = k .good;
-  in-range = k .in-range (w .in-range);
-  all-there = rw (k .same-next) (omega (arith, k .conserved, w .all-there));
-}
-
--- .. and after a release, which adds one job with one serial.
-pub release-adds-one : (run : Run) (row cost : ℕ) (a : Accepted) → released run row cost .answer ≡ release.Accepted a
-    → (released run row cost .run .pending .count ≡ run .pending .count + 1) × (released run row cost .run .next .0 ≡ run .next .0 + 1)
-unfolding put
-release-adds-one run row cost a =
-    each-release run row cost
-    (λ step. step .answer ≡ release.Accepted a → (step .run .pending .count ≡ run .pending .count + 1) × (step .run .next .0 ≡ run .next .0 + 1))
-    (λ r e. impossible cc)
-    (λ t p given e. (rw (lt-ltb (run .pending .count) maxPlaces (p .room)), refl))
-
--- What a release that is accepted makes of what had happened.
-abbrev pub releasedOn : Since → (row cost : ℕ) → Since
-releasedOn s row cost = record { run = released (s .run) row cost .run; late = s .late; finishes = s .finishes }
-
-pub on-its-way-released : (s : Since) (row cost : ℕ) (a : Accepted) → released (s .run) row cost .answer ≡ release.Accepted a → OnItsWay s
-    → OnItsWay (releasedOn s row cost)
-on-its-way-released s row cost a e w = record {
-  good = release-keeps-sound (s .run) row cost (w .good .1) (w .good .0);
-  in-range = w .in-range;
-  all-there = omega (arith, release-adds-one (s .run) row cost a e, w .all-there);
-}
