@@ -1,4 +1,4 @@
--- `run::rows_sound` meets its contract. The loop's invariant: whether all rows are sound is settled by those from here on.
+-- `run::soundness::rows_sound` meets its contract. The loop's invariant: whether all rows are sound is settled by those from here on.
 use Prim.Native.Nat.{_-_}
 use mathlib.Core.Bool.{true}
 use mathlib.Core.Path.{_≡_, refl, sym, _∙_}
@@ -9,8 +9,8 @@ use Rattle.kinds.proofs.Lists.{length-mapped}
 use Rattle.table.specs.Rows.{rowInRange}
 use Rattle.run.specs.Runs.{rowAt}
 use Rattle.run.proofs.Sound.{RowsFrom, row-out-of-range, kept-unsound, row-sound, no-row-left}
-use Rattle.run.proofs.rows_sound.Statement.{statement}
-use Rattle.run.proofs.rows_sound.Tie as tie
+use Rattle.run.proofs.soundness.rows_sound.Statement.{statement}
+use Rattle.run.proofs.soundness.rows_sound.Tie as tie
 
 abbrev Inv-loop : tie.InvT-loop
 Inv-loop table kept i₀ i = RowsFrom table kept i

@@ -1,8 +1,8 @@
--- `run::job_fits` meets its contract: it tests what the rule names, in its order.
+-- `run::soundness::job_fits` meets its contract: it tests what the rule names, in its order.
 use mathlib.Core.Path.{refl}
 use Rattle.run.specs.Sound.{jobFits}
-use Rattle.run.proofs.job_fits.Statement.{statement}
-use Rattle.run.proofs.job_fits.Tie as tie
+use Rattle.run.proofs.soundness.job_fits.Statement.{statement}
+use Rattle.run.proofs.soundness.job_fits.Tie as tie
 
 returns : tie.Need-returns
 unfolding jobFits

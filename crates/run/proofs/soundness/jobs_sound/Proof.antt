@@ -1,4 +1,4 @@
--- `run::jobs_sound` meets its contract. The loop's invariant: whether all jobs are sound is settled by those from here on.
+-- `run::soundness::jobs_sound` meets its contract. The loop's invariant: whether all jobs are sound is settled by those from here on.
 use Prim.Native.Nat.{_-_}
 use mathlib.Core.Path.{refl, sym, _∙_}
 use native.Mathlib.Omega.{arith}
@@ -6,8 +6,8 @@ use borrow.Author.Needs.{needs}
 use borrow.Author.Tests.{not-true, not-false}
 use Rattle.kinds.proofs.Lists.{length-mapped}
 use Rattle.run.proofs.Sound.{JobsFrom, no-such-row, job-does-not-fit, job-fits, no-job-left}
-use Rattle.run.proofs.jobs_sound.Statement.{statement}
-use Rattle.run.proofs.jobs_sound.Tie as tie
+use Rattle.run.proofs.soundness.jobs_sound.Statement.{statement}
+use Rattle.run.proofs.soundness.jobs_sound.Tie as tie
 
 abbrev Inv-loop : tie.InvT-loop
 Inv-loop clock next table pending i₀ i = JobsFrom table (clock .0) (next .0) pending i
