@@ -1,4 +1,4 @@
--- `jobs::meets_again` meets its contract. The loop's invariant: the serial stands at a later place exactly where it stands at `i` or after.
+-- `jobs::distinct::meets_again` meets its contract. The loop's invariant: the serial stands at a later place exactly where it stands at `i` or after.
 use Prim.Native.Nat.{_+_, _-_, _<_}
 use mathlib.Core.Path.{_≡_, refl, sym, ap, _∙_}
 use mathlib.Core.Bool.{not}
@@ -7,8 +7,8 @@ use lib.ListN.{take, drop}
 use Rattle.jobs.specs.Serials.{hasNot}
 use Rattle.jobs.specs.Laws.{serialAt}
 use Rattle.jobs.proofs.Serials.{met, not-met, rest-end}
-use Rattle.jobs.proofs.meets_again.Statement.{statement}
-use Rattle.jobs.proofs.meets_again.Tie as tie
+use Rattle.jobs.proofs.distinct.meets_again.Statement.{statement}
+use Rattle.jobs.proofs.distinct.meets_again.Tie as tie
 
 abbrev Inv-loop : tie.InvT-loop
 Inv-loop count at places job i₀ i =

@@ -1,7 +1,7 @@
 -- `no_finish` meets its contract: it is the finish of no job.
 use borrow.Author.Needs.{needs}
-use Rattle.jobs.proofs.no_finish.Statement.{statement}
-use Rattle.jobs.proofs.no_finish.Tie as tie
+use Rattle.jobs.proofs.one_job.no_finish.Statement.{statement}
+use Rattle.jobs.proofs.one_job.no_finish.Tie as tie
 
 no-job-requires : tie.Need-no-job-requires
 no-job-requires c κs = search needs

@@ -1,12 +1,12 @@
--- `jobs::rising` meets its contract. The loop's invariant: all serials rise where those from `i` on do, above the one before `i`.
+-- `jobs::distinct::rising` meets its contract. The loop's invariant: all serials rise where those from `i` on do, above the one before `i`.
 use Prim.Native.Nat.{_-_, _≤_}
 use mathlib.Core.Path.{_≡_, sym, _∙_}
 use native.Mathlib.Omega.{arith}
 use lib.ListN.{take}
 use Rattle.jobs.specs.Serials.{risingSerials}
 use Rattle.jobs.proofs.Serials.{risingFrom, rising-start, rising-stops, rising-goes-on, rest-end}
-use Rattle.jobs.proofs.rising.Statement.{statement}
-use Rattle.jobs.proofs.rising.Tie as tie
+use Rattle.jobs.proofs.distinct.rising.Statement.{statement}
+use Rattle.jobs.proofs.distinct.rising.Tie as tie
 
 abbrev Inv-loop : tie.InvT-loop
 Inv-loop count places i₀ i = (1 ≤ i) × (risingFrom count places i ≡ risingSerials (take count places))

@@ -1,7 +1,7 @@
 -- `is_late` meets its contract: each `return` is one case of the definition.
 use Rattle.jobs.proofs.Late.{late-at-due, late-at-due-alone}
-use Rattle.jobs.proofs.is_late.Statement.{statement}
-use Rattle.jobs.proofs.is_late.Tie as tie
+use Rattle.jobs.proofs.one_job.is_late.Statement.{statement}
+use Rattle.jobs.proofs.one_job.is_late.Tie as tie
 
 returns : tie.Need-returns
 returns c =

@@ -1,7 +1,7 @@
 -- `goes_before` meets its contract: each `return` is one case of the definition.
 use Rattle.jobs.proofs.First.{goes-by-due, goes-not-by-due, goes-by-serial}
-use Rattle.jobs.proofs.goes_before.Statement.{statement}
-use Rattle.jobs.proofs.goes_before.Tie as tie
+use Rattle.jobs.proofs.one_job.goes_before.Statement.{statement}
+use Rattle.jobs.proofs.one_job.goes_before.Tie as tie
 
 returns : tie.Need-returns
 returns c =
