@@ -1,7 +1,7 @@
--- `replay::placed_at` meets its contract: what is read at the place is the script's number there.
+-- `replay::records::placed_at` meets its contract: what is read at the place is the script's number there.
 use borrow.Author.Needs.{needs}
-use Rattle.replay.proofs.placed_at.Statement.{statement}
-use Rattle.replay.proofs.placed_at.Tie as tie
+use Rattle.replay.proofs.records.placed_at.Statement.{statement}
+use Rattle.replay.proofs.records.placed_at.Tie as tie
 
 number-at-requires : tie.Need-number-at-requires
 number-at-requires c κs = search needs

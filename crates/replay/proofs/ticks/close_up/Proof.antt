@@ -1,12 +1,12 @@
--- `replay::close_up` meets its contract. The loop has moved what stood at the places from `at` to i down by one.
+-- `replay::ticks::close_up` meets its contract. The loop has moved what stood at the places from `at` to i down by one.
 use Prim.Native.Nat.{_-_, _≤_, _<_}
 use mathlib.Core.Path.{_≡_, refl, _∙_}
 use native.Mathlib.Omega.{arith}
 use lib.ListN.{length, length-set}
 use Rattle.jobs.proofs.Places.{moved, moved-none, moved-more}
 use Rattle.replay.proofs.Places.{closed-up}
-use Rattle.replay.proofs.close_up.Statement.{statement}
-use Rattle.replay.proofs.close_up.Tie as tie
+use Rattle.replay.proofs.ticks.close_up.Statement.{statement}
+use Rattle.replay.proofs.ticks.close_up.Tie as tie
 
 abbrev Inv-loop : tie.InvT-loop
 Inv-loop values₀ at last i₀ values i =

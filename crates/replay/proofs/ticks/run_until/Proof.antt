@@ -1,11 +1,11 @@
--- `replay::run_until` meets its contract. The loop's invariant: with the ticks still to come, what the arrays held leads to the same.
+-- `replay::ticks::run_until` meets its contract. The loop's invariant: with the ticks still to come, what the arrays held leads to the same.
 use Prim.Native.Nat.{_-_, _≤_, _<_}
 use native.Mathlib.Omega.{arith}
 use Rattle.jobs.specs.Places.{maxPlaces}
 use Rattle.replay.specs.Inside.{held}
 use Rattle.replay.proofs.Ticking.{TicksOn, no-ticks-yet, finished-on, worked-on, time-reached, nothing-pending}
-use Rattle.replay.proofs.run_until.Statement.{statement}
-use Rattle.replay.proofs.run_until.Tie as tie
+use Rattle.replay.proofs.ticks.run_until.Statement.{statement}
+use Rattle.replay.proofs.ticks.run_until.Tie as tie
 
 abbrev Inv-loop : tie.InvT-loop
 Inv-loop serials₀ rows₀ releases₀ dues₀ left₀ log₀ count clock until count₀ clock₀ logged₀ serials rows releases dues left log count' clock' logged =

@@ -1,4 +1,4 @@
--- `replay::log_finish` meets its contract: a job that finished is counted where it is late, and written where it fits.
+-- `replay::ticks::log_finish` meets its contract: a job that finished is counted where it is late, and written where it fits.
 use Prim.Native.Nat.{_-_}
 use native.Mathlib.Omega.{arith}
 use mathlib.Core.Path.{_≡_, sym, _∙_}
@@ -10,8 +10,8 @@ use Rattle.log.specs.Laws.{RecordBehind}
 use Rattle.log.proofs.Laws.{record-written, rest-of-log}
 use Rattle.replay.specs.Inside.{lateOr}
 use Rattle.replay.proofs.Writing.{counted-late, counted-in-time, one-dropped, one-written, one-without-room}
-use Rattle.replay.proofs.log_finish.Statement.{statement}
-use Rattle.replay.proofs.log_finish.Tie as tie
+use Rattle.replay.proofs.ticks.log_finish.Statement.{statement}
+use Rattle.replay.proofs.ticks.log_finish.Tie as tie
 
 -- The job is counted where it is late.
 counted : (c : tie.Joined1) → (let a = c .before .before .before .args in c .if1 .late ≡ lateOr (a .logged) (a .job))

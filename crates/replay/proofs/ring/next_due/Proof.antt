@@ -1,5 +1,5 @@
--- `replay::next_due` meets its contract. The values of a row in range are small enough for the sums and places to fit. Where the branches meet, the due time at
--- hand is the later of the two, and the oldest is the one after the oldest before.
+-- `replay::ring::next_due` meets its contract. The values of a row in range are small enough for the sums and places to fit. Where the branches meet, the due
+-- time at hand is the later of the two, and the oldest is the one after the oldest before.
 use Prim.Native.Nat.{_+_, _*_, max}
 use mathlib.Core.Path.{_≡_, _∙_}
 use mathlib.Core.Logic.{⊎-elim}
@@ -8,8 +8,8 @@ use borrow.Author.Needs.{needs}
 use lib.ListN.{getD}
 use Rattle.due.specs.Kept.{maxKept}
 use Rattle.replay.proofs.Rings.{nextOldest, next-behind, next-at-start, row-within, refuses-first, gives-first, refuses-further, gives-further}
-use Rattle.replay.proofs.next_due.Statement.{statement}
-use Rattle.replay.proofs.next_due.Tie as tie
+use Rattle.replay.proofs.ring.next_due.Statement.{statement}
+use Rattle.replay.proofs.ring.next_due.Tie as tie
 
 -- The later of d after the clock, and y after the oldest.
 later : (c : tie.Joined3) → let a = c .before .before .before .before .before .args in

@@ -1,11 +1,11 @@
--- `replay::test_numbers` meets its contract: each answer is that of the tests which led to it.
+-- `replay::records::test_numbers` meets its contract: each answer is that of the tests which led to it.
 use native.Mathlib.Omega.{arith}
 use mathlib.Core.Path.{_∙_}
 use borrow.Author.Needs.{needs}
 use borrow.Author.Tests.{le-leb, lt-leb}
 use Rattle.replay.proofs.Writing.{GapFits, RowFits, gap-unread, time-too-late, row-unread, no-such-row, cost-unread, not-allowed, ready, someCost}
-use Rattle.replay.proofs.test_numbers.Statement.{statement}
-use Rattle.replay.proofs.test_numbers.Tie as tie
+use Rattle.replay.proofs.records.test_numbers.Statement.{statement}
+use Rattle.replay.proofs.records.test_numbers.Tie as tie
 
 -- Past the first test the gap fits ..
 gap-fits : (c : tie.Else1)

@@ -1,4 +1,4 @@
--- `replay::first_due` meets its contract. The loop has looked at the jobs before the place i.
+-- `replay::ticks::first_due` meets its contract. The loop has looked at the jobs before the place i.
 use Prim.Native.Nat.{_-_, _<_}
 use mathlib.Core.Path.{sym, _∙_}
 use mathlib.Core.Logic.{⊎-elim}
@@ -7,8 +7,8 @@ use lib.ListN.{take}
 use lib.Seq.{getD-take}
 use borrow.Author.Needs.{needs}
 use Rattle.replay.proofs.Places.{Searched, searched-one, searched-better, searched-worse, searched-all}
-use Rattle.replay.proofs.first_due.Statement.{statement}
-use Rattle.replay.proofs.first_due.Tie as tie
+use Rattle.replay.proofs.ticks.first_due.Statement.{statement}
+use Rattle.replay.proofs.ticks.first_due.Tie as tie
 
 abbrev Inv-loop : tie.InvT-loop
 Inv-loop dues serials count at₀ due₀ serial₀ i₀ at due serial i = Searched (take count dues) (take count serials) count at due serial i

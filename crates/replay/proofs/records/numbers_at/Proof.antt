@@ -1,8 +1,8 @@
--- `replay::numbers_at` meets its contract: each number is looked for at the place after the one before.
+-- `replay::records::numbers_at` meets its contract: each number is looked for at the place after the one before.
 use borrow.Author.Needs.{needs}
 use Rattle.replay.proofs.Writing.{numbers-of}
-use Rattle.replay.proofs.numbers_at.Statement.{statement}
-use Rattle.replay.proofs.numbers_at.Tie as tie
+use Rattle.replay.proofs.records.numbers_at.Statement.{statement}
+use Rattle.replay.proofs.records.numbers_at.Tie as tie
 
 placed-at-requires : tie.Need-placed-at-requires
 placed-at-requires c κs = search needs

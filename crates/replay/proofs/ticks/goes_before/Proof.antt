@@ -1,7 +1,7 @@
--- `replay::goes_before` meets its contract: each `return` is one case of the definition.
+-- `replay::ticks::goes_before` meets its contract: each `return` is one case of the definition.
 use Rattle.replay.proofs.Places.{before-by-due, not-before-by-due, before-by-serial}
-use Rattle.replay.proofs.goes_before.Statement.{statement}
-use Rattle.replay.proofs.goes_before.Tie as tie
+use Rattle.replay.proofs.ticks.goes_before.Statement.{statement}
+use Rattle.replay.proofs.ticks.goes_before.Tie as tie
 
 returns : tie.Need-returns
 returns c = let a = c .before .args in before-by-due (a .due) (a .serial) (a .other) (a .its) (c .if1 .taken)
