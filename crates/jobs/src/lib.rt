@@ -1,20 +1,28 @@
 // Jobs that wait for the processor: which one goes first, one unit given, a job taken out, who became late, and many ticks in one go. Nothing here knows of
 // tables or of a clock's limit, so another run with another choice can use it. (docs/RULES.md, section 6.)
+mod distinct;
+mod one_job;
+
+use crate::distinct::meets_again;
+use crate::distinct::rising;
+use crate::one_job::finish_of;
+use crate::one_job::goes_before;
+use crate::one_job::is_late;
+use crate::one_job::no_finish;
+use crate::one_job::no_job;
 use kinds::Finish;
 use kinds::RowNumber;
 use kinds::Serial;
 use kinds::Tick;
 ghost use mathlib.Core.Path.{_≡_};
-ghost use mathlib.Core.Bool.{not};
 ghost use mathlib.Core.List.{[]};
-ghost use Prim.Native.Nat.{_+_, _≤_, _<_, min};
-ghost use lib.ListN.{take, drop, getD};
-ghost use Rattle.jobs.specs.Places.{maxPlaces, noJob, emptyPending, jobsOf, put, takenOut};
-ghost use Rattle.jobs.specs.Choice.{goesBefore, choiceOf};
+ghost use Prim.Native.Nat.{min};
+ghost use Rattle.jobs.specs.Places.{maxPlaces, emptyPending, jobsOf, put, takenOut};
+ghost use Rattle.jobs.specs.Choice.{choiceOf};
 ghost use Rattle.jobs.specs.Units.{given};
-ghost use Rattle.jobs.specs.Late.{isLate, lateCount};
-ghost use Rattle.jobs.specs.Serials.{hasNot, distinctSerials, risingSerials};
-ghost use Rattle.jobs.specs.Turns.{finishAt, noFinish, finishesOf, ticksFrom};
+ghost use Rattle.jobs.specs.Late.{lateCount};
+ghost use Rattle.jobs.specs.Serials.{distinctSerials};
+ghost use Rattle.jobs.specs.Turns.{finishesOf, ticksFrom};
 
 // A pending job: what it asked for, and the units that it has left to get.
 pub struct Job {
@@ -77,32 +85,6 @@ pub struct Ticks {
     pub finishes: Finishes,
 }
 
-fn no_job() -> Job
-    ensures { λ r. ⌜ r ≡ noJob ⌝ }
-{
-    Job {
-        serial: Serial(0),
-        row: RowNumber(0),
-        release: Tick(0),
-        due: Tick(0),
-        cost: 0,
-        left: 0,
-    }
-}
-
-// An earlier due time goes first, and the lower serial among equals.
-fn goes_before(a: Job, b: Job) -> bool
-    ensures { λ r. ⌜ r ≡ goesBefore a b ⌝ }
-{
-    if a.due.0 < b.due.0 {
-        return true;
-    }
-    if b.due.0 < a.due.0 {
-        return false;
-    }
-    a.serial.0 < b.serial.0
-}
-
 // A count above the places means all of them.
 fn in_use(count: usize) -> usize
     ensures { λ r. ⌜ r ≡ min count maxPlaces ⌝ }
@@ -112,72 +94,6 @@ fn in_use(count: usize) -> usize
     } else {
         Pending::PLACES
     }
-}
-
-// Whether a job is unfinished and due at the clock.
-fn is_late(job: Job, clock: Tick) -> bool
-    ensures { λ r. ⌜ r ≡ isLate (clock .0) job ⌝ }
-{
-    if job.due.0 == clock.0 {
-        return 0 < job.left;
-    }
-    false
-}
-
-// Whether each serial is above the one before it.
-fn rising(places: [Job; Pending::PLACES], count: usize) -> bool
-    requires { ⌜ count ≤ maxPlaces ⌝ }
-    ensures { λ r. ⌜ r ≡ risingSerials (take count places) ⌝ }
-{
-    let mut i: usize = 1;
-    while i < count {
-        let before = places[i - 1];
-        let job = places[i];
-        if job.serial.0 <= before.serial.0 {
-            return false;
-        }
-        i += 1;
-    }
-    true
-}
-
-// Whether the serial at a place stands at a later place again.
-fn meets_again(places: [Job; Pending::PLACES], count: usize, at: usize) -> bool
-    requires { ⌜ (at < count) × (count ≤ maxPlaces) ⌝ }
-    ensures { λ r. ⌜ r ≡ not (hasNot (getD places at noJob .serial .0) (drop (at + 1) (take count places))) ⌝ }
-{
-    let job = places[at];
-    let mut i = at + 1;
-    while i < count {
-        let other = places[i];
-        if other.serial.0 == job.serial.0 {
-            return true;
-        }
-        i += 1;
-    }
-    false
-}
-
-fn finish_of(job: Job, finish: Tick) -> Finish
-    ensures { λ r. ⌜ r ≡ finishAt (finish .0) job ⌝ }
-{
-    let serial = job.serial;
-    let row = job.row;
-    let release = job.release;
-    let due = job.due;
-    Finish {
-        serial,
-        row,
-        release,
-        due,
-        finish,
-    }
-}
-
-fn no_finish() -> Finish
-    ensures { λ r. ⌜ r ≡ noFinish ⌝ }
-{
-    finish_of(no_job(), Tick(0))
 }
 
 impl Finishes {

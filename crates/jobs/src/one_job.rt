@@ -1,0 +1,70 @@
+// What is asked of one job or two: what an unused place holds, which job goes first, whether one is late, and its record once it finished.
+// (docs/RULES.md, 6.11, 6.13 and 6.14.)
+use crate::Job;
+use kinds::Finish;
+use kinds::RowNumber;
+use kinds::Serial;
+use kinds::Tick;
+ghost use mathlib.Core.Path.{_≡_};
+ghost use Rattle.jobs.specs.Places.{noJob};
+ghost use Rattle.jobs.specs.Choice.{goesBefore};
+ghost use Rattle.jobs.specs.Late.{isLate};
+ghost use Rattle.jobs.specs.Turns.{finishAt, noFinish};
+
+pub(crate) fn no_job() -> Job
+    ensures { λ r. ⌜ r ≡ noJob ⌝ }
+{
+    Job {
+        serial: Serial(0),
+        row: RowNumber(0),
+        release: Tick(0),
+        due: Tick(0),
+        cost: 0,
+        left: 0,
+    }
+}
+
+// An earlier due time goes first, and the lower serial among equals.
+pub(crate) fn goes_before(a: Job, b: Job) -> bool
+    ensures { λ r. ⌜ r ≡ goesBefore a b ⌝ }
+{
+    if a.due.0 < b.due.0 {
+        return true;
+    }
+    if b.due.0 < a.due.0 {
+        return false;
+    }
+    a.serial.0 < b.serial.0
+}
+
+// Whether a job is unfinished and due at the clock.
+pub(crate) fn is_late(job: Job, clock: Tick) -> bool
+    ensures { λ r. ⌜ r ≡ isLate (clock .0) job ⌝ }
+{
+    if job.due.0 == clock.0 {
+        return 0 < job.left;
+    }
+    false
+}
+
+pub(crate) fn finish_of(job: Job, finish: Tick) -> Finish
+    ensures { λ r. ⌜ r ≡ finishAt (finish .0) job ⌝ }
+{
+    let serial = job.serial;
+    let row = job.row;
+    let release = job.release;
+    let due = job.due;
+    Finish {
+        serial,
+        row,
+        release,
+        due,
+        finish,
+    }
+}
+
+pub(crate) fn no_finish() -> Finish
+    ensures { λ r. ⌜ r ≡ noFinish ⌝ }
+{
+    finish_of(no_job(), Tick(0))
+}
