@@ -16,6 +16,7 @@ use Rattle.theory.proofs.Cases.{by-lt, by-eq}
 use Rattle.table.specs.declared.TableAnswer.{TableAnswer}
 use Rattle.table.specs.declared.TableAnswer.the-variants as answer
 use Rattle.table.specs.Tables.{tableRead}
+use Rattle.table.proofs.Refusals.{refused-with-one-to-five}
 use Rattle.words.specs.Words.{wordLength, lowestFirst}
 use Rattle.words.proofs.Laws.{lowest-first-length}
 use Rattle.verdict.specs.declared.Verdict.{Verdict}
@@ -24,7 +25,7 @@ use Rattle.verdict.specs.Verdict.{RightOfRead, Judged, verdictSays}
 use Rattle.replay.specs.declared.Replayed.{Replayed}
 use Rattle.replay.specs.declared.Replayed.the-variants as replayed
 use Rattle.replay.specs.Outcome.{replayOf, replaySays}
-use Rattle.replay.proofs.Stopping.{table-refusals, stopped-by}
+use Rattle.replay.proofs.Stopping.{stopped-by}
 use Rattle.replay.proofs.Answering.{no-room-means, refused-means}
 use Rattle.replay.proofs.Lengths.{log-is-short}
 use Rattle.host.specs.Answer.{answerLength, answerBytes, wrong-size, said}
@@ -136,24 +137,25 @@ ten-times-is-room table script room size rows records enough = by-eq size answer
 -- ---- numbers that a verdict has
 
 -- A verdict that is right of a table is known by 1 to 5, as the table is refused, or by 20 or 21.
-verdict-says : (table : List ℕ) (v : Verdict) → Judged table v
+verdict-says : (table : List ℕ) (v : Verdict) → Bytes table → Judged table v
     → ((1 ≤ verdictSays v .number) × (verdictSays v .number ≤ 5)) ⊎ ((20 ≤ verdictSays v .number) × (verdictSays v .number ≤ 21))
-verdict-says table verdict.Feasible j = inr (omega arith, omega arith)
-verdict-says table (verdict.Overloaded w) j = inr (omega arith, omega arith)
-verdict-says table (verdict.Refused r) j = inl (never-zero (r .refusal), by-answer (tableRead table .answer) refl j)
+verdict-says table verdict.Feasible bytes j = inr (omega arith, omega arith)
+verdict-says table (verdict.Overloaded w) bytes j = inr (omega arith, omega arith)
+verdict-says table (verdict.Refused r) bytes j = inl (never-zero (r .refusal), by-answer (tableRead table .answer) refl j)
   where
     by-answer : (a : TableAnswer) → tableRead table .answer ≡ a → RightOfRead (tableRead table .table) a (verdict.Refused r)
         → refusalNumber (r .refusal) ≤ 5
     by-answer (answer.Accepted period) e right = absurd right
-    by-answer (answer.Refused q) e right = let same : r ≡ q = cc in rw same (table-refusals table q e)
+    by-answer (answer.Refused q) e right = let same : r ≡ q = cc in rw same (refused-with-one-to-five table q bytes e)
 
 pub verdict-statuses : VerdictStatuses
-verdict-statuses table answer status after (wrong-size l s k) = inr (inl s)
-verdict-statuses table answer status after (said l v j s k) = rw s (⊎-elim (λ low. inl low) (λ high. inr (inr high)) (verdict-says table v j))
+verdict-statuses table answer status after bytes (wrong-size l s k) = inr (inl s)
+verdict-statuses table answer status after bytes (said l v j s k) =
+    rw s (⊎-elim (λ low. inl low) (λ high. inr (inr high)) (verdict-says table v bytes j))
 
 pub verdict-is-13 : VerdictIs13
-verdict-is-13 table answer status after (wrong-size l s k) = (λ is. l, λ other. s)
-verdict-is-13 table answer status after (said l v j s k) = (
-  λ is. absurd (⊎-elim (λ low. omega arith) (λ high. omega arith) (verdict-says table v j)),
+verdict-is-13 table answer status after bytes (wrong-size l s k) = (λ is. l, λ other. s)
+verdict-is-13 table answer status after bytes (said l v j s k) = (
+  λ is. absurd (⊎-elim (λ low. omega arith) (λ high. omega arith) (verdict-says table v bytes j)),
   λ other. absurd (other l),
 )

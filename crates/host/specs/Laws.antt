@@ -74,9 +74,10 @@ TenTimesIsRoom = (table script : List ℕ) (room size : ℕ) → Bytes table →
 
 -- A verdict's status is 1 to 5, 13, 20 or 21 (so never 11 or 25) .. (10.4, 10.6)
 abbrev pub VerdictStatuses : Type 0
-VerdictStatuses = (table answer : List ℕ) (status : ℕ) (after : List ℕ) → VerdictAnswered table answer status after
+VerdictStatuses = (table answer : List ℕ) (status : ℕ) (after : List ℕ) → Bytes table → VerdictAnswered table answer status after
     → ((1 ≤ status) × (status ≤ 5)) ⊎ ((status ≡ 13) ⊎ ((20 ≤ status) × (status ≤ 21)))
 
 -- .. and it is 13 exactly where the answer buffer is not 16 bytes long. (9.6)
 abbrev pub VerdictIs13 : Type 0
-VerdictIs13 = (table answer : List ℕ) (status : ℕ) (after : List ℕ) → VerdictAnswered table answer status after → (status ≡ 13) ↔ (length answer ≢ 16)
+VerdictIs13 = (table answer : List ℕ) (status : ℕ) (after : List ℕ) → Bytes table → VerdictAnswered table answer status after
+    → (status ≡ 13) ↔ (length answer ≢ 16)

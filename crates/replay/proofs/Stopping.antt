@@ -1,33 +1,26 @@
 -- What stops a play, and how it comes to its end. (docs/RULES.md, sections 8.1, 8.2, 8.5, 8.7 and 10.4.)
-use Prim.Native.Nat.{ℕ, zero, suc, _+_, _-_, _≤_, _<_}
+use Prim.Native.Nat.{ℕ, zero, suc, _+_, _≤_, _<_}
 use mathlib.Core.Path.{_≡_, refl, sym, ap, subst, _∙_}
 use mathlib.Core.Logic.{_⊎_, _≢_, inl, inr}
-use mathlib.Core.Bool.{true, _&&_}
+use mathlib.Core.Bool.{true}
 use mathlib.Core.List.{List}
 use native.Mathlib.Omega.{arith}
 use lib.Dec.{leb, ltb}
-use lib.ListN.{length, drop}
+use lib.ListN.{length}
 use borrow.Author.Tests.{le-ltb, eq-eqb, ne-eqb}
-use Rattle.kinds.specs.Numbering.{maxTime, refusalNumber}
+use Rattle.kinds.specs.Numbering.{maxTime}
 use Rattle.kinds.specs.declared.Refusal.the-variants.{TimeTooLate}
 use Rattle.kinds.specs.declared.RefusedAt.{RefusedAt}
 use Rattle.numbers.specs.Laws.{Bytes}
 use Rattle.numbers.specs.declared.Number.{Number}
-use Rattle.numbers.specs.declared.NumberRead.{NumberRead}
-use Rattle.numbers.specs.declared.NumberRead.the-variants as number
-use Rattle.numbers.specs.Spelling.{maxGroups}
-use Rattle.numbers.specs.Reading.{Spelt, superfluous-zero, asks-for-more, cut-off, answered, spelt, readAt}
-use Rattle.numbers.specs.Reading as spelt
 use Rattle.theory.proofs.Cases.{by-lt, by-eq, by-test}
 use Rattle.theory.specs.DueTimes.{dueTime}
 use Rattle.table.specs.declared.Row.{Row}
 use Rattle.table.specs.declared.TableAnswer.{TableAnswer}
 use Rattle.table.specs.declared.TableAnswer.the-variants as answer
-use Rattle.table.specs.Limits.{maxRows, maxPeriod, maxX, maxY, maxD, maxC}
-use Rattle.table.specs.Period.{periodOf}
-use Rattle.table.specs.Rows.{fromOneTo, rowInRange, withinLimit, ruleOfX, ruleOfY, ruleOfD, ruleOfC, readValue, readRow}
-use Rattle.table.specs.Rows as value
-use Rattle.table.specs.Tables.{Rows, rows, inFront, afterRow, readRows, afterRows, afterCount, tableRead}
+use Rattle.table.specs.Rows.{fromOneTo, rowInRange}
+use Rattle.table.specs.Tables.{tableRead}
+use Rattle.table.proofs.Refusals.{refused-with-one-to-five}
 use Rattle.due.specs.declared.Due.{Due}
 use Rattle.due.specs.declared.Due.the-variants as due
 use Rattle.due.specs.declared.Kept.{Kept}
@@ -195,24 +188,7 @@ whole-means t s q bytes = (
 
 -- ---- the refusals that stop a play
 
--- The refusals of tables are 1 to 5.
-abbrev OfTables : RefusedAt → Type 0
-OfTables r = refusalNumber (r .refusal) ≤ 5
-
--- Each answer that may be a refusal: if it is, it is one of tables, ..
-abbrev NumberStops : NumberRead → Type 0
-NumberStops (number.Number n) = Unit {0}
-NumberStops (number.Refused r) = OfTables r
-
-abbrev RowsStop : Rows → Type 0
-RowsStop (rows rs next) = Unit {0}
-RowsStop (Rows.refused r) = OfTables r
-
-abbrev TableStops : TableAnswer → Type 0
-TableStops (answer.Accepted period) = Unit {0}
-TableStops (answer.Refused r) = OfTables r
-
--- .. or else one that can stop a play.
+-- Each answer that may be a refusal: if it is, it can stop a play.
 abbrev DueStops : Due → Type 0
 DueStops (due.At t) = Unit {0}
 DueStops (due.Refused r) = CanStop r
@@ -221,68 +197,7 @@ abbrev ReleaseStops : Released → Type 0
 ReleaseStops (release.Accepted a) = Unit {0}
 ReleaseStops (release.Refused r) = CanStop r
 
--- A table's, ..
-number-stops : (s : List ℕ) (at : ℕ) → NumberStops (readAt s at)
-number-stops s at = by-spelt (spelt maxGroups (drop at s) at)
-  where
-    by-spelt : (x : Spelt) → NumberStops (answered at x)
-    by-spelt (spelt.number n next) = tt
-    by-spelt (superfluous-zero place) = omega arith
-    by-spelt (asks-for-more place) = omega arith
-    by-spelt (cut-off place) = omega arith
-
-value-stops : (most : ℕ) (s : List ℕ) (at : ℕ) → NumberStops (readValue (withinLimit most) s at)
-value-stops most s at = by-number (readAt s at) (number-stops s at)
-  where
-    by-number : (v : NumberRead) → NumberStops v → NumberStops (value.tested (withinLimit most) at v)
-    by-number (number.Number n) h = by-test (leb 1 (n .value) && leb (n .value) most) (λ y. rw y tt) (λ no. rw no (omega arith))
-    by-number (number.Refused r) h = h
-
--- A number is read, or is refused as tables are.
-by-read : {G : Type 0} (v : NumberRead) → NumberStops v → ((n : Number) → v ≡ number.Number n → G)
-    → ((r : RefusedAt) → v ≡ number.Refused r → OfTables r → G) → G
-by-read (number.Number n) h one none = one n refl
-by-read (number.Refused r) h one none = none r refl h
-
-after-row : (s : List ℕ) (at : ℕ) (k : Row → (next : ℕ) → Rows) → ((r : Row) (next : ℕ) → RowsStop (k r next)) → RowsStop (afterRow (readRow s at) k)
-after-row s at k rest =
-    by-read (readValue ruleOfX s at) (value-stops maxX s at)
-    (λ x e₁. by-read (readValue ruleOfY s (x .next)) (value-stops maxY s (x .next))
-    (λ y e₂. by-read (readValue ruleOfD s (y .next)) (value-stops maxD s (y .next))
-    (λ d e₃. by-read (readValue ruleOfC s (d .next)) (value-stops maxC s (d .next))
-    (λ c e₄. rw (e₁, e₂, e₃, e₄) (rest (record { x = x .value; y = y .value; d = d .value; c = c .value }) (c .next)))
-    (λ r e₄ h. rw (e₁, e₂, e₃, e₄) h))
-    (λ r e₃ h. rw (e₁, e₂, e₃) h))
-    (λ r e₂ h. rw (e₁, e₂) h))
-    (λ r e₁ h. rw e₁ h)
-
-in-front : (r : Row) (rs : Rows) → RowsStop rs → RowsStop (inFront r rs)
-in-front r (rows rs next) h = tt
-in-front r (Rows.refused at) h = h
-
-rows-stop : (n : ℕ) (s : List ℕ) (at : ℕ) → RowsStop (readRows n s at)
-unfolding readRows
-rows-stop zero s at = tt
-rows-stop (suc n) s at = after-row s at _ λ r next. in-front r (readRows n s next) (rows-stop n s next)
-
-table-stops : (s : List ℕ) → TableStops (tableRead s .answer)
-table-stops s = by-count (readAt s 0) (number-stops s 0)
-  where
-    by-rows : (rs : Rows) → RowsStop rs → TableStops (afterRows s rs .answer)
-    by-rows (rows rs next) h = by-test (ltb next (length s)) (λ y. rw y (omega arith))
-        (λ no. rw no (by-test (leb (periodOf rs) maxPeriod) (λ y. rw y tt) (λ no₂. rw no₂ (omega arith))))
-    by-rows (Rows.refused at) h = h
-
-    by-count : (v : NumberRead) → NumberStops v → TableStops (afterCount s v .answer)
-    by-count (number.Number n) h = by-test (leb (n .value) maxRows)
-        (λ y. rw y (by-rows (readRows (n .value) s (n .next)) (rows-stop (n .value) s (n .next)))) (λ no. rw no (omega arith))
-    by-count (number.Refused r) h = h
-
--- (So a table is refused with 1 to 5 only.)
-pub table-refusals : (s : List ℕ) (r : RefusedAt) → tableRead s .answer ≡ answer.Refused r → refusalNumber (r .refusal) ≤ 5
-table-refusals s r e = subst TableStops e (table-stops s)
-
--- .. a release's, of a sound run, ..
+-- A release's, of a sound run, ..
 due-stops : (k : Kept) (r : Row) (t : ℕ) → DueStops (dueOf k r t)
 unfolding dueOf
 due-stops k r t = by-test (rowInRange r)
@@ -324,7 +239,7 @@ record-can-stop s at p good (release-refused gap row cost q r e) =
     subst ReleaseStops e (release-stops run (row .value) (cost .value) (ticks-keep-good (gap .value) (p .since) good .0))
 
 stops-so : (t s : List ℕ) (r : RefusedAt) → Bytes t → StoppedFor t s r → CanStop (r .refusal)
-stops-so t s r table (the-table e) = inl (omega (arith, table-refusals t r e))
+stops-so t s r table (the-table e) = inl (omega (arith, refused-with-one-to-five t r table e))
 stops-so t s r table (a-record at p c more refused) = record-can-stop s at p (comes-sound t s at p table c) refused
 stops-so t s r table (the-clock p c some ten place) = inl (omega arith)
 

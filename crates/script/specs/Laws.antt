@@ -5,7 +5,7 @@ use mathlib.Core.Logic.{_↔_}
 use mathlib.Core.List.{List, [], _∷_, _++_, flatten, map, List·Memᴰ}
 use lib.ListN.{length, drop}
 use Rattle.kinds.specs.Numbering.{maxTime}
-use Rattle.kinds.specs.declared.Refusal.the-variants.{TimeTooLate}
+use Rattle.kinds.specs.declared.Refusal.the-variants.{TimeTooLate, ScriptMisspelled}
 use Rattle.kinds.specs.declared.RefusedAt.{RefusedAt}
 use Rattle.numbers.specs.Laws.{Bytes}
 use Rattle.numbers.specs.Spelling.{maxNumber, spelling}
@@ -15,6 +15,7 @@ use Rattle.script.specs.declared.RecordRead.the-variants as read
 use Rattle.script.specs.declared.Which.{Which}
 use Rattle.script.specs.declared.Which.the-variants as which
 use Rattle.script.specs.declared.Next.{Next}
+use Rattle.script.specs.declared.Chosen.{Chosen}
 use Rattle.script.specs.declared.Chosen.the-variants as answer
 use Rattle.script.specs.Records.{recordAt}
 use Rattle.script.specs.Chooser.{nextOf, chosen, partOf}
@@ -91,6 +92,10 @@ RecordIsSpelled = (s : List ℕ) (at : ℕ) (found : RecordAt) → Bytes s → r
 abbrev pub EndIsTheLength : Type 0
 EndIsTheLength = (s : List ℕ) (at : ℕ) → (recordAt s at ≡ read.End) ↔ (at ≡ length s)
 
+-- What can't be read as a record is refused with 14. (7.5, 7.6)
+abbrev pub RefusedWith14 : Type 0
+RefusedWith14 = (s : List ℕ) (at : ℕ) (r : RefusedAt) → recordAt s at ≡ read.Refused r → r .refusal ≡ ScriptMisspelled
+
 -- ---- .. of a script
 
 -- Bytes are read from a place on as some records exactly when these have spellings that stand there, one after another to the end.
@@ -114,6 +119,10 @@ SpellingsOfScriptsDiffer = (rs others : List Record) → AllCanBeSpelled rs → 
 abbrev pub PartIsOneRecord : Type 0
 PartIsOneRecord = (s₁ s₂ : List ℕ) (time₁ time₂ : ℕ) (n : Next) → Bytes s₁ → Bytes s₂ → chosen s₁ s₂ time₁ time₂ ≡ answer.Next n
     → (found : RecordAt) × FirstOfItsScript s₁ s₂ n found
+
+-- Where none comes next, the part is empty. (7.14)
+abbrev pub PartIsEmpty : Type 0
+PartIsEmpty = (c : Chosen) (s₁ s₂ : List ℕ) → ((n : Next) → c ≡ answer.Next n → ⊥) → partOf c s₁ s₂ ≡ []
 
 -- Of two records the first script's comes next unless it is later ..
 abbrev pub FirstUnlessLater : Type 0

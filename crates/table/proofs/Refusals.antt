@@ -7,6 +7,8 @@ use mathlib.Core.List.{List, _++_, flatten, map}
 use lib.ListN.{length, take, getD, length-append, length-drop, take-append-drop}
 use lib.Seq.{length-take-le, take-append-seam}
 use borrow.Author.Tests.{le-leb, lt-leb, lt-ltb, le-ltb}
+use Rattle.kinds.specs.Numbering.{refusalNumber}
+use Rattle.kinds.specs.declared.Refusal.{Refusal}
 use Rattle.kinds.specs.declared.Refusal.the-variants.{Misspelled, TooManyRows, ExtraBytes, PeriodTooLong}
 use Rattle.kinds.specs.declared.RefusedAt.{RefusedAt}
 use Rattle.kinds.proofs.Apart.{impossible}
@@ -24,8 +26,8 @@ use Rattle.table.specs.Limits.{maxRows, maxPeriod}
 use Rattle.table.specs.Period.{periodOf}
 use Rattle.table.specs.Tables.{Rows, rows, refused, readRows, afterRows, afterCount, tableRead}
 use Rattle.table.specs.Laws.{spelledRow}
-use Rattle.table.specs.Refusals.{valueLimits, ValueNext, RowsEnd}
-use Rattle.table.specs.Refusals.{RefusedSo, no-count, too-large-count, bad-value, bytes-after, long-period, RefusedExactly}
+use Rattle.table.specs.Refusals.{valueLimits, ValueNext, RowsEnd, BadValue, misspelled, out-of-range}
+use Rattle.table.specs.Refusals.{RefusedSo, no-count, too-large-count, bad-value, bytes-after, long-period, RefusedExactly, RefusedWithOneToFive}
 use Rattle.table.proofs.Spelling.{Stands, parted, joined, number-read, number-stands, RowsStand, rows-read, rows-stand}
 use Rattle.table.proofs.BadValues.{spelled-read, none-read, refused-none, RowsEndBadly, rows-end-badly, rows-refused}
 
@@ -138,3 +140,17 @@ so-if-refused {s} {r} b e = count (readAt s 0) refl e
 
 pub refused-exactly : RefusedExactly
 refused-exactly s r b = (so-if-refused b, refused-if-so b)
+
+pub refused-with-one-to-five : RefusedWithOneToFive
+refused-with-one-to-five s r bytes e = by-cause r (refused-exactly s r bytes .0 e)
+  where
+    of-a-value : {at most : ℕ} {refusal : Refusal} → BadValue s at most refusal → refusalNumber refusal ≤ 5
+    of-a-value (misspelled none) = omega arith
+    of-a-value (out-of-range n read outside) = omega arith
+
+    by-cause : (q : RefusedAt) → RefusedSo s q → refusalNumber (q .refusal) ≤ 5
+    by-cause q (no-count none) = omega arith
+    by-cause q (too-large-count n read many) = omega arith
+    by-cause q (bad-value next bad) = of-a-value bad
+    by-cause q (bytes-after ended more) = omega arith
+    by-cause q (long-period ended long) = omega arith

@@ -5,6 +5,7 @@ use mathlib.Core.Path.{_≡_}
 use mathlib.Core.Logic.{_↔_, _⊎_}
 use mathlib.Core.List.{List, [], _∷_, _++_, flatten, map, List·Memᴰ}
 use lib.ListN.{length, take, getD}
+use Rattle.kinds.specs.Numbering.{refusalNumber}
 use Rattle.kinds.specs.declared.Refusal.{Refusal}
 use Rattle.kinds.specs.declared.Refusal.the-variants.{Misspelled, TooManyRows, ValueOutOfRange, ExtraBytes, PeriodTooLong}
 use Rattle.kinds.specs.declared.RefusedAt.{RefusedAt}
@@ -76,3 +77,7 @@ pub data RefusedSo (s : List ℕ) : RefusedAt → Type 0 where
 -- Bytes are refused with a number and a place exactly when they are to be.
 abbrev pub RefusedExactly : Type 0
 RefusedExactly = (s : List ℕ) (r : RefusedAt) → Bytes s → (tableRead s .answer ≡ Refused r) ↔ RefusedSo s r
+
+-- So their numbers are 1 to 5. (10.4)
+abbrev pub RefusedWithOneToFive : Type 0
+RefusedWithOneToFive = (s : List ℕ) (r : RefusedAt) → Bytes s → tableRead s .answer ≡ Refused r → refusalNumber (r .refusal) ≤ 5
