@@ -4,14 +4,17 @@ mod lent_forms;
 mod numbers_edges;
 mod print;
 mod replays_edges;
+mod runs;
 mod runs_edges;
 mod scripts_edges;
+mod soundness_edges;
 mod verdicts_edges;
 
 fn main() {
     numbers_edges::all();
     verdicts_edges::all();
     runs_edges::all();
+    soundness_edges::all();
     scripts_edges::all();
     replays_edges::all();
     lent_forms::all();
