@@ -8,6 +8,7 @@ use native.Mathlib.Numerals.{add-one}
 use lib.Dec.{ltb}
 use lib.ListN.{length, take, drop, getD, drop-of-length-le}
 use borrow.Author.Tests.{lt-ltb, le-ltb}
+use Rattle.kinds.proofs.Apart.{impossible}
 use Rattle.jobs.specs.declared.Job.{Job}
 use Rattle.jobs.specs.declared.Choice.the-variants as choice
 use Rattle.jobs.specs.Choice.{goesBefore, firstFrom, firstPlace, choiceOf}
@@ -54,3 +55,13 @@ choice-nobody (j ∷ js) e = absurd (omega arith)
 pub choice-place : (js : List Job) → 1 ≤ length js → choice.Place (firstPlace js) ≡ choiceOf js
 choice-place [] h = absurd (omega arith)
 choice-place (j ∷ js) h = refl
+
+-- Where nobody is chosen, no job is pending ..
+pub nobody-chosen : (js : List Job) → choiceOf js ≡ choice.Nobody → length js ≡ 0
+nobody-chosen [] e = refl
+nobody-chosen (j ∷ js) e = impossible cc
+
+-- .. and where a place is, a job is pending, and the place is that of the job that goes first.
+pub place-chosen : (js : List Job) (at : ℕ) → choiceOf js ≡ choice.Place at → (1 ≤ length js) × (at ≡ firstPlace js)
+place-chosen [] at e = impossible cc
+place-chosen (j ∷ js) at e = (omega arith, cc)

@@ -6,28 +6,27 @@ use mathlib.Core.Bool.{Bool, true, false, cond}
 use native.Mathlib.Omega.{arith}
 use lib.ListN.{length, set, getD, replicate, length-append, length-set, length-take}
 use lib.Seq.{set-append-seam, getD-take}
-use borrow.Author.Tests.{le-leb, lt-leb, eq-eqb, ne-eqb}
+use borrow.Author.Tests.{lt-ltb, eq-eqb, ne-eqb}
 use Rattle.kinds.specs.declared.Finish.{Finish}
 use Rattle.jobs.specs.declared.Job.{Job}
 use Rattle.jobs.specs.declared.Pending.{Pending}
-use Rattle.jobs.specs.declared.Finished.the-variants as finished
+use Rattle.jobs.specs.declared.Given.{Given}
+use Rattle.jobs.specs.declared.Choice.the-variants as choice
 use Rattle.jobs.specs.declared.Turn.{Turn}
 use Rattle.jobs.specs.declared.Turn.the-variants as turn
 use Rattle.jobs.specs.declared.Finishes.{Finishes}
 use Rattle.jobs.specs.declared.Ticks.{Ticks}
 use Rattle.jobs.specs.Places.{maxPlaces, noJob, jobsOf, used, takenOut}
-use Rattle.jobs.specs.Choice.{firstPlace}
-use Rattle.jobs.specs.Units.{lastUnit, worked, ranOf, after}
+use Rattle.jobs.specs.Choice.{firstPlace, choiceOf}
+use Rattle.jobs.specs.Units.{lastUnit, worked, ranOf, after, given}
 use Rattle.jobs.specs.Late.{lateCount}
 use Rattle.jobs.specs.Turns.{firstJob, oneTick, finishAt, Done, turnsFrom, noFinish, finishesOf, handedOut}
 use Rattle.jobs.proofs.Places.{jobs-taken-out, count-taken-out, places-taken-out, jobs-set}
+use Rattle.jobs.proofs.First.{place-chosen}
+use Rattle.jobs.proofs.Laws.{first-is-there}
 use Rattle.jobs.proofs.Late.{dueAfter, due-few, late-was-due, due-without, due-set}
 
 -- ---- from one tick to the next
-
--- The same places, with the first n in use.
-abbrev pub withCount : Pending → (n : ℕ) → Pending
-withCount p n = record { places = p .places; count = n }
 
 -- What ticks from a clock until a time come to.
 abbrev pub outcome : (clock until : ℕ) → Pending → Done
@@ -160,7 +159,13 @@ reached-first now until p l h =
     }
 
 module _ {end : Done} {until now : ℕ} {p : Pending} {last : Turn} {late : ℕ} {finishes : Finishes} (r : Reached end until now p last late finishes) where
-  -- One tick more.
+  -- The place chosen is in use.
+  pub chosen-in-use : (at : ℕ) → choiceOf (jobsOf p) ≡ choice.Place at → at < p .count
+  chosen-in-use at e =
+      let chosen = place-chosen (jobsOf p) at e in
+      omega (arith, chosen .1, first-is-there p (chosen .0), r .in-use)
+
+  -- One tick more ..
   reached-next : now < until → firstPlace (jobsOf p) < p .count
       → Reached end until (now + 1) (oneTick p) (turn.Ran (ranOf (firstJob p))) (late + lateCount (now + 1) (jobsOf (oneTick p)))
       (finishesAfter finishes (now + 1) (firstJob p))
@@ -178,25 +183,17 @@ module _ {end : Done} {until now : ℕ} {p : Pending} {last : Turn} {late : ℕ}
         few-late = omega (arith, kept .due now, late-was-due now (jobsOf (oneTick p)));
       }
 
-  -- The same with what the code has made of the job that goes first, the one at `at`: its unit ..
-  module _ (h : now < until) (at : ℕ) (j : Job) (a : at ≡ firstPlace (jobsOf p)) (b : j ≡ getD (p .places) at noJob) (k : at < p .count)
-      (q : Pending) (last′ : Turn) (finishes′ : Finishes) where
-    -- .. is its last ..
-    pub reached-last : j .left ≤ 1 → q ≡ takenOut p at → last′ ≡ turn.Ran (record { serial = j .serial; finished = finished.Yes })
-        → finishes′ ≡ oneMore finishes (finishAt (now + 1) j) → Reached end until (now + 1) q last′ (late + lateCount (now + 1) (jobsOf q)) finishes′
-    unfolding after
-    reached-last l e t f =
-        let yes : lastUnit (firstJob p) ≡ true = rw (← a, ← b) (le-leb (j .left) 1 l) in
-        rw (f, t, e, b, a) (simp yes at (reached-next h (omega arith)))
-
-    -- .. or not.
-    pub reached-unit : 1 < j .left → q ≡ record { places = set (p .places) at (worked j); count = p .count }
-        → last′ ≡ turn.Ran (record { serial = j .serial; finished = finished.No }) → finishes′ ≡ finishes
-        → Reached end until (now + 1) q last′ (late + lateCount (now + 1) (jobsOf q)) finishes′
-    unfolding after
-    reached-unit l e t f =
-        let no : lastUnit (firstJob p) ≡ false = rw (← a, ← b) (lt-leb (j .left) 1 l) in
-        rw (f, t, e, b, a) (simp (no, r .in-use) at (reached-next h (omega arith)))
+  -- .. as the calls make it: the choice, the unit given there, the late count and the records.
+  pub reached-tick : now < until → (at : ℕ) → choiceOf (jobsOf p) ≡ choice.Place at
+      → (q : Given) → q ≡ given p at
+      → (n : ℕ) → n ≡ lateCount (now + 1) (jobsOf (q .pending))
+      → (f : Finishes) → f ≡ finishesAfter finishes (now + 1) (getD (p .places) at noJob)
+      → Reached end until (now + 1) (q .pending) (q .turn) (late + n) f
+  unfolding given
+  reached-tick h at e q g n m f o =
+      let k = chosen-in-use at e in
+      let a = place-chosen (jobsOf p) at e .1 in
+      rw (m, o, g, lt-ltb at (used p) (omega arith), a) (reached-next h (omega arith))
 
   -- What is handed out here.
   abbrev given-here : Ticks

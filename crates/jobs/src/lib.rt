@@ -258,72 +258,34 @@ impl Pending {
         true
     }
 
-    // Ticks from the clock until a time, or until nothing is pending. The jobs are copied in and out once, and not once a tick.
+    // Ticks from the clock until a time, or until nothing is pending.
     pub fn ticks(self, clock: Tick, until: Tick) -> Ticks
         ensures { λ r. ⌜ r ≡ ticksFrom self (clock .0) (until .0) ⌝ }
     {
         let mut p = self;
-        let mut count = in_use(self.count);
+        p.count = in_use(self.count);
         let mut now = clock.0;
         let mut turn = Turn::Idle;
         let mut late: u64 = 0;
         let mut finishes = Finishes::none();
         while now < until.0 {
-            if count == 0 {
-                break;
-            }
+            let at = match p.choice() {
+                Choice::Place(at) => at,
+                Choice::Nobody => break,
+            };
             now += 1;
-            // the choice, as in `choice`
-            let mut at: usize = 0;
-            let mut best = p.places[0];
-            let mut i: usize = 1;
-            while i < count {
-                let job = p.places[i];
-                if goes_before(job, best) {
-                    at = i;
-                    best = job;
-                }
-                i += 1;
-            }
-            let serial = best.serial;
-            if best.left <= 1 {
-                // taken out, as in `take_out`
+            let job = p.places[at];
+            if job.left <= 1 {
                 let done = finishes.count;
-                let finish = finish_of(best, Tick(now));
+                let finish = finish_of(job, Tick(now));
                 finishes.records[done] = finish;
                 finishes.count = done + 1;
-                count -= 1;
-                let mut k = at;
-                while k < count {
-                    let later = p.places[k + 1];
-                    p.places[k] = later;
-                    k += 1;
-                }
-                let nobody = no_job();
-                p.places[count] = nobody;
-                turn = Turn::Ran(Ran {
-                    serial,
-                    finished: Finished::Yes,
-                });
-            } else {
-                best.left -= 1;
-                p.places[at] = best;
-                turn = Turn::Ran(Ran {
-                    serial,
-                    finished: Finished::No,
-                });
             }
-            // the late ones, as in `late`
-            let mut k: usize = 0;
-            while k < count {
-                let pending = p.places[k];
-                if is_late(pending, Tick(now)) {
-                    late += 1;
-                }
-                k += 1;
-            }
+            let given = p.give(at);
+            p = given.pending;
+            turn = given.turn;
+            late += p.late(Tick(now));
         }
-        p.count = count;
         Ticks {
             pending: p,
             clock: Tick(now),
