@@ -1,6 +1,6 @@
 -- `no_job` meets its contract: every field is 0.
-use Rattle.jobs.proofs.no_job.Statement.{statement}
-use Rattle.jobs.proofs.no_job.Tie as tie
+use Rattle.jobs.proofs.one_job.no_job.Statement.{statement}
+use Rattle.jobs.proofs.one_job.no_job.Tie as tie
 use mathlib.Core.Path.{refl}
 
 returns : tie.Need-returns
