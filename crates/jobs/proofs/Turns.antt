@@ -33,31 +33,26 @@ abbrev pub outcome : (clock until : ℕ) → Pending → Done
 outcome clock until p = turnsFrom (until - clock) clock p turn.Idle 0 []
 
 -- What ticks have done when they stop.
-abbrev stopped : (now : ℕ) → Pending → Turn → (late : ℕ) → List Finish → Done
+abbrev pub stopped : (now : ℕ) → Pending → Turn → (late : ℕ) → List Finish → Done
 stopped now p last late finished = record { pending = p; clock = now; turn = last; late = late; finishes = finished }
 
-module _ (until now : ℕ) (p : Pending) (last : Turn) (late : ℕ) (finished : List Finish) where
-  -- There is time left and a job is pending: one tick, and then the others.
-  turns-next : now < until → 1 ≤ used p
-      → turnsFrom (until - now) now p last late finished
-      ≡ turnsFrom (until - (now + 1)) (now + 1) (oneTick p) (turn.Ran (ranOf (firstJob p))) (late + lateCount (now + 1) (jobsOf (oneTick p)))
+module _ (n now : ℕ) (p : Pending) (last : Turn) (late : ℕ) (finished : List Finish) where
+  -- Where no job is pending the turns are over ..
+  pub turns-idle : used p ≡ 0 → turnsFrom n now p last late finished ≡ stopped now p last late finished
+  unfolding turnsFrom
+  turns-idle e = by-number n
+    where
+      by-number : (k : ℕ) → turnsFrom k now p last late finished ≡ stopped now p last late finished
+      by-number zero = refl
+      by-number (suc k) = rw (eq-eqb (used p) 0 e)
+
+  -- .. and else one is the tick of the job that goes first, and then come the others.
+  pub turns-busy : 1 ≤ used p
+      → turnsFrom (suc n) now p last late finished
+      ≡ turnsFrom n (now + 1) (oneTick p) (turn.Ran (ranOf (firstJob p))) (late + lateCount (now + 1) (jobsOf (oneTick p)))
       (finished ++ cond (lastUnit (firstJob p)) (finishAt (now + 1) (firstJob p) ∷ []) [])
   unfolding turnsFrom
-  turns-next h k =
-      let n : until - now ≡ suc (until - (now + 1)) = omega arith in
-      rw (n, ne-eqb (used p) 0 (λ e. omega arith))
-
-  -- No time is left.
-  turns-over : until ≤ now → turnsFrom (until - now) now p last late finished ≡ stopped now p last late finished
-  unfolding turnsFrom
-  turns-over h = let n : until - now ≡ 0 = omega arith in rw n
-
--- No job is pending.
-turns-idle : (n now : ℕ) (p : Pending) (last : Turn) (late : ℕ) (finished : List Finish) → used p ≡ 0
-    → turnsFrom n now p last late finished ≡ stopped now p last late finished
-unfolding turnsFrom
-turns-idle zero now p last late finished h = refl
-turns-idle (suc n) now p last late finished h = rw (eq-eqb (used p) 0 h)
+  turns-busy h = rw (ne-eqb (used p) 0 (λ e. omega arith))
 
 -- ---- one unit
 
@@ -176,7 +171,9 @@ module _ {end : Done} {until now : ℕ} {p : Pending} {last : Turn} {late : ℕ}
       record {
         finished = r .finished ++ cond (lastUnit (firstJob p)) (finishAt (now + 1) (firstJob p) ∷ []) [];
         recorded = rw (r .recorded) (recorded-after (r .finished) (now + 1) (firstJob p) (omega (arith, kept .count)));
-        leads-on = sym (turns-next until now p last late (r .finished) h (omega arith)) ∙ r .leads-on;
+        leads-on =
+            let one-more : until - now ≡ suc (until - (now + 1)) = omega arith in
+            sym (turns-busy (until - (now + 1)) now p last late (r .finished) (omega arith)) ∙ rw one-more at (r .leads-on);
         places = l;
         in-use = omega (arith, kept .count, length-take (oneTick p .count) (oneTick p .places));
         room = omega (arith, kept .count, count-after finishes (now + 1) (firstJob p));
@@ -205,7 +202,8 @@ module _ {end : Done} {until now : ℕ} {p : Pending} {last : Turn} {late : ℕ}
 
   -- .. as they do where no time is left ..
   pub reached-until : until ≤ now → given-here ≡ handedOut end
-  reached-until h = reached-end (turns-over until now p last late (r .finished) h)
+  unfolding turnsFrom
+  reached-until h = reached-end (let none : until - now ≡ 0 = omega arith in rw none)
 
   -- .. and where no job is pending.
   pub reached-idle : p .count ≡ 0 → given-here ≡ handedOut end

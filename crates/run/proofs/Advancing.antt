@@ -15,6 +15,7 @@ use Rattle.jobs.specs.declared.Turn.the-variants as turn
 use Rattle.jobs.specs.declared.Ticks.{Ticks}
 use Rattle.jobs.specs.Units.{lastUnit, ranOf}
 use Rattle.jobs.specs.Turns.{firstJob, finishAt, Done, turnsFrom, ticksFrom}
+use Rattle.jobs.proofs.Turns.{turns-idle, turns-busy}
 use Rattle.jobs.proofs.Laws.{either}
 use Rattle.run.specs.declared.Run.{Run}
 use Rattle.run.specs.declared.Advanced.{Advanced}
@@ -24,7 +25,7 @@ use Rattle.run.specs.Sound.{soundOf}
 use Rattle.run.specs.Ticking.{runWith, idleTick, busyTick}
 use Rattle.run.specs.Advance.{Since, oneMore, ticks, ticksWhilePending, sinceNow, done, refused, advanced, drainedTo, drained}
 use Rattle.run.specs.Laws as laws
-use Rattle.run.proofs.Ticking.{Good, facts, counted, tick-idle, tick-busy, idle-keeps, busy-keeps, turns-idle, turns-busy, tick-keeps-good}
+use Rattle.run.proofs.Ticking.{Good, facts, counted, tick-idle, tick-busy, idle-keeps, busy-keeps, tick-keeps-good}
 
 -- ---- one tick more
 

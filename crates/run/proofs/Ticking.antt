@@ -1,8 +1,8 @@
 -- One tick: what each of its exits answers, that it is one turn of the pending jobs, and that a sound run stays sound. (docs/RULES.md, sections 6.10 to 6.17.)
 use Prim.Native.Nat.{ℕ, zero, suc, _+_, _-_, _≤_, _<_, suc-le-suc}
 use mathlib.Core.Path.{_≡_, refl}
-use mathlib.Core.Bool.{Bool, true, false, cond}
-use mathlib.Core.List.{List, [], _∷_, _++_}
+use mathlib.Core.Bool.{Bool, true, false}
+use mathlib.Core.List.{List, [], _∷_}
 use native.Mathlib.Nat.{zero-add, not-suc-le-zero, le-of-suc-le-suc}
 use native.Mathlib.Decide.{decLe, decLt}
 use native.Mathlib.Omega.{arith}
@@ -10,7 +10,6 @@ use lib.ListN.{length, set, getD, length-set}
 use lib.Seq.{length-take-le}
 use borrow.Author.Tests.{le-leb, lt-leb, lt-ltb, le-ltb, eq-eqb, ne-eqb}
 use Rattle.kinds.specs.Numbering.{maxTime}
-use Rattle.kinds.specs.declared.Finish.{Finish}
 use Rattle.kinds.specs.declared.Refusal.the-variants.{RunNotSound, TimeTooLate}
 use Rattle.jobs.specs.declared.Job.{Job}
 use Rattle.jobs.specs.declared.Pending.{Pending}
@@ -19,11 +18,11 @@ use Rattle.jobs.specs.declared.Turn.the-variants as turn
 use Rattle.jobs.specs.declared.Ticks.{Ticks}
 use Rattle.jobs.specs.Places.{noJob, jobsOf, used, without}
 use Rattle.jobs.specs.Choice.{firstPlace}
-use Rattle.jobs.specs.Units.{lastUnit, worked, ranOf, after}
-use Rattle.jobs.specs.Late.{lateCount}
-use Rattle.jobs.specs.Turns.{firstJob, oneTick, finishAt, turnsFrom, ticksFrom}
+use Rattle.jobs.specs.Units.{worked, after}
+use Rattle.jobs.specs.Turns.{oneTick, turnsFrom, ticksFrom}
 use Rattle.jobs.specs.Serials.{distinctSerials}
 use Rattle.jobs.specs.Laws.{WellFormed, unitAt}
+use Rattle.jobs.proofs.Turns.{turns-idle, turns-busy}
 use Rattle.jobs.proofs.Laws.{first-is-there, after-a-unit, after-keeps-form, after-keeps-serials, distinct-means, without-is-one-less}
 use Rattle.run.specs.declared.Run.{Run}
 use Rattle.run.specs.declared.Ticked.{Ticked}
@@ -54,26 +53,6 @@ module _ (run : Run) where
       pub tick-busy : 1 ≤ run .pending .count → ticked run ≡ busyTick run
       unfolding ticked
       tick-busy h = rw (sound, lt-ltb (run .clock .0) maxTime in-time, ne-eqb (run .pending .count) 0 (λ e. omega arith))
-
--- ---- turns of the pending jobs
-
-module _ (n now : ℕ) (p : Pending) (last : Turn) (late : ℕ) (finished : List Finish) where
-  -- Where no job is pending the turns are over ..
-  pub turns-idle : used p ≡ 0 → turnsFrom n now p last late finished ≡ record { pending = p; clock = now; turn = last; late = late; finishes = finished }
-  unfolding turnsFrom
-  turns-idle e = by-number n
-    where
-      by-number : (k : ℕ) → turnsFrom k now p last late finished ≡ record { pending = p; clock = now; turn = last; late = late; finishes = finished }
-      by-number zero = refl
-      by-number (suc k) = rw (eq-eqb (used p) 0 e)
-
-  -- .. and else one is the tick of the job that goes first.
-  pub turns-busy : 1 ≤ used p
-      → turnsFrom (suc n) now p last late finished
-      ≡ turnsFrom n (now + 1) (oneTick p) (turn.Ran (ranOf (firstJob p))) (late + lateCount (now + 1) (jobsOf (oneTick p)))
-      (finished ++ cond (lastUnit (firstJob p)) (finishAt (now + 1) (firstJob p) ∷ []) [])
-  unfolding turnsFrom
-  turns-busy h = rw (ne-eqb (used p) 0 (λ e. omega arith))
 
 -- ---- what a unit makes of the jobs
 
