@@ -56,7 +56,7 @@ static const struct refusal {
     {JYRMEKKO_COST_OUT_OF_RANGE, "script", "the cost is 0 or above the row's c"},
     {JYRMEKKO_NO_FREE_PLACE, "script", "64 jobs are pending, and there is no place for one more"},
     {JYRMEKKO_DUE_TOO_LATE, "script", "the job would be due after tick 2^40"},
-    {JYRMEKKO_TIME_TOO_LATE, "script", "the script goes on after tick 2^40"},
+    {JYRMEKKO_TIME_TOO_LATE, "script", "the script or its jobs go on after tick 2^40"},
     {JYRMEKKO_LOG_TOO_SHORT, "script", "the log is longer than its buffer"},
     {JYRMEKKO_SCRIPT_MISSPELLED, "script", "a number is misspelled, too long or cut off"},
 };

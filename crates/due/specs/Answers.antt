@@ -1,4 +1,4 @@
--- What a due time that is asked for says. (docs/RULES.md, sections 6 and 10.)
+-- What a due time that is asked for says. (docs/RULES.md, sections 4 and 10.)
 use mathlib.Core.List.{[], _∷_}
 use Rattle.kinds.specs.Numbering.{Says, numbered, values, refusedSays, withoutPlace, NeverNumberedZero, SaysApart}
 use Rattle.due.specs.declared.Due.{Due}

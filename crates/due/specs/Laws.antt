@@ -31,7 +31,7 @@ abbrev pub KeepsOnKeeping : Type 0
 KeepsOnKeeping = (k : Kept) (r : Row) (history : List ℕ) (t : Tick) → rowInRange r ≡ true → KeepsNewest k (r .x) history
     → KeepsNewest (keptWith k r t) (r .x) (t .0 ∷ history)
 
--- So the due time that is given is the paper's, over the whole history.
+-- So the rule over what is kept says what the paper's says over the whole history.
 abbrev pub DueIsThePapers : Type 0
 DueIsThePapers = (k : Kept) (r : Row) (history : List ℕ) (t : ℕ) → rowInRange r ≡ true → KeepsNewest k (r .x) history
     → dueTime (r .x) (r .y) (r .d) (earlier k) t ≡ dueTime (r .x) (r .y) (r .d) history t

@@ -10,7 +10,7 @@ use lib.Seq.{getD-append-add, ext-getD}
 use borrow.Author.Tests.{eq-eqb, ne-eqb}
 use Rattle.kinds.specs.Numbering.{Said, refusalNumber}
 use Rattle.kinds.specs.declared.Refusal.the-variants.{NoRoom}
-use Rattle.kinds.proofs.Numbering.{numbers-differ, never-zero}
+use Rattle.kinds.proofs.Numbering.{numbers-differ}
 use Rattle.numbers.specs.Laws.{Bytes}
 use Rattle.theory.proofs.Cases.{by-lt, by-eq}
 use Rattle.table.specs.declared.TableAnswer.{TableAnswer}
@@ -141,10 +141,10 @@ verdict-says : (table : List ℕ) (v : Verdict) → Bytes table → Judged table
     → ((1 ≤ verdictSays v .number) × (verdictSays v .number ≤ 5)) ⊎ ((20 ≤ verdictSays v .number) × (verdictSays v .number ≤ 21))
 verdict-says table verdict.Feasible bytes j = inr (omega arith, omega arith)
 verdict-says table (verdict.Overloaded w) bytes j = inr (omega arith, omega arith)
-verdict-says table (verdict.Refused r) bytes j = inl (never-zero (r .refusal), by-answer (tableRead table .answer) refl j)
+verdict-says table (verdict.Refused r) bytes j = inl (by-answer (tableRead table .answer) refl j)
   where
     by-answer : (a : TableAnswer) → tableRead table .answer ≡ a → RightOfRead (tableRead table .table) a (verdict.Refused r)
-        → refusalNumber (r .refusal) ≤ 5
+        → (1 ≤ refusalNumber (r .refusal)) × (refusalNumber (r .refusal) ≤ 5)
     by-answer (answer.Accepted period) e right = absurd right
     by-answer (answer.Refused q) e right = let same : r ≡ q = cc in rw same (refused-with-one-to-five table q bytes e)
 

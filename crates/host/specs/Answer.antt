@@ -11,8 +11,7 @@ use Rattle.kinds.specs.declared.Refusal.the-variants.{AnswerSize}
 use Rattle.words.specs.Words.{wordLength, lowestFirst}
 use Rattle.verdict.specs.declared.Verdict.{Verdict}
 use Rattle.verdict.specs.Verdict.{Judged, verdictSays}
-use Rattle.replay.specs.Play.{played}
-use Rattle.replay.specs.Outcome.{finishedIn, replayOf, logAfter, replaySays}
+use Rattle.replay.specs.Outcome.{replayOf, logLeft, replaySays}
 
 -- An answer buffer has the bytes of two words, 16. (9.4)
 abbrev pub answerLength : ℕ
@@ -42,8 +41,7 @@ replayAnswer table script room answer = cond (eqb (length answer) answerLength) 
 
 -- .. and the log.
 abbrev pub replayLog : (table script log : List ℕ) (size : ℕ) → List ℕ
-replayLog table script log size =
-    cond (eqb size answerLength) (logAfter (replayOf table script (length log)) (finishedIn (played table script)) log) log
+replayLog table script log size = cond (eqb size answerLength) (logLeft table script log) log
 
 -- ---- what is proved (proofs/Laws.antt and Bytes.antt)
 

@@ -8,8 +8,7 @@ use Rattle.kinds.specs.Numbering.{Said}
 use Rattle.numbers.specs.Laws.{Bytes}
 use Rattle.verdict.specs.declared.Verdict.{Verdict}
 use Rattle.verdict.specs.Verdict.{Judged, verdictSays}
-use Rattle.replay.specs.Outcome.{replayOf, replaySays}
-use Rattle.replay.specs.Answers.{logLeft}
+use Rattle.replay.specs.Outcome.{replayOf, replaySays, logLeft}
 use Rattle.host.specs.Answer.{answerBytes, VerdictAnswered, replayStatus, replayAnswer, replayLog}
 
 -- ---- words for what is proved

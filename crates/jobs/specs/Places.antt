@@ -15,6 +15,7 @@ maxPlaces = 64
 abbrev pub noJob : Job
 noJob = record { serial = record { 0 = 0 }; row = record { 0 = 0 }; release = record { 0 = 0 }; due = record { 0 = 0 }; cost = 0; left = 0 }
 
+-- Nothing is pending, and no place holds a job. (6.3)
 abbrev pub emptyPending : Pending
 emptyPending = record { places = replicate maxPlaces noJob; count = 0 }
 

@@ -20,6 +20,7 @@ abbrev pub risingAbove : (s : ℕ) → List Job → Bool
 risingAbove s [] = true
 risingAbove s (j ∷ js) = ltb s (j .serial .0) && risingAbove (j .serial .0) js
 
+-- Each serial is above the one before it.
 abbrev pub risingSerials : List Job → Bool
 risingSerials [] = true
 risingSerials (j ∷ js) = risingAbove (j .serial .0) js

@@ -52,6 +52,7 @@ noFinish = finishAt 0 noJob
 abbrev pub finishesOf : List Finish → Finishes
 finishesOf fs = record { records = fs ++ replicate (maxPlaces - length fs) noFinish; count = length fs }
 
+-- What ticks did, as it is handed out.
 abbrev pub handedOut : Done → Ticks
 handedOut d = record { pending = d .pending; clock = record { 0 = d .clock }; turn = d .turn; late = d .late; finishes = finishesOf (d .finishes) }
 

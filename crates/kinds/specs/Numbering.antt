@@ -39,7 +39,7 @@ pub record Said : Type 0 where
 abbrev pub refusedSays : RefusedAt → Said
 refusedSays r = record { number = refusalNumber (r .refusal); first = r .place; second = 0 }
 
--- A refusal that names no place is at place 0. (10.3)
+-- A refusal that names no place is at place 0. (10.2)
 abbrev pub withoutPlace : Refusal → RefusedAt
 withoutPlace r = record { refusal = r; place = 0 }
 

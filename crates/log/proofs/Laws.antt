@@ -25,7 +25,7 @@ use Rattle.numbers.specs.Laws.{Bytes}
 use Rattle.numbers.proofs.Laws.{reads-back, one-spelling, nothing-past-the-end, spelling-length}
 use Rattle.log.specs.Log.{valuesOf, spelledNumbers, spelledFinish, allInRange, writtenRecord}
 use Rattle.log.specs.Laws.{spelledLog, EachInRange, FinishAt, afterNumber, finishAt, ReadsAs, ended, one-more, WroteRecord}
-use Rattle.log.specs.Laws.{RecordLength, RecordReadsBack, RecordIsSpelled, RecordsDiffer, RecordWritten, RecordRefused}
+use Rattle.log.specs.Laws.{RecordLength, RecordReadsBack, RecordIsSpelled, RecordsDiffer, RecordWritten, RecordRefusals}
 use Rattle.log.specs.Laws.{LogReadsBack, LogIsSpelled, ReadsOneWay, OneLog, RestOfLog, LogGrows, LogKept}
 use Rattle.log.proofs.Records.{spelled-length, rest-of, rest-put, answers-too-big, answers-no-room, answers-length}
 
@@ -139,8 +139,8 @@ by-tests f room took false false p q e = impossible cc
 pub record-written : RecordWritten
 record-written f room took e = by-tests f room took _ _ refl refl e
 
-pub record-refused : RecordRefused
-record-refused f room = by-range _ refl
+pub record-refusals : RecordRefusals
+record-refusals f room = by-range _ refl
   where
     by-range : (b : Bool) → allInRange (valuesOf f) ≡ b
         → ((writtenRecord f room ≡ Refused NumberTooBig) ↔ (allInRange (valuesOf f) ≡ false))

@@ -97,8 +97,8 @@ abbrev pub RecordWritten : Type 0
 RecordWritten = (f : Finish) (room took : ℕ) → writtenRecord f room ≡ Length took → WroteRecord f room took
 
 -- A record is refused with 25 exactly where one of its numbers is too big, and with 12 exactly where none is and there is no room for it.
-abbrev pub RecordRefused : Type 0
-RecordRefused = (f : Finish) (room : ℕ)
+abbrev pub RecordRefusals : Type 0
+RecordRefusals = (f : Finish) (room : ℕ)
     → ((writtenRecord f room ≡ Refused NumberTooBig) ↔ (allInRange (valuesOf f) ≡ false))
     × ((writtenRecord f room ≡ Refused NoRoom) ↔ ((allInRange (valuesOf f) ≡ true) × (room < length (spelledFinish f))))
 

@@ -24,8 +24,8 @@ use Rattle.replay.specs.declared.Replayed.the-variants as replayed
 use Rattle.replay.specs.Play.{Progress, begun}
 use Rattle.replay.specs.Play.{Played, whole, stopped, finalTicks, playedFrom, played}
 use Rattle.replay.specs.Outcome.{lateFinishes, replayOf}
-use Rattle.replay.specs.Answers as laws
-use Rattle.replay.specs.Answers.{AllInTime, Ended, LogHolds}
+use Rattle.replay.specs.Exactly as laws
+use Rattle.replay.specs.Exactly.{AllInTime, Ended, LogHolds}
 use Rattle.replay.proofs.Ticking.{no-more}
 use Rattle.replay.proofs.Laws.{log-reads-back}
 use Rattle.replay.proofs.Stopping.{stopped-by}

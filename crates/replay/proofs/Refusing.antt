@@ -31,9 +31,9 @@ use Rattle.script.specs.Records.{scriptNumber, asScripts}
 use Rattle.replay.specs.declared.Ready.{Ready}
 use Rattle.replay.specs.Numbers.{numbersAt}
 use Rattle.replay.specs.Play.{Progress, Step, goes-on, stops, afterRelease, stepped}
-use Rattle.replay.specs.Answers as laws
-use Rattle.replay.specs.Answers.{GapPassed, RowPassed, CostPassed, Unreadable, RecordRefused, RecordTaken}
-use Rattle.replay.specs.Answers.{no-gap, too-late, no-row-number, no-such-row, no-cost, cost-out-of-range, release-refused}
+use Rattle.replay.specs.Exactly as laws
+use Rattle.replay.specs.Exactly.{GapPassed, RowPassed, CostPassed, Unreadable, RecordRefused, RecordTaken}
+use Rattle.replay.specs.Exactly.{no-gap, too-late, no-row-number, no-such-row, no-cost, cost-out-of-range, release-refused}
 
 -- ---- a record that is refused
 

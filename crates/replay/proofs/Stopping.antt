@@ -44,10 +44,10 @@ use Rattle.script.proofs.Laws.{record-is-spelled}
 use Rattle.replay.specs.Numbers.{numbersAt}
 use Rattle.replay.specs.Play.{Progress, begun, Step, goes-on, stops, stepped}
 use Rattle.replay.specs.Play.{Played, whole, stopped, finalTicks, andThen, playedFrom, played}
-use Rattle.replay.specs.Answers as laws
-use Rattle.replay.specs.Answers.{CanStop, CostPassed, RecordRefused}
-use Rattle.replay.specs.Answers.{ComesTo, begins, goes-further, atLast, leftAtLast, StoppedFor, the-table, a-record, the-clock}
-use Rattle.replay.specs.Answers.{no-gap, too-late, no-row-number, no-such-row, no-cost, cost-out-of-range, release-refused}
+use Rattle.replay.specs.Exactly as laws
+use Rattle.replay.specs.Exactly.{CanStop, CostPassed, RecordRefused}
+use Rattle.replay.specs.Exactly.{ComesTo, begins, goes-further, atLast, leftAtLast, StoppedFor, the-table, a-record, the-clock}
+use Rattle.replay.specs.Exactly.{no-gap, too-late, no-row-number, no-such-row, no-cost, cost-out-of-range, release-refused}
 use Rattle.replay.proofs.Refusing.{SteppedSo, step-means, same-refusal, record-stops, record-goes-on}
 
 -- ---- what a play is stopped for

@@ -58,6 +58,7 @@ pub record ClosedUp (at last : ℕ) (l after : List ℕ) : Type 0 where
 
 -- ---- the log as it is written
 
+-- The jobs late so far, with one more where this job is.
 abbrev pub lateOr : Logged → Finish → ℕ
 lateOr l f = l .late + cond (finishedLate f) 1 0
 
@@ -66,6 +67,7 @@ abbrev pub moreWritten : Logged → Finish → Written → Logged
 moreWritten l f (written.Length n) = record { length = l .length + n; late = lateOr l f; full = false }
 moreWritten l f (written.Refused r) = record { length = l .length; late = lateOr l f; full = true }
 
+-- What is written after one job more: a log that is full stays so.
 abbrev pub oneLogged : (room : ℕ) → Logged → Finish → Logged
 oneLogged room l f =
     cond (l .full) (record { length = l .length; late = lateOr l f; full = true }) (moreWritten l f (writtenRecord f (room - l .length)))
@@ -111,6 +113,7 @@ pub record Held : Type 0 where
   pub clock : ℕ
   pub logged : Logged
 
+-- The arrays, the log and the counts as one.
 abbrev pub held : (serials rows releases dues left log : List ℕ) (count clock : ℕ) (logged : Logged) → Held
 held serials rows releases dues left log count clock logged = record {
   serials = serials;
@@ -154,6 +157,7 @@ pub record Ring : Type 0 where
   pub many : List ℕ
   pub oldest : List ℕ
 
+-- The three arrays of the rings as one.
 abbrev pub ring : (times many oldest : List ℕ) → Ring
 ring times many oldest = record { times = times; many = many; oldest = oldest }
 

@@ -3,4 +3,4 @@ pub mod Play
 pub mod Outcome
 pub mod Inside
 pub mod Laws
-pub mod Answers
+pub mod Exactly

@@ -27,6 +27,7 @@ abbrev pub placeAfter : NumberRead → (at : ℕ) → ℕ
 placeAfter (number.Number n) at = n .next
 placeAfter (number.Refused r) at = at
 
+-- The number that stands after another.
 abbrev pub numberAfter : List ℕ → Placed → Placed
 numberAfter s p = placedAt s (placeAfter (p .read) (p .place))
 
@@ -34,6 +35,7 @@ numberAfter s p = placedAt s (placeAfter (p .read) (p .place))
 abbrev pub numbersAt : List ℕ → (at : ℕ) → Numbers
 numbersAt s at = record { gap = placedAt s at; row = numberAfter s (placedAt s at); cost = numberAfter s (numberAfter s (placedAt s at)) }
 
+-- The tests refuse at a place.
 abbrev pub refusedAt : Refusal → (place : ℕ) → Tested
 refusedAt r place = tested.Refused (record { refusal = r; place = place })
 
@@ -57,5 +59,6 @@ testedBy rows allowed time n =
     (refusedAt NoSuchRow (n .row .place)))
     (refusedAt TimeTooLate (n .gap .place))
 
+-- The tests by a table: its rows, and what each allows a job to cost.
 abbrev pub testedNumbers : Table → (time : ℕ) → Numbers → Tested
 testedNumbers t time n = testedBy (t .count) (λ row cost. fromOneTo (costLimit t row) cost) time n

@@ -39,6 +39,7 @@ answerOf room end (whole p) =
     (replayed.Refused (record { refusal = NoRoom; place = end }))
 answerOf room end (stopped r) = replayed.Refused r
 
+-- What a replay answers, with so much room for its log. (8.15)
 abbrev pub replayOf : (table script : List ℕ) (room : ℕ) → Replayed
 replayOf t s room = answerOf room (length s) (played t s)
 
@@ -47,6 +48,10 @@ abbrev pub logAfter : Replayed → List Finish → List ℕ → List ℕ
 logAfter (replayed.Refused r) fs log = replicate (length log) 0
 logAfter (replayed.InTime n) fs log = spelledLog fs ++ drop n log
 logAfter (replayed.Late l) fs log = spelledLog fs ++ drop (l .length) log
+
+-- So the log buffer is left by a replay.
+abbrev pub logLeft : (table script log : List ℕ) → List ℕ
+logLeft t s log = logAfter (replayOf t s (length log)) (finishedIn (played t s)) log
 
 -- The number and the two values that each outcome is known by outside.
 abbrev pub replaySays : Replayed → Said

@@ -29,6 +29,7 @@ pub record Progress : Type 0 where
   pub since : Since
   pub accepted : List Job
 
+-- Nothing has been played yet.
 abbrev pub begun : Run → Progress
 begun run = record { since = sinceNow run; accepted = [] }
 
@@ -49,9 +50,11 @@ afterRelease place r p (release.Refused refusal) = stops (record { refusal = ref
 abbrev pub tickedTo : (time : ℕ) → Progress → Progress
 tickedTo time p = record { since = ticks (time - p .since .run .clock .0) (p .since); accepted = p .accepted }
 
+-- The job that a record asks for is released at the run's clock.
 abbrev pub releasedAt : (place : ℕ) → Ready → Progress → Step
 releasedAt place r p = afterRelease place r p (released (p .since .run) (r .row .0) (r .cost) .answer)
 
+-- A record that passed its tests is played; one that did not stops the replay.
 abbrev pub afterTests : (place : ℕ) → Progress → Tested → Step
 afterTests place p (tested.Ready r) = releasedAt place r (tickedTo (r .time .0) p)
 afterTests place p (tested.Refused r) = stops r
@@ -69,9 +72,11 @@ pub data Played : Type 0 where
 abbrev pub endedAt : (end : ℕ) → Progress → Played
 endedAt end p = cond (eqb (p .since .run .pending .count) 0) (whole p) (stopped (record { refusal = TimeTooLate; place = end }))
 
+-- So the final ticks come to this.
 unfoldable pub finalTicks : (end : ℕ) → Progress → Played
 finalTicks end p = endedAt end (record { since = ticksWhilePending (maxTime - p .since .run .clock .0) (p .since); accepted = p .accepted })
 
+-- What follows a record, unless it stops the replay.
 abbrev pub andThen : Step → (Progress → ℕ → Played) → Played
 andThen (goes-on p next) k = k p next
 andThen (stops r) k = stopped r
@@ -91,5 +96,6 @@ abbrev pub onceStarted : List ℕ → Run → StartAnswer → Played
 onceStarted s run start.Ready = playedOn s run
 onceStarted s run (start.Refused r) = stopped r
 
+-- A script played on a table's bytes. (8.1)
 unfoldable pub played : (table script : List ℕ) → Played
 played t s = onceStarted s (started t .run) (started t .answer)

@@ -45,9 +45,11 @@ ticksWhilePending (suc n) s = cond (eqb (s .run .pending .count) 0) s (ticksWhil
 abbrev pub sinceNow : Run → Since
 sinceNow run = record { run = run; late = 0; finishes = [] }
 
+-- What is handed out after ticks that are done, ..
 abbrev pub done : Since → Advanced
 done s = record { run = s .run; answer = answer.Done; late = s .late; finishes = finishesOf (s .finishes) }
 
+-- .. and where they are refused.
 abbrev pub refused : Since → Refusal → Advanced
 refused s r = record { run = s .run; answer = answer.Refused r; late = s .late; finishes = finishesOf (s .finishes) }
 

@@ -19,7 +19,7 @@ abbrev pub startSays : StartAnswer → Says
 startSays start.Ready = values []
 startSays (start.Refused r) = numbered (refusedSays r)
 
--- A release says the job's serial and its due time, or the refusal's number and its place, which is 0: a release names none. (10.3)
+-- A release says the job's serial and its due time, or the refusal's number and its place, which is 0: a release names none. (10.2)
 pub data ReleaseSays : Type 0 where
   accepted : (serial due : ℕ) → ReleaseSays
   refused : (number place : ℕ) → ReleaseSays
@@ -28,7 +28,7 @@ abbrev pub releaseSays : Released → ReleaseSays
 releaseSays (release.Accepted a) = accepted (a .serial .0) (a .due .0)
 releaseSays (release.Refused r) = refused (refusalNumber r) 0
 
--- A tick says that it was idle, or the serial of the job that ran and whether that job finished, or the refusal's number and its place, 0 again. (10.3)
+-- A tick says that it was idle, or the serial of the job that ran and whether that job finished, or the refusal's number and its place, 0 again. (10.2)
 pub data TickSays : Type 0 where
   idle : TickSays
   ran : (serial : ℕ) (finished : Bool) → TickSays

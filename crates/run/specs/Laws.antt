@@ -70,7 +70,7 @@ abbrev pub TickGivesOneUnit : Type 0
 TickGivesOneUnit = (run : Run) → Whole run → soundOf run ≡ true → run .clock .0 < maxTime → 1 ≤ run .pending .count
     → jobsOf (ticked run .run .pending) ≡ unitAt (jobsOf (run .pending)) (firstPlace (jobsOf (run .pending)))
 
--- The clock and the serials only grow.
+-- A tick never sets the clock back, and a release never the next serial.
 abbrev pub ClockGrows : Type 0
 ClockGrows = (run : Run) → run .clock .0 ≤ ticked run .run .clock .0
 

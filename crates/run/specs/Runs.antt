@@ -22,6 +22,7 @@ use Rattle.run.specs.declared.StartAnswer.the-variants as start
 abbrev pub freshRun : Table → Run
 freshRun t = record { table = t; clock = record { 0 = 0 }; pending = emptyPending; next = record { 0 = 0 }; kept = replicate maxRows nothingKept }
 
+-- A start is refused as its table is.
 abbrev pub startAnswer : TableAnswer → StartAnswer
 startAnswer (answer.Accepted period) = start.Ready
 startAnswer (answer.Refused r) = start.Refused r

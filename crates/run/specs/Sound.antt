@@ -83,7 +83,7 @@ pub record Sound (run : Run) : Type 0 where
   pub jobs : (i : ℕ) → i < length (jobsOf (run .pending)) → SoundJob (run .table) (run .clock .0) (run .next .0) (getD (jobsOf (run .pending)) i noJob)
   pub apart : (i k : ℕ) → i < k → k < length (jobsOf (run .pending))
       → getD (jobsOf (run .pending)) i noJob .serial .0 ≡ getD (jobsOf (run .pending)) k noJob .serial .0 → ⊥
-  pub serials : run .next .0 ≤ serialBound run
+  pub serials : run .next .0 ≤ run .clock .0 + run .pending .count
 
 -- The arrays of a run have all their places: every run that a program can hold does.
 pub record Whole (run : Run) : Type 0 where

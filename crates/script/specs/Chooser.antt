@@ -16,6 +16,7 @@ use Rattle.script.specs.declared.Chosen.{Chosen}
 use Rattle.script.specs.declared.Chosen.the-variants as answer
 use Rattle.script.specs.Records.{recordAt}
 
+-- A refusal names the script that it is of.
 abbrev pub refusedIn : Which → RefusedAt → Chosen
 refusedIn script at = answer.Refused (record { script = script; at = at })
 
@@ -23,6 +24,7 @@ refusedIn script at = answer.Refused (record { script = script; at = at })
 abbrev pub tooLate : Which → Chosen
 tooLate script = refusedIn script (record { refusal = TimeTooLate; place = 0 })
 
+-- A record that comes next: of which script, and how long.
 abbrev pub nextOf : Which → (length : ℕ) → Chosen
 nextOf script length = answer.Next (record { script = script; length = length })
 

@@ -17,6 +17,7 @@ abbrev pub asScripts : NumberRead → NumberRead
 asScripts (number.Number n) = number.Number n
 asScripts (number.Refused r) = number.Refused (record { refusal = ScriptMisspelled; place = r .place })
 
+-- The number of a script at a place.
 abbrev pub scriptNumber : List ℕ → (at : ℕ) → NumberRead
 scriptNumber s at = asScripts (readAt s at)
 

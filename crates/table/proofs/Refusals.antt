@@ -12,6 +12,7 @@ use Rattle.kinds.specs.declared.Refusal.{Refusal}
 use Rattle.kinds.specs.declared.Refusal.the-variants.{Misspelled, TooManyRows, ExtraBytes, PeriodTooLong}
 use Rattle.kinds.specs.declared.RefusedAt.{RefusedAt}
 use Rattle.kinds.proofs.Apart.{impossible}
+use Rattle.kinds.proofs.Numbering.{never-zero}
 use Rattle.numbers.specs.declared.Number.{Number}
 use Rattle.numbers.specs.declared.NumberRead.{NumberRead}
 use Rattle.numbers.specs.declared.NumberRead.the-variants as number
@@ -142,7 +143,7 @@ pub refused-exactly : RefusedExactly
 refused-exactly s r b = (so-if-refused b, refused-if-so b)
 
 pub refused-with-one-to-five : RefusedWithOneToFive
-refused-with-one-to-five s r bytes e = by-cause r (refused-exactly s r bytes .0 e)
+refused-with-one-to-five s r bytes e = (never-zero (r .refusal), by-cause r (refused-exactly s r bytes .0 e))
   where
     of-a-value : {at most : ℕ} {refusal : Refusal} → BadValue s at most refusal → refusalNumber refusal ≤ 5
     of-a-value (misspelled none) = omega arith

@@ -80,4 +80,5 @@ RefusedExactly = (s : List ℕ) (r : RefusedAt) → Bytes s → (tableRead s .an
 
 -- So their numbers are 1 to 5. (10.4)
 abbrev pub RefusedWithOneToFive : Type 0
-RefusedWithOneToFive = (s : List ℕ) (r : RefusedAt) → Bytes s → tableRead s .answer ≡ Refused r → refusalNumber (r .refusal) ≤ 5
+RefusedWithOneToFive = (s : List ℕ) (r : RefusedAt) → Bytes s → tableRead s .answer ≡ Refused r
+    → (1 ≤ refusalNumber (r .refusal)) × (refusalNumber (r .refusal) ≤ 5)

@@ -20,11 +20,11 @@ rowGrowth x y c period = period / y * (x * c)
 
 -- ---- what is proved of it (proofs/Demand.antt)
 
--- Below d no job can be released and due ..
+-- Below d the count is 0 ..
 abbrev pub NoJobsBelowD : Type 0
 NoJobsBelowD = (x y d L : ℕ) → L < d → rowJobs x y d L ≡ 0
 
--- .. and from d on (floor((L − d)/y) + 1) · x jobs can.
+-- .. and from d on it is (floor((L − d)/y) + 1) · x. (That no more jobs can be released and due is `JobsInAWindow`.)
 abbrev pub JobsFromD : Type 0
 JobsFromD = (x y d L : ℕ) → d ≤ L → rowJobs x y d L ≡ ((L - d) / y + 1) * x
 

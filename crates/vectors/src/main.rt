@@ -1,4 +1,4 @@
-// The edges of docs/RULES.md: the proved calls work each of them out, and it is printed on a line of its own. What is printed is held to the file `stdout`.
+// The edges of docs/RULES.md: the proved calls work each of them out (11.67, which is the host's, in the C tests), and it is printed on a line of its own. What is printed is held to the file `stdout`.
 // Each topic has a file, with one function that prints all of it.
 mod lent_forms;
 mod numbers_edges;

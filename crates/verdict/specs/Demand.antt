@@ -26,6 +26,7 @@ unfoldable pub largestOf : List Row → ℕ
 largestOf [] = 0
 largestOf (r ∷ rs) = max (r .d) (largestOf rs)
 
+-- .. and of a table.
 abbrev pub largestD : Table → ℕ
 largestD t = largestOf (rowsOf t)
 

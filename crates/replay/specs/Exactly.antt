@@ -25,7 +25,7 @@ use Rattle.replay.specs.declared.LateJobs.{LateJobs}
 use Rattle.replay.specs.declared.Replayed.the-variants as replayed
 use Rattle.replay.specs.Numbers.{numbersAt}
 use Rattle.replay.specs.Play.{Progress, begun, goes-on, stops, stepped, whole, stopped, played}
-use Rattle.replay.specs.Outcome.{lateFinishes, finishedIn, replayOf, logAfter, replaySays}
+use Rattle.replay.specs.Outcome.{lateFinishes, replayOf, replaySays, logLeft}
 
 -- ---- words for what is proved
 
@@ -41,10 +41,6 @@ CanStop r = (refusalNumber r ≤ 10) ⊎ (refusalNumber r ≡ 14)
 pub record Ended (t s : List ℕ) (n : ℕ) (p : Progress) : Type 0 where
   pub came-to-its-end : played t s ≡ whole p
   pub log-length : n ≡ length (spelledLog (p .since .finishes))
-
--- The log buffer after a replay.
-abbrev pub logLeft : (table script log : List ℕ) → List ℕ
-logLeft t s log = logAfter (replayOf t s (length log)) (finishedIn (played t s)) log
 
 -- The first n bytes of a log buffer read as these jobs' records, one after another, and what comes after them is as it was.
 pub record LogHolds (fs : List Finish) (n : ℕ) (before after : List ℕ) : Type 0 where
@@ -123,7 +119,7 @@ pub data StoppedFor (t s : List ℕ) (r : RefusedAt) : Type 0 where
   a-record : (at : ℕ) (p : Progress) → ComesTo t s at p → at ≢ length s → RecordRefused s at p (refusalNumber (r .refusal)) (r .place) → StoppedFor t s r
   the-clock : (p : Progress) → ComesTo t s (length s) p → 1 ≤ leftAtLast p → refusalNumber (r .refusal) ≡ 10 → r .place ≡ length s → StoppedFor t s r
 
--- ---- what is proved of records (proofs/Answering.antt)
+-- ---- what is proved of records and of plays (proofs/Refusing.antt and Stopping.antt)
 
 -- A record stops the play with a refusal and a place exactly where it is refused so.
 abbrev pub RecordStops : Type 0
@@ -143,7 +139,7 @@ abbrev pub WholeMeans : Type 0
 WholeMeans = (t s : List ℕ) (q : Progress) → Bytes s
     → (played t s ≡ whole q) ↔ ((p : Progress) × ComesTo t s (length s) p × (leftAtLast p ≡ 0) × (q ≡ atLast p))
 
--- ---- what is proved of jobs late
+-- ---- what is proved of jobs late (proofs/Answering.antt)
 
 -- Jobs late counts the jobs that finished after their due time: each of them once, and no other. (8.14)
 abbrev pub OneLate : Type 0
@@ -159,7 +155,7 @@ LateTogether = (fs gs : List Finish) → lateFinishes (fs ++ gs) ≡ lateFinishe
 abbrev pub NoneLateMeans : Type 0
 NoneLateMeans = (fs : List Finish) → (lateFinishes fs ≡ 0) ↔ AllInTime fs
 
--- ---- what is proved of the answer: when it is which
+-- ---- what is proved of the answer: when it is which (proofs/Stopping.antt and Answering.antt)
 
 -- A play is stopped by 1 to 10 and by 14 only: never by 11, 13 or 25 (10.6), and not by 12, which comes last of all. (8.12)
 abbrev pub StoppedBy : Type 0
