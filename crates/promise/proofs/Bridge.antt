@@ -21,7 +21,7 @@ use Rattle.run.specs.declared.Run.{Run}
 use Rattle.run.specs.Runs.{rowAt}
 use Rattle.run.specs.Sound.{soundOf, Whole}
 use Rattle.run.specs.Laws.{KeepsHistory}
-use Rattle.run.specs.Answers.{TickSays, idle, ran}
+use Rattle.run.specs.Answers.{idle, ran}
 use Rattle.run.specs.Answers as says
 use Rattle.promise.specs.Traces.{Event, clockOf, jobsIn}
 

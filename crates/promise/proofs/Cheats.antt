@@ -29,12 +29,12 @@ use Rattle.run.specs.Sound.{soundOf, jobFits, jobSound}
 use Rattle.run.specs.Release.{released}
 use Rattle.run.specs.Ticking.{ticked}
 use Rattle.replay.proofs.OnItsWay.{release-adds-one}
-use Rattle.run.specs.Answers.{accepted, releaseSays}
+use Rattle.run.specs.Answers.{accepted, idle, releaseSays, tickSays}
 use Rattle.promise.specs.Traces.{Call, runAt}
 use Rattle.promise.specs.Examples.{v1, v8}
-use Rattle.promise.specs.Cheats.{NotAllRefused, NotAllReleasesRefused, NotAlwaysFeasible, NoBlankWitness, NotAlwaysIdle, ReleasesCount}
+use Rattle.promise.specs.Cheats.{NotAllRefused, NotAllReleasesRefused, NotAlwaysFeasible, NoBlankWitness, NotAlwaysIdle, NotIdleAfterARelease}
 use Rattle.promise.proofs.BridgeHolds.{bridge}
-use Rattle.promise.proofs.Refusals.{pending-count}
+use Rattle.promise.proofs.Ticks.{each-tick}
 use Rattle.promise.proofs.NoOrder.{says-overloaded}
 use Rattle.promise.proofs.Examples.{v1-is-feasible, v8-is-overloaded}
 
@@ -75,9 +75,13 @@ says-accepted : (r : Released) (serial due : ℕ) → releaseSays r ≡ accepted
 says-accepted (release.Accepted a) serial due said = (a, refl)
 says-accepted (release.Refused r) serial due said = impossible cc
 
-pub releases-count : ReleasesCount
+-- A tick answers idle where nothing is pending alone, and an accepted release has made the pending jobs one more.
+pub not-idle-after-a-release : NotIdleAfterARelease
 unfolding runAt
-releases-count bytes ok calls row cost serial due said =
+not-idle-after-a-release bytes ok calls row cost serial due said =
     let run = runAt bytes calls in
     let was = says-accepted (released run row cost .answer) serial due said in
-    omega (arith, release-adds-one run row cost (was .0) (was .1), pending-count (bridge bytes ok calls), pending-count (bridge bytes ok (Call.release row cost ∷ calls)))
+    each-tick (released run row cost .run) (bridge bytes ok (Call.release row cost ∷ calls) .sound) (λ step. tickSays (step .answer) ≡ idle → ⊥)
+    (λ last e. impossible cc)
+    (λ h none e. absurd (omega (arith, release-adds-one run row cost (was .0) (was .1))))
+    (λ h some e. impossible cc)

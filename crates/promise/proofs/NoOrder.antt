@@ -1,6 +1,6 @@
 -- No order. The jobs that a witness names are those of the theory that are all released at zero: the definitions that a release goes by give them the same due
 -- times. They are due by L and cost more than L, so no assignment serves them.
-use Prim.Native.Nat.{ℕ, zero, suc, _+_, _-_, _≤_}
+use Prim.Native.Nat.{ℕ, zero, suc, _+_, _≤_}
 use mathlib.Core.Path.{_≡_, refl, ap, ap₂}
 use mathlib.Core.Logic.{⊎-elim}
 use mathlib.Core.Option.{Option}

@@ -29,7 +29,7 @@ use Rattle.run.specs.Release.{released}
 use Rattle.run.specs.Ticking.{ticked}
 use Rattle.run.proofs.Release.{each-release}
 use Rattle.run.proofs.Ticking.{counted}
-use Rattle.run.specs.Answers.{ReleaseSays, accepted, releaseSays, tickSays}
+use Rattle.run.specs.Answers.{accepted, releaseSays, tickSays}
 use Rattle.run.specs.Answers as says
 use Rattle.promise.specs.Traces.{Call, Event, runAfter, eventOf, runAt, clockOf, jobsIn, unfinishedIn}
 use Rattle.promise.specs.Refusals.{nextDue, releaseAnswer, ReleasesByTheTrace, TicksByTheTrace, PlacesAreEnough, Refused, RefusedChangesNothing}
@@ -74,7 +74,7 @@ says-no-such-row run row cost sound unused = rw (sound, le-ltb row (run .table .
 
 module _ {t : Table} {run : Run} {es : List Event} (b : Bridge t run es) where
   -- As many jobs are pending as are unfinished.
-  pub pending-count : run .pending .count ≡ unfinishedIn es
+  pending-count : run .pending .count ≡ unfinishedIn es
   pending-count =
       omega (arith, unfinished-weigh-as-pending b (λ _. 1), total-of-ones (jobsOf (run .pending)), counted run (b .sound, b .whole))
 

@@ -1,5 +1,5 @@
 -- The cheats, shut out: programs that would look as if they kept the promises, each with what shows that no program that meets the contracts can be it. (docs/CHEATS.md.)
-use Prim.Native.Nat.{ℕ, suc, _≤_, _<_}
+use Prim.Native.Nat.{ℕ, _≤_, _<_}
 use mathlib.Core.Path.{_≡_}
 use mathlib.Core.Bool.{false}
 use mathlib.Core.List.{List, [], _∷_}
@@ -9,8 +9,8 @@ use Rattle.verdict.specs.declared.Verdict.{Verdict}
 use Rattle.verdict.specs.Demand.{tableDemand}
 use Rattle.verdict.specs.Verdict.{Judged, verdictSays}
 use Rattle.run.specs.Release.{released}
-use Rattle.run.specs.Answers.{accepted, ran, releaseSays}
-use Rattle.promise.specs.Traces.{Call, runAt, trace, unfinishedIn}
+use Rattle.run.specs.Answers.{accepted, idle, ran, releaseSays}
+use Rattle.promise.specs.Traces.{Call, runAt}
 use Rattle.promise.specs.Choice.{nextTick}
 use Rattle.promise.specs.Examples.{v1, v3, v8}
 
@@ -35,8 +35,8 @@ NoBlankWitness = (bytes : List ℕ) (v : Verdict) → Judged bytes v → (L unit
 abbrev pub NotAlwaysIdle : Type 0
 NotAlwaysIdle = nextTick v3 (Call.release 0 2 ∷ []) ≡ ran 0 false
 
--- A release that changes nothing: after an accepted one there is one more unfinished job.
-abbrev pub ReleasesCount : Type 0
-ReleasesCount = (bytes : List ℕ) → Bytes bytes → (calls : List Call) (row cost serial due : ℕ)
+-- A release that changes nothing: the tick after an accepted one is not idle.
+abbrev pub NotIdleAfterARelease : Type 0
+NotIdleAfterARelease = (bytes : List ℕ) → Bytes bytes → (calls : List Call) (row cost serial due : ℕ)
     → releaseSays (released (runAt bytes calls) row cost .answer) ≡ accepted serial due
-    → unfinishedIn (trace bytes (Call.release row cost ∷ calls)) ≡ suc (unfinishedIn (trace bytes calls))
+    → nextTick bytes (Call.release row cost ∷ calls) ≡ idle → ⊥

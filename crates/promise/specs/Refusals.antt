@@ -18,7 +18,7 @@ use Rattle.table.specs.Tables.{tableRead}
 use Rattle.jobs.specs.Places.{maxPlaces}
 use Rattle.run.specs.Runs.{rowInUse, rowAt, costLimit}
 use Rattle.run.specs.Release.{released}
-use Rattle.run.specs.Answers.{ReleaseSays, accepted, releaseSays, TickSays}
+use Rattle.run.specs.Answers.{ReleaseSays, accepted, releaseSays}
 use Rattle.run.specs.Answers as says
 use Rattle.promise.specs.Traces.{Call, Event, runAt, eventOf, trace, clockOf, jobsIn, unfinishedIn}
 use Rattle.promise.specs.Choice.{nextTick}

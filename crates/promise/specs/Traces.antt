@@ -11,7 +11,7 @@ use Rattle.run.specs.declared.Run.{Run}
 use Rattle.run.specs.Runs.{started}
 use Rattle.run.specs.Release.{released}
 use Rattle.run.specs.Ticking.{ticked}
-use Rattle.run.specs.Answers.{ReleaseSays, accepted, releaseSays, TickSays, idle, ran, refused, tickSays}
+use Rattle.run.specs.Answers.{ReleaseSays, accepted, releaseSays, TickSays, idle, ran, tickSays}
 use Rattle.run.specs.Answers as says
 
 -- ---- calls and their answers

@@ -16,7 +16,6 @@ use Rattle.numbers.specs.Laws.{Bytes}
 use Rattle.theory.proofs.Cases.{by-lt}
 use Rattle.table.specs.declared.TableAnswer.the-variants as answer
 use Rattle.table.specs.Tables.{tableRead}
-use Rattle.due.specs.declared.Due.the-variants as due
 use Rattle.run.specs.Runs.{started}
 use Rattle.log.specs.Laws.{spelledLog}
 use Rattle.replay.specs.declared.Replayed.{Replayed}

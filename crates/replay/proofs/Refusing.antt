@@ -1,7 +1,7 @@
 -- A record of a script, by the first test that it does not pass, or accepted. (docs/RULES.md, sections 8.2 and 8.5.)
 use Prim.Native.Nat.{ℕ, _+_, _-_, _≤_, _<_}
 use mathlib.Core.Path.{_≡_, refl, sym, ap, ap₂, subst, _∙_}
-use mathlib.Core.Logic.{_⊎_, _≢_, inl, inr, ⊎-elim}
+use mathlib.Core.Logic.{_≢_, inl, inr, ⊎-elim}
 use mathlib.Core.List.{List}
 use native.Mathlib.Omega.{arith}
 use lib.ListN.{drop}
@@ -19,14 +19,11 @@ use Rattle.numbers.specs.Spelling.{maxGroups}
 use Rattle.numbers.specs.Reading.{Spelt, superfluous-zero, asks-for-more, cut-off, answered, spelt, readAt}
 use Rattle.numbers.specs.Reading as spelt
 use Rattle.theory.proofs.Cases.{by-lt}
-use Rattle.table.specs.declared.TableAnswer.the-variants as answer
-use Rattle.table.specs.Rows as value
 use Rattle.run.specs.declared.Released.{Released}
 use Rattle.run.specs.declared.Released.the-variants as release
 use Rattle.run.specs.Runs.{costLimit}
 use Rattle.run.specs.Release.{released}
 use Rattle.run.specs.Advance.{ticks}
-use Rattle.script.specs.declared.RecordRead.the-variants as read
 use Rattle.script.specs.Records.{scriptNumber, asScripts}
 use Rattle.replay.specs.declared.Ready.{Ready}
 use Rattle.replay.specs.Numbers.{numbersAt}
