@@ -75,7 +75,7 @@ says-accepted : (r : Released) (serial due : ℕ) → releaseSays r ≡ accepted
 says-accepted (release.Accepted a) serial due said = (a, refl)
 says-accepted (release.Refused r) serial due said = impossible cc
 
--- A tick answers idle where nothing is pending alone, and an accepted release has made the pending jobs one more.
+-- A tick is idle only where nothing is pending, and after an accepted release something is.
 pub not-idle-after-a-release : NotIdleAfterARelease
 unfolding runAt
 not-idle-after-a-release bytes ok calls row cost serial due said =
