@@ -15,12 +15,13 @@ use Rattle.kinds.specs.declared.Refusal.the-variants.{Misspelled, NumberTooBig,
 use Rattle.kinds.specs.declared.RefusedAt.{RefusedAt}
 use Rattle.kinds.proofs.Apart.{impossible}
 use Rattle.numbers.specs.declared.Number.{Number}
+use Rattle.numbers.specs.declared.NumberRead.{NumberRead}
 use Rattle.numbers.specs.declared.NumberRead.the-variants as answer
 use Rattle.numbers.specs.declared.Written.the-variants.{Length, Refused}
 use Rattle.numbers.specs.Spelling.{maxGroups, maxNumber, groupsOf, spelling}
-use Rattle.numbers.specs.Reading.{Spelt, number, superfluous-zero, asks-for-more, cut-off, before, spelt, answered}
+use Rattle.numbers.specs.Reading.{Spelt, number, superfluous-zero, asks-for-more, cut-off, before, spelt, answered, readAt, misspelledAt}
 use Rattle.numbers.specs.Writing.{written}
-use Rattle.numbers.specs.Laws.{Bytes, Spelled, LargestNumber, ReadsBack, LengthAnswered, RefusalAnswered, WrittenReadsBack, OneSpelling}
+use Rattle.numbers.specs.Laws.{Bytes, Spelled, NoNumber, LargestNumber, ReadsBack, LengthAnswered, RefusalAnswered, WrittenReadsBack, OneSpelling}
 use Rattle.numbers.specs.Laws.{LengthOfASpelling, TooBigHasNoLength}
 use Rattle.numbers.specs.Laws.{SpellingLength, SpelledInBytes, SpellingsDiffer, NothingPastTheEnd, RefusedAtItsStart}
 use Rattle.numbers.proofs.Reading.{limit, limit-pos, spelt-cut}
@@ -110,9 +111,13 @@ spelt-groups (suc most) n rest at h p = elim (decLe 128 n) [
       simp (groups-last most n k, lt-ltb n 128 k)
 ]
 
+-- So a number is read where its spelling stands.
+pub read-here : (s : List ℕ) (at n : ℕ) (rest : List ℕ) → n ≤ maxNumber → drop at s ≡ spelling n ++ rest
+    → readAt s at ≡ answer.Number (record { value = n; next = at + length (spelling n) })
+read-here s at n rest h d = rw (d, spelt-groups maxGroups n rest at (omega arith) (omega arith))
+
 pub reads-back : ReadsBack
-reads-back front n rest h =
-    rw (drop-append-seam, spelt-groups maxGroups n rest (length front) (omega arith) (omega arith))
+reads-back front n rest h = read-here (front ++ (spelling n ++ rest)) (length front) n rest h (drop-append-seam front (spelling n ++ rest))
 
 -- ---- what the writer answers
 
@@ -242,6 +247,25 @@ answered-refused start (cut-off place) q e = cc
 
 pub refused-at-its-start : RefusedAtItsStart
 refused-at-its-start s at r e = answered-refused at (spelt maxGroups (drop at s) at) r e
+
+module _ {s : List ℕ} {at : ℕ} where
+  -- Where a number is spelled, it is read; ..
+  pub spelled-read : {n : Number} → Spelled s at n → readAt s at ≡ answer.Number n
+  spelled-read {n} p =
+      read-here s at (n .value) (drop (n .next) s) (p .in-range) (p .stands-here)
+      ∙ ap (λ next. answer.Number (record { value = n .value; next = next })) (sym (p .ends))
+
+  -- .. where none is, the place is refused with 1, ..
+  pub none-read : Bytes s → NoNumber s at → readAt s at ≡ misspelledAt at
+  none-read b none = go (readAt s at) refl
+    where
+      go : (v : NumberRead) → readAt s at ≡ v → v ≡ misspelledAt at
+      go (answer.Number n) e = absurd (none n (one-spelling s at n b e))
+      go (answer.Refused r) e = ap answer.Refused (refused-at-its-start s at r e)
+
+  -- .. and where a place is refused, none is spelled.
+  pub refused-none : {r : RefusedAt} → readAt s at ≡ answer.Refused r → NoNumber s at
+  refused-none e = λ n p. let q = spelled-read p in impossible cc
 
 -- What a number reads as, with its spelling in front.
 front : (n : ℕ) (s : List ℕ) → n ≤ maxNumber → spelt maxGroups (spelling n ++ s) 0 ≡ number n (length (spelling n))

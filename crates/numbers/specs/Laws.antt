@@ -26,6 +26,10 @@ pub record Spelled (s : List ℕ) (at : ℕ) (number : Number) : Type 0 where
   pub forward : at < number .next
   pub within : number .next ≤ length s
 
+-- No number is spelled from the place on.
+abbrev pub NoNumber : List ℕ → (at : ℕ) → Type 0
+NoNumber s at = (n : Number) → Spelled s at n → ⊥
+
 -- The largest number is 2^42 − 1.
 abbrev pub LargestNumber : Type 0
 LargestNumber = maxNumber ≡ 4398046511103

@@ -4,18 +4,11 @@ use Prim.Native.Nat.{ℕ}
 use native.Mathlib.Omega.{arith}
 use mathlib.Core.Path.{_≡_, refl, ap, _∙_}
 use mathlib.Core.Logic.{⊎-elim}
-use mathlib.Core.Bool.{Bool, true, false, cond}
 use mathlib.Core.List.{List, [], _∷_, _++_, flatten, List·Memᴰ·head, List·Memᴰ·tail, List·Memᴰ·cases-cons, List·Memᴰ·not-nil}
-use lib.Dec.{ltb, eqb}
 use lib.ListN.{length, length-drop}
 use lib.Seq.{drop-length}
-use Rattle.kinds.specs.declared.Refusal.the-variants.{ScriptMisspelled}
 use Rattle.kinds.specs.declared.RefusedAt.{RefusedAt}
 use Rattle.kinds.proofs.Apart.{impossible}
-use Rattle.numbers.specs.declared.Number.{Number}
-use Rattle.numbers.specs.declared.NumberRead.{NumberRead}
-use Rattle.numbers.specs.declared.NumberRead.the-variants as number
-use Rattle.numbers.specs.Reading.{readAt}
 use Rattle.numbers.specs.Laws.{Bytes}
 use Rattle.script.specs.declared.Record.{Record}
 use Rattle.script.specs.declared.RecordAt.{RecordAt}
@@ -23,13 +16,13 @@ use Rattle.script.specs.declared.RecordRead.{RecordRead}
 use Rattle.script.specs.declared.RecordRead.the-variants as read
 use Rattle.script.specs.declared.Which.the-variants as which
 use Rattle.script.specs.declared.Chosen.the-variants as answer
-use Rattle.script.specs.Records.{asScripts, scriptNumber, afterNumber, recordAt}
+use Rattle.script.specs.Records.{recordAt}
 use Rattle.script.specs.Chooser.{refusedIn, earlierOf, comesNext, chosen}
 use Rattle.script.specs.Laws.{spelledRecord, spelledScript, AllCanBeSpelled, SpelledToTheEnd, Reads, ended, then, TwoRecords}
-use Rattle.script.specs.Laws.{RecordReadsBack, RecordIsSpelled, EndIsTheLength, RefusedWith14, ScriptIsRead, ScriptReadsBack, ReadInOneWay}
+use Rattle.script.specs.Laws.{RecordReadsBack, RecordIsSpelled, EndIsTheLength, PastTheEnd, RefusedAtANumber, ScriptIsRead, ScriptReadsBack, ReadInOneWay}
 use Rattle.script.specs.Laws.{SpellingsOfScriptsDiffer, PartIsOneRecord, PartIsEmpty, FirstUnlessLater, FirstAtEqualTimes, SecondIfEarlier}
 use Rattle.script.specs.Laws.{FirstAlone, SecondAlone, BothEnded, TooLateInFirst, TooLateInSecond, RefusedInFirst, RefusedInSecond}
-use Rattle.script.proofs.Records.{record-end, record-stands, end-is-length, From, from-behind, from-later, record-here}
+use Rattle.script.proofs.Records.{record-past-end, record-end, record-stands, end-is-length, no-number-of, From, from-behind, from-later, record-here}
 use Rattle.script.proofs.Chooser.{first-earlier, second-earlier, first-too-late, second-too-late, by-records, next-is-first}
 
 -- ---- a record
@@ -43,34 +36,11 @@ record-is-spelled = record-stands
 pub end-is-the-length : EndIsTheLength
 end-is-the-length s at = (end-is-length s at, record-end s at)
 
--- The three numbers of a record.
-abbrev numbersOf : List ℕ → (at : ℕ) → RecordRead
-numbersOf s at =
-    afterNumber (scriptNumber s at) λ gap.
-    afterNumber (scriptNumber s (gap .next)) λ row.
-    afterNumber (scriptNumber s (row .next)) λ cost.
-    read.Record (record { release = record { gap = gap .value; row = record { 0 = row .value }; cost = cost .value }; next = cost .next })
+pub past-the-end : PastTheEnd
+past-the-end = record-past-end
 
--- A number's refusal is 14, and so is what a record makes of it.
-refused-after : (v : NumberRead) (k : Number → RecordRead) (r : RefusedAt)
-    → ((n : Number) → k n ≡ read.Refused r → r .refusal ≡ ScriptMisspelled) → afterNumber (asScripts v) k ≡ read.Refused r → r .refusal ≡ ScriptMisspelled
-refused-after (number.Number n) k r later e = later n e
-refused-after (number.Refused q) k r later e = cc
-
-pub refused-with-14 : RefusedWith14
-refused-with-14 s at r = by-place (ltb (length s) at) (eqb at (length s))
-  where
-    by-place : (past end : Bool)
-        → cond past (read.Refused (record { refusal = ScriptMisspelled; place = length s })) (cond end read.End (numbersOf s at)) ≡ read.Refused r
-        → r .refusal ≡ ScriptMisspelled
-    by-place true end e = cc
-    by-place false true e = impossible cc
-    by-place false false e =
-        refused-after (readAt s at) _ r
-        (λ gap. refused-after (readAt s (gap .next)) _ r
-        (λ row. refused-after (readAt s (row .next)) _ r
-        (λ cost f. impossible cc)))
-        e
+pub refused-at-a-number : RefusedAtANumber
+refused-at-a-number = no-number-of
 
 -- ---- a script
 

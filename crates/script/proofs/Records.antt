@@ -2,11 +2,11 @@
 -- a number, and then the next. (docs/RULES.md, section 7.)
 use Prim.Native.Nat.{ℕ, _+_, _≤_, _<_}
 use native.Mathlib.Omega.{arith}
-use mathlib.Core.Path.{_≡_, refl, ap, _∙_}
+use mathlib.Core.Path.{_≡_, refl, sym, ap, _∙_}
 use mathlib.Core.Bool.{Bool, true, false, cond}
 use mathlib.Core.List.{List, _++_, append-assoc}
-use lib.ListN.{length, take, drop, length-append, length-drop, take-append-drop}
-use lib.Seq.{length-take-le, drop-drop, drop-append-seam}
+use lib.ListN.{length, drop, length-append, length-drop}
+use lib.Seq.{drop-drop, drop-append-seam}
 use lib.Dec.{ltb, eqb}
 use borrow.Author.Tests.{lt-ltb, le-ltb, eq-eqb, ne-eqb, eqb-true}
 use Rattle.kinds.specs.declared.RefusedAt.{RefusedAt}
@@ -17,14 +17,14 @@ use Rattle.numbers.specs.declared.NumberRead.{NumberRead}
 use Rattle.numbers.specs.declared.NumberRead.the-variants as number
 use Rattle.numbers.specs.Spelling.{maxNumber, spelling}
 use Rattle.numbers.specs.Reading.{readAt}
-use Rattle.numbers.specs.Laws.{Bytes}
-use Rattle.numbers.proofs.Laws.{reads-back, one-spelling, spelling-length}
+use Rattle.numbers.specs.Laws.{Bytes, Spelled, NoNumber}
+use Rattle.numbers.proofs.Laws.{read-here, one-spelling, spelling-length, refused-at-its-start, refused-none}
 use Rattle.script.specs.declared.Record.{Record}
 use Rattle.script.specs.declared.RecordAt.{RecordAt}
 use Rattle.script.specs.declared.RecordRead.{RecordRead}
 use Rattle.script.specs.declared.RecordRead.the-variants as read
 use Rattle.script.specs.Records.{asScripts, scriptNumber, afterNumber, recordAt}
-use Rattle.script.specs.Laws.{spelledRecord, CanBeSpelled, SpelledHere}
+use Rattle.script.specs.Laws.{spelledRecord, CanBeSpelled, SpelledHere, NoNumberOf, no-gap, no-row, no-cost}
 
 -- ---- the answers of the reader
 
@@ -132,6 +132,25 @@ record-stands s at found b e =
       within = cost .within;
     })
 
+-- ---- where a record was refused
+
+-- Where what begins with a number was refused, the number was read and what comes after it refused, or no number is there and its place was refused with 14.
+refused-there : {G : Type 0} (s : List ℕ) (at : ℕ) (k : Number → RecordRead) (r : RefusedAt) → Bytes s → afterNumber (scriptNumber s at) k ≡ read.Refused r
+    → (NoNumber s at → r ≡ record { refusal = ScriptMisspelled; place = at } → G) → ((n : Number) → Spelled s at n → k n ≡ read.Refused r → G) → G
+refused-there {G} s at k r b e none later = go (readAt s at) refl e
+  where
+    go : (v : NumberRead) → readAt s at ≡ v → afterNumber (asScripts v) k ≡ read.Refused r → G
+    go (number.Number n) f g = later n (one-spelling s at n b f) g
+    go (number.Refused q) f g = let start = refused-at-its-start s at q f in none (refused-none f) cc
+
+-- So where a record was refused, it is the first of its three numbers that is not there.
+pub no-number-of : (s : List ℕ) (at : ℕ) (r : RefusedAt) → Bytes s → at < length s → recordAt s at ≡ read.Refused r
+    → (r .refusal ≡ ScriptMisspelled) × NoNumberOf s at (r .place)
+no-number-of s at r b inside e =
+    refused-there s at _ r b (sym (before-end s at inside _ _) ∙ e) (λ none is. rw is (refl, no-gap none)) λ gap g f.
+    refused-there s (gap .next) _ r b f (λ none is. rw is (refl, no-row gap g none)) λ row n h.
+    refused-there s (row .next) _ r b h (λ none is. rw is (refl, no-cost gap row g n none)) λ cost c made. impossible cc
+
 -- ---- where a script has ended
 
 -- A record is no end, ..
@@ -182,10 +201,7 @@ module _ {s : List ℕ} {at : ℕ} (part rest : List ℕ) (p : From s at (part +
 -- A number is read where its spelling stands ..
 number-here : {s : List ℕ} {at : ℕ} (v : ℕ) (rest : List ℕ) → v ≤ maxNumber → From s at (spelling v ++ rest)
     → scriptNumber s at ≡ number.Number (record { value = v; next = at + length (spelling v) })
-number-here {s} {at} v rest h p =
-    let place : length (take at s) ≡ at = length-take-le at s (p .within) in
-    let whole : take at s ++ (spelling v ++ rest) ≡ s = rw (← p .stands-here) (take-append-drop at s) in
-    number-stands (rw (whole, place) at (reads-back (take at s) v rest h))
+number-here {s} {at} v rest h p = number-stands (read-here s at v rest h (p .stands-here))
 
 -- .. and so is a record.
 pub record-here : {s : List ℕ} {at : ℕ} (r : Record) (rest : List ℕ) → CanBeSpelled r → From s at (spelledRecord r ++ rest)

@@ -7,7 +7,8 @@ use lib.ListN.{length, drop}
 use Rattle.kinds.specs.Numbering.{maxTime}
 use Rattle.kinds.specs.declared.Refusal.the-variants.{TimeTooLate, ScriptMisspelled}
 use Rattle.kinds.specs.declared.RefusedAt.{RefusedAt}
-use Rattle.numbers.specs.Laws.{Bytes}
+use Rattle.numbers.specs.declared.Number.{Number}
+use Rattle.numbers.specs.Laws.{Bytes, Spelled, NoNumber}
 use Rattle.numbers.specs.Spelling.{maxNumber, spelling}
 use Rattle.script.specs.declared.Record.{Record}
 use Rattle.script.specs.declared.RecordAt.{RecordAt}
@@ -41,6 +42,13 @@ pub record SpelledHere (s : List ℕ) (at : ℕ) (found : RecordAt) : Type 0 whe
   pub ends : found .next ≡ at + length (spelledRecord (found .release))
   pub forward : at < found .next
   pub within : found .next ≤ length s
+
+-- Of a record's three numbers, from `at` on, the first that is not spelled has its start at this place: the gap, or the row number after a gap, or the cost
+-- after both.
+pub data NoNumberOf (s : List ℕ) (at : ℕ) : (place : ℕ) → Type 0 where
+  no-gap : NoNumber s at → NoNumberOf s at at
+  no-row : (gap : Number) → Spelled s at gap → NoNumber s (gap .next) → NoNumberOf s at (gap .next)
+  no-cost : (gap row : Number) → Spelled s at gap → Spelled s (gap .next) row → NoNumber s (row .next) → NoNumberOf s at (row .next)
 
 -- Records that have a spelling, each of them.
 abbrev pub AllCanBeSpelled : List Record → Type 0
@@ -92,9 +100,14 @@ RecordIsSpelled = (s : List ℕ) (at : ℕ) (found : RecordAt) → Bytes s → r
 abbrev pub EndIsTheLength : Type 0
 EndIsTheLength = (s : List ℕ) (at : ℕ) → (recordAt s at ≡ read.End) ↔ (at ≡ length s)
 
--- What can't be read as a record is refused with 14. (7.5, 7.6)
-abbrev pub RefusedWith14 : Type 0
-RefusedWith14 = (s : List ℕ) (at : ℕ) (r : RefusedAt) → recordAt s at ≡ read.Refused r → r .refusal ≡ ScriptMisspelled
+-- A place past the end is refused with 14, at the script's length. (7.5)
+abbrev pub PastTheEnd : Type 0
+PastTheEnd = (s : List ℕ) (at : ℕ) → length s < at → recordAt s at ≡ read.Refused (record { refusal = ScriptMisspelled; place = length s })
+
+-- Inside, a record is refused with 14 at the start of the first of its three numbers that can't be read. (7.6)
+abbrev pub RefusedAtANumber : Type 0
+RefusedAtANumber = (s : List ℕ) (at : ℕ) (r : RefusedAt) → Bytes s → at < length s → recordAt s at ≡ read.Refused r
+    → (r .refusal ≡ ScriptMisspelled) × NoNumberOf s at (r .place)
 
 -- ---- .. of a script
 

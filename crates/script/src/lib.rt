@@ -1,5 +1,5 @@
-// Scripts: releases with their times, as bytes. One record at a place, and the chooser that says which of two scripts comes next. Spelling only: rows, costs and
-// limits of time belong to whoever replays. (docs/RULES.md, section 7.)
+// Scripts: releases with their times, as bytes. One record at a place, and the chooser that says which of two scripts comes next. Spelling only, but for the
+// time that the chooser is handed: rows, costs and the limit of a record's time belong to whoever replays. (docs/RULES.md, section 7.)
 use kinds::Refusal;
 use kinds::RefusedAt;
 use kinds::RowNumber;

@@ -9,7 +9,6 @@ use mathlib.Core.List.{List, [], _∷_, flatten, map}
 use lib.ListN.{length, getD}
 use borrow.Author.Tests.{le-leb, lt-leb}
 use Rattle.kinds.specs.declared.Refusal.{Refusal}
-use Rattle.kinds.specs.declared.Refusal.the-variants.{Misspelled}
 use Rattle.kinds.specs.declared.RefusedAt.{RefusedAt}
 use Rattle.kinds.proofs.Apart.{impossible}
 use Rattle.numbers.specs.declared.Number.{Number}
@@ -18,39 +17,16 @@ use Rattle.numbers.specs.declared.NumberRead.the-variants as number
 use Rattle.numbers.specs.Spelling.{maxNumber, spelling}
 use Rattle.numbers.specs.Reading.{readAt}
 use Rattle.numbers.specs.Laws.{Bytes, Spelled}
-use Rattle.numbers.proofs.Laws.{one-spelling, refused-at-its-start}
+use Rattle.numbers.proofs.Laws.{one-spelling, spelled-read, none-read, refused-none}
 use Rattle.table.specs.declared.Row.{Row}
 use Rattle.table.specs.declared.RowRead.{RowRead}
 use Rattle.table.specs.declared.RowRead.the-variants as row
 use Rattle.table.specs.Rows.{withinLimit, readValue, afterValue, readRow}
 use Rattle.table.specs.Tables.{Rows, rows, refused, inFront, afterRow, readRows}
 use Rattle.table.specs.Laws.{spelledRow}
-use Rattle.table.specs.Refusals.{NoNumber, valueLimits, FirstValues, BadValue, misspelled, out-of-range}
+use Rattle.table.specs.Refusals.{valueLimits, FirstValues, BadValue, misspelled, out-of-range}
 use Rattle.table.proofs.Each.{each-none, each-cons, each-head, each-tail}
-use Rattle.table.proofs.Spelling.{Stands, parted, joined, number-read, value-read, RowStands, row-read, row-stands, RowsStand}
-
--- ---- a number
-
-module _ {s : List ℕ} {at : ℕ} where
-  -- Where a number is spelled stands its spelling ..
-  spelled-stands : {n : Number} → Spelled s at n → Stands s at (spelling (n .value)) (n .next)
-  spelled-stands p = record { here = p .stands-here; ends = p .ends }
-
-  -- .. and it is read there; ..
-  pub spelled-read : {n : Number} → Spelled s at n → readAt s at ≡ number.Number n
-  spelled-read {n} p = number-read (n .value) (p .in-range) (spelled-stands p)
-
-  -- .. where none is, the place is refused with 1, ..
-  pub none-read : Bytes s → NoNumber s at → readAt s at ≡ number.Refused (record { refusal = Misspelled; place = at })
-  none-read b none = go (readAt s at) refl
-    where
-      go : (v : NumberRead) → readAt s at ≡ v → v ≡ number.Refused (record { refusal = Misspelled; place = at })
-      go (number.Number n) e = absurd (none n (one-spelling s at n b e))
-      go (number.Refused r) e = ap number.Refused (refused-at-its-start s at r e)
-
-  -- .. and where a place is refused, none is spelled.
-  pub refused-none : {r : RefusedAt} → readAt s at ≡ number.Refused r → NoNumber s at
-  refused-none e = λ n p. let q = spelled-read p in impossible cc
+use Rattle.table.proofs.Spelling.{Stands, parted, joined, spelled-stands, value-read, RowStands, row-read, row-stands, RowsStand}
 
 -- ---- a value
 

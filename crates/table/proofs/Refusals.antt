@@ -19,7 +19,7 @@ use Rattle.numbers.specs.declared.NumberRead.the-variants as number
 use Rattle.numbers.specs.Spelling.{spelling}
 use Rattle.numbers.specs.Reading.{readAt}
 use Rattle.numbers.specs.Laws.{Bytes}
-use Rattle.numbers.proofs.Laws.{one-spelling, refused-at-its-start}
+use Rattle.numbers.proofs.Laws.{one-spelling, refused-at-its-start, spelled-read, none-read, refused-none}
 use Rattle.table.specs.declared.Row.{Row}
 use Rattle.table.specs.declared.TableRead.{TableRead}
 use Rattle.table.specs.declared.TableAnswer.the-variants.{Accepted, Refused}
@@ -30,7 +30,7 @@ use Rattle.table.specs.Laws.{spelledRow}
 use Rattle.table.specs.Refusals.{valueLimits, ValueNext, RowsEnd, BadValue, misspelled, out-of-range}
 use Rattle.table.specs.Refusals.{RefusedSo, no-count, too-large-count, bad-value, bytes-after, long-period, RefusedExactly, RefusedWithOneToFive}
 use Rattle.table.proofs.Spelling.{Stands, parted, joined, number-read, number-stands, RowsStand, rows-read, rows-stand}
-use Rattle.table.proofs.BadValues.{spelled-read, none-read, refused-none, RowsEndBadly, rows-end-badly, rows-refused}
+use Rattle.table.proofs.BadValues.{RowsEndBadly, rows-end-badly, rows-refused}
 
 -- What stands at the start is the first bytes ..
 first-bytes : {s part : List ℕ} {next : ℕ} → Stands s 0 part next → (next ≤ length s) × (take next s ≡ part)

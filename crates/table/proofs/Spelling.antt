@@ -4,15 +4,15 @@ use Prim.Native.Nat.{ℕ, zero, suc, _+_, _≤_}
 use native.Mathlib.Omega.{arith}
 use mathlib.Core.Path.{_≡_, refl, sym, ap, _∙_}
 use mathlib.Core.List.{List, [], _∷_, _++_, flatten, map, append-assoc, append-nil}
-use lib.ListN.{length, take, drop, length-append, length-drop, take-append-drop}
-use lib.Seq.{length-take-le, drop-drop, drop-length, drop-append-seam}
+use lib.ListN.{length, drop, length-append}
+use lib.Seq.{drop-drop, drop-length, drop-append-seam}
 use Rattle.kinds.proofs.Apart.{impossible}
 use Rattle.numbers.specs.declared.Number.{Number}
 use Rattle.numbers.specs.declared.NumberRead.the-variants as number
 use Rattle.numbers.specs.Spelling.{maxNumber, spelling}
 use Rattle.numbers.specs.Reading.{readAt}
-use Rattle.numbers.specs.Laws.{Bytes}
-use Rattle.numbers.proofs.Laws.{reads-back, one-spelling, spelling-length}
+use Rattle.numbers.specs.Laws.{Bytes, Spelled}
+use Rattle.numbers.proofs.Laws.{read-here, one-spelling}
 use Rattle.table.specs.declared.Row.{Row}
 use Rattle.table.specs.declared.RowAt.{RowAt}
 use Rattle.table.specs.declared.RowRead.{RowRead}
@@ -52,19 +52,19 @@ module _ {s : List ℕ} {at next : ℕ} where
 
 -- ---- a number, and a value
 
+-- Where a number is spelled stands its spelling.
+pub spelled-stands : {s : List ℕ} {at : ℕ} {n : Number} → Spelled s at n → Stands s at (spelling (n .value)) (n .next)
+spelled-stands p = record { here = p .stands-here; ends = p .ends }
+
 -- A number is read where its spelling stands, ..
 pub number-read : {s : List ℕ} {at next : ℕ} (v : ℕ) → v ≤ maxNumber → Stands s at (spelling v) next
     → readAt s at ≡ number.Number (record { value = v; next = next })
 number-read {s} {at} {next} v h p =
-    let inside : at ≤ length s = omega (arith, spelling-length v, simp (length-drop, length-append) at (ap length (p .here))) in
-    let place : length (take at s) ≡ at = length-take-le at s inside in
-    let whole : take at s ++ (spelling v ++ drop next s) ≡ s = rw (← p .here) (take-append-drop at s) in
-    rw (whole, place) at (reads-back (take at s) v (drop next s) h)
-    ∙ ap (λ (n : ℕ). number.Number (record { value = v; next = n })) (sym (p .ends))
+    read-here s at v (drop next s) h (p .here) ∙ ap (λ (n : ℕ). number.Number (record { value = v; next = n })) (sym (p .ends))
 
 -- .. and where a number is read, its spelling stands.
 pub number-stands : {s : List ℕ} (at : ℕ) (n : Number) → Bytes s → readAt s at ≡ number.Number n → Stands s at (spelling (n .value)) (n .next)
-number-stands {s} at n b e = let o = one-spelling s at n b e in record { here = o .stands-here; ends = o .ends }
+number-stands {s} at n b e = spelled-stands (one-spelling s at n b e)
 
 -- So a value is read where its spelling stands, within its limit.
 pub value-read : {s : List ℕ} {at next : ℕ} (most v : ℕ) → most ≤ maxNumber → 1 ≤ v → v ≤ most → Stands s at (spelling v) next

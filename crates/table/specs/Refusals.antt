@@ -10,7 +10,7 @@ use Rattle.kinds.specs.declared.Refusal.{Refusal}
 use Rattle.kinds.specs.declared.Refusal.the-variants.{Misspelled, TooManyRows, ValueOutOfRange, ExtraBytes, PeriodTooLong}
 use Rattle.kinds.specs.declared.RefusedAt.{RefusedAt}
 use Rattle.numbers.specs.declared.Number.{Number}
-use Rattle.numbers.specs.Laws.{Bytes, Spelled}
+use Rattle.numbers.specs.Laws.{Bytes, Spelled, NoNumber}
 use Rattle.numbers.specs.Spelling.{spelling}
 use Rattle.table.specs.declared.Row.{Row}
 use Rattle.table.specs.declared.TableAnswer.the-variants.{Refused}
@@ -18,10 +18,6 @@ use Rattle.table.specs.Limits.{maxRows, maxX, maxY, maxD, maxC, maxPerio
 use Rattle.table.specs.Period.{periodOf}
 use Rattle.table.specs.Tables.{tableRead}
 use Rattle.table.specs.Laws.{WithinLimits, spelledRow, spelledTable}
-
--- No number is spelled from the place on.
-abbrev pub NoNumber : List ℕ → (at : ℕ) → Type 0
-NoNumber s at = (n : Number) → Spelled s at n → ⊥
 
 -- The most that a row's values may be, in the order in which they are spelled: x, y, d and c. (3.2, 3.6)
 abbrev pub valueLimits : List ℕ
