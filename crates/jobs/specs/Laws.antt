@@ -7,9 +7,10 @@ use mathlib.Core.List.{List, [], _∷_, _++_}
 use lib.ListN.{length, take, drop, set, getD}
 use Rattle.jobs.specs.declared.Job.{Job}
 use Rattle.jobs.specs.declared.Pending.{Pending}
+use Rattle.jobs.specs.declared.Finished.the-variants as finished
 use Rattle.jobs.specs.Places.{maxPlaces, noJob, emptyPending, jobsOf, used, without, put, takenOut}
 use Rattle.jobs.specs.Choice.{firstPlace}
-use Rattle.jobs.specs.Units.{lastUnit, worked, after}
+use Rattle.jobs.specs.Units.{lastUnit, worked, ranOf, after}
 use Rattle.jobs.specs.Serials.{distinctSerials, risingSerials}
 use Rattle.jobs.specs.Late.{isLate, lateCount}
 
@@ -88,6 +89,10 @@ TakenOutIsWithout = (p : Pending) (at : ℕ) → jobsOf (takenOut p at) ≡ with
 -- A unit changes the job that gets it and nothing else. (6.17)
 abbrev pub AfterAUnit : Type 0
 AfterAUnit = (p : Pending) (at : ℕ) → at < used p → jobsOf (after p at) ≡ unitAt (jobsOf p) at
+
+-- Of a job that gets a unit its serial is said, and that it finished exactly where it had no more than one left. (6.13)
+abbrev pub RanSays : Type 0
+RanSays = (j : Job) → (ranOf j .serial ≡ j .serial) × ((ranOf j .finished ≡ finished.Yes) ↔ (j .left ≤ 1))
 
 -- The empty one is well formed, and what each change makes of a well-formed one is.
 abbrev pub EmptyIsWellFormed : Type 0
