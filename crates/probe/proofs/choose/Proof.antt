@@ -50,6 +50,9 @@ choose-requires c κs = search needs
 enum-known-n : tie.Need-enum-known-n
 enum-known-n c = search needs
 
+which-number-requires : tie.Need-which-number-requires
+which-number-requires c κs = search needs
+
 put-words-requires : tie.Need-put-words-requires
 put-words-requires c κs = search needs
 
@@ -62,8 +65,8 @@ put-words-requires-2 c κs = search needs
 enum-known-r : tie.Need-enum-known-r
 enum-known-r c = search needs
 
-which-number-requires : tie.Need-which-number-requires
-which-number-requires c κs = search needs
+which-number-requires-2 : tie.Need-which-number-requires-2
+which-number-requires-2 c κs = search needs
 
 put-words-requires-3 : tie.Need-put-words-requires-3
 put-words-requires-3 c κs = search needs
@@ -80,8 +83,9 @@ same-length-2 c = search needs
 returns-2 : tie.Need-returns-2
 returns-2 c =
     let put = c .before .before in
-    let told = put .before .before .before in
-    answered (told .before .before) _ _ _ (told .n .given .1) refl (put .put-words .ensures)
+    let script = put .before in
+    let told = script .before .before .before in
+    answered (told .before .before) _ _ _ (told .n .given .1) refl (rw (script .which-number .ensures) at (put .put-words .ensures))
 
 same-length-3 : tie.Need-same-length-3
 same-length-3 c = search needs
@@ -106,7 +110,7 @@ returns-4 c =
     let put = c .before .before .before in
     let script = put .before in
     let told = script .before .before .before .before in
-    answered (told .before .before) _ _ _ (told .r .given .1) (c .number2 .ensures) (rw (script .which-number .ensures) at (put .put-words3 .ensures))
+    answered (told .before .before) _ _ _ (told .r .given .1) (c .number2 .ensures) (rw (script .which-number2 .ensures) at (put .put-words3 .ensures))
 
 pub choose-spec : {M : Type 1} → statement M
 choose-spec =
@@ -118,11 +122,12 @@ choose-spec =
     copy-requires
     choose-requires
     enum-known-n
+    which-number-requires
     put-words-requires
     enum-told
     put-words-requires-2
     enum-known-r
-    which-number-requires
+    which-number-requires-2
     put-words-requires-3
     number-requires-2
     same-length
