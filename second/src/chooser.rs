@@ -11,13 +11,16 @@ pub enum Which {
 }
 
 /// Whose record comes next, and the record's bytes, a part of that script: nobody's, and an empty part of the first,
-/// when both have ended. Times are tested before spelling, and the first script before the second.
+/// when both have ended.
+pub type Next<'a> = (Option<Which>, &'a [u8]);
+
+/// Times are tested before spelling, and the first script before the second.
 pub fn choose<'a>(
     first: &'a [u8],
     second: &'a [u8],
     first_time: u64,
     second_time: u64,
-) -> Result<(Option<Which>, &'a [u8]), (Which, Refusal)> {
+) -> Result<Next<'a>, (Which, Refusal)> {
     for (which, time) in [(Which::First, first_time), (Which::Second, second_time)] {
         if time > LAST_TICK {
             return Err((which, Reason::TimeTooLate.at(0)));
@@ -43,7 +46,7 @@ mod tests {
     const EARLY: [u8; 6] = [1, 0, 1, 9, 9, 9];
     const LATE: [u8; 4] = [0xac, 0x02, 1, 2];
 
-    fn next(which: Which, part: &[u8]) -> Result<(Option<Which>, &[u8]), (Which, Refusal)> {
+    fn next(which: Which, part: &[u8]) -> Result<Next<'_>, (Which, Refusal)> {
         Ok((Some(which), part))
     }
 

@@ -79,7 +79,7 @@ tickWords (ran serial false) late = 4 ∷ serial ∷ 0 ∷ late ∷ []
 tickWords (ran serial true) late = 5 ∷ serial ∷ 0 ∷ late ∷ []
 tickWords (says.TickSays.refused n place) late = refusedWords n place
 
--- Only the answer of a call is in its words, not what was called.
+-- The words of a call are those of its answer, a release's or a tick's.
 abbrev pub eventWords : Event → List ℕ
 eventWords (Event.release row cost a) = releaseWords a
 eventWords (Event.tick a late) = tickWords a late

@@ -98,9 +98,8 @@ fn which_number(script: Which) -> u64
     }
 }
 
-// Which of two scripts comes next: 1, with the record's bytes at the start of `part` (as many as fit), and in the answer buffer its length and which script it
-// is of, 1 or 2, or twice 0 where both have ended; or the refusal's number, with its place and which script. 13 first, where the answer buffer is not 16 bytes
-// long.
+// Which of two scripts comes next: 1, with the record's bytes at the start of `part` (as many as fit), and its length and which script, 1 or 2, in the answer
+// buffer (0 and 0 where both have ended); or the refusal's number, with its place and which script. 13 first, where the answer buffer is not 16 bytes long.
 #[no_mangle]
 pub extern "C" fn choose<'a>(
     first: &'a [u8],
