@@ -10,14 +10,17 @@ pub enum Which {
     Second = 2,
 }
 
-/// The bytes of the record that comes next, a part of one script or the other: an empty part of the first when both
-/// have ended. Times are tested before spelling, and the first script before the second.
+/// Whose record comes next, and the record's bytes, a part of that script: nobody's, and an empty part of the first,
+/// when both have ended.
+pub type Next<'a> = (Option<Which>, &'a [u8]);
+
+/// Times are tested before spelling, and the first script before the second.
 pub fn choose<'a>(
     first: &'a [u8],
     second: &'a [u8],
     first_time: u64,
     second_time: u64,
-) -> Result<&'a [u8], (Which, Refusal)> {
+) -> Result<Next<'a>, (Which, Refusal)> {
     for (which, time) in [(Which::First, first_time), (Which::Second, second_time)] {
         if time > LAST_TICK {
             return Err((which, Reason::TimeTooLate.at(0)));
@@ -26,11 +29,13 @@ pub fn choose<'a>(
     let of_first = script::record(first, 0).map_err(|refusal| (Which::First, refusal))?;
     let of_second = script::record(second, 0).map_err(|refusal| (Which::Second, refusal))?;
     Ok(match (of_first, of_second) {
-        (None, None) => &first[..0],
-        (Some(record), None) => &first[..record.after],
-        (None, Some(record)) => &second[..record.after],
-        (Some(one), Some(other)) if first_time + one.gap <= second_time + other.gap => &first[..one.after],
-        (Some(_), Some(other)) => &second[..other.after],
+        (None, None) => (None, &first[..0]),
+        (Some(record), None) => (Some(Which::First), &first[..record.after]),
+        (None, Some(record)) => (Some(Which::Second), &second[..record.after]),
+        (Some(one), Some(other)) if first_time + one.gap <= second_time + other.gap => {
+            (Some(Which::First), &first[..one.after])
+        }
+        (Some(_), Some(other)) => (Some(Which::Second), &second[..other.after]),
     })
 }
 
@@ -41,21 +46,26 @@ mod tests {
     const EARLY: [u8; 6] = [1, 0, 1, 9, 9, 9];
     const LATE: [u8; 4] = [0xac, 0x02, 1, 2];
 
+    fn next(which: Which, part: &[u8]) -> Result<Next<'_>, (Which, Refusal)> {
+        Ok((Some(which), part))
+    }
+
     #[test]
     fn the_earlier_record_comes_next_and_the_first_script_at_equal_times() {
-        assert_eq!(choose(&EARLY, &LATE, 0, 0), Ok(&EARLY[..3]));
-        assert_eq!(choose(&LATE, &EARLY, 0, 0), Ok(&EARLY[..3]));
-        assert_eq!(choose(&EARLY, &LATE, 299, 0), Ok(&EARLY[..3]));
-        assert_eq!(choose(&EARLY, &LATE, 300, 0), Ok(&LATE[..]));
+        assert_eq!(choose(&EARLY, &LATE, 0, 0), next(Which::First, &EARLY[..3]));
+        assert_eq!(choose(&LATE, &EARLY, 0, 0), next(Which::Second, &EARLY[..3]));
+        assert_eq!(choose(&EARLY, &LATE, 299, 0), next(Which::First, &EARLY[..3]));
+        assert_eq!(choose(&EARLY, &LATE, 300, 0), next(Which::Second, &LATE));
+        assert_eq!(choose(&LATE, &LATE, 7, 7), next(Which::First, &LATE));
     }
 
     #[test]
     fn an_ended_script_leaves_the_word_to_the_other() {
-        assert_eq!(choose(&[], &LATE, 0, 0), Ok(&LATE[..]));
-        assert_eq!(choose(&LATE, &[], 0, 0), Ok(&LATE[..]));
+        assert_eq!(choose(&[], &LATE, 0, 0), next(Which::Second, &LATE));
+        assert_eq!(choose(&LATE, &[], 0, 0), next(Which::First, &LATE));
         let first: [u8; 0] = [];
-        let part = choose(&first, &[], 0, 0).unwrap();
-        assert_eq!((part.as_ptr(), part.len()), (first.as_ptr(), 0));
+        let (which, part) = choose(&first, &[], 0, 0).unwrap();
+        assert_eq!((which, part.as_ptr(), part.len()), (None, first.as_ptr(), 0));
     }
 
     #[test]
@@ -72,6 +82,6 @@ mod tests {
 
     #[test]
     fn a_record_past_the_last_tick_is_compared_and_not_refused() {
-        assert_eq!(choose(&LATE, &EARLY, LAST_TICK, LAST_TICK), Ok(&EARLY[..3]));
+        assert_eq!(choose(&LATE, &EARLY, LAST_TICK, LAST_TICK), next(Which::Second, &EARLY[..3]));
     }
 }

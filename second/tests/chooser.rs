@@ -15,7 +15,8 @@ const CHOICES: u64 = 100_000;
 
 /// All that this file knows of the library's side. It returns 1 with a record, whose bytes it puts at the start of
 /// the buffer for the part, or the refusal. The answer's two numbers, eight bytes each, lowest byte first, are the
-/// part's length and 0; of a refusal, place and which script, 1 or 2.
+/// part's length and which script it is of, 1 or 2, or 0 and 0 when both have ended; of a refusal, place and which
+/// script.
 mod library {
     extern "C" {
         pub fn choose(
@@ -68,9 +69,9 @@ fn by_library(lent: &[Vec<u8>; 2], times: [u64; 2], buffer: &[u8], random: &mut 
 fn by_second_program(lent: &[Vec<u8>; 2], times: [u64; 2], buffer: &[u8]) -> Outcome {
     let mut buffer = buffer.to_vec();
     match choose(&lent[0], &lent[1], times[0], times[1]) {
-        Ok(part) => {
+        Ok((which, part)) => {
             buffer[..part.len()].copy_from_slice(part);
-            (A_RECORD, [part.len() as u64, 0], buffer)
+            (A_RECORD, [part.len() as u64, which.map_or(0, |which| which as u64)], buffer)
         }
         Err((which, refusal)) => (refusal.reason.number(), [refusal.place as u64, which as u64], buffer),
     }
@@ -91,6 +92,13 @@ fn random_script(random: &mut Random) -> Vec<u8> {
     }
 }
 
+/// Now and then the same bytes twice, where only the answer's second number tells whose record comes next.
+fn random_scripts(random: &mut Random) -> [Vec<u8>; 2] {
+    let first = random_script(random);
+    let second = if random.one_in(5) { first.clone() } else { random_script(random) };
+    [first, second]
+}
+
 fn random_times(random: &mut Random) -> [u64; 2] {
     let time = match random.below(8) {
         0 => LAST_TICK - 2,
@@ -107,25 +115,36 @@ fn chooser() {
     let mut met = BTreeSet::new();
     for index in 0..settings::number("JYRMEKKO_COMPARISONS", 0).max(CHOICES) {
         let mut random = Random::of(seed, index);
-        let lent = [random_script(&mut random), random_script(&mut random)];
+        let lent = random_scripts(&mut random);
         let times = random_times(&mut random);
         let buffer = random.bytes(20);
         let expected = by_second_program(&lent, times, &buffer);
         let found = by_library(&lent, times, &buffer, &mut random);
-        assert_eq!(
-            found,
-            expected,
-            "comparison {index}, seed {seed}, times {times:?}\nfirst {}\nsecond {}",
+        assert!(
+            found == expected,
+            "MISMATCH in the chooser, comparison {index}, seed {seed}, times {times:?}\nfirst {}\nsecond {}\n\
+             second program: {expected:?}\nlibrary: {found:?}",
             hex(&lent[0]),
             hex(&lent[1])
         );
-        let ended = (lent[0].is_empty(), lent[1].is_empty());
-        met.insert(match expected {
-            (A_RECORD, _, _) => (A_RECORD, u64::from(ended.0) + 2 * u64::from(ended.1)),
-            (number, [_, which], _) => (number, which),
-        });
+        let (number, [_, which], _) = expected;
+        let scripts = match (lent[0].is_empty(), lent[1].is_empty()) {
+            _ if number != A_RECORD => "refused",
+            (true, true) => "both ended",
+            (true, false) | (false, true) => "one ended",
+            (false, false) if lent[0] == lent[1] && times[0] == times[1] => "the same",
+            (false, false) => "different",
+        };
+        met.insert((number, which, scripts));
     }
-    let refusals = [(10, 1), (10, 2), (14, 1), (14, 2)];
-    let records = [0, 1, 2, 3].map(|ended| (A_RECORD, ended));
-    assert_eq!(met, [records, refusals].into_iter().flatten().collect());
+    let records = [
+        (A_RECORD, 0, "both ended"),
+        (A_RECORD, 1, "different"),
+        (A_RECORD, 1, "one ended"),
+        (A_RECORD, 1, "the same"),
+        (A_RECORD, 2, "different"),
+        (A_RECORD, 2, "one ended"),
+    ];
+    let refusals = [(10, 1), (10, 2), (14, 1), (14, 2)].map(|(number, which)| (number, which, "refused"));
+    assert_eq!(met, records.into_iter().chain(refusals).collect());
 }

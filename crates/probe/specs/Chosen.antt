@@ -20,17 +20,23 @@ choiceLength = 2 * wordLength
 abbrev pub copied : (bytes buffer : List ℕ) → List ℕ
 copied bytes buffer = let fit = min (length bytes) (length buffer) in take fit bytes ++ drop fit buffer
 
--- The record's length among the values that the chooser says, which come after which script it is of; 0 where both scripts have ended.
+-- Which script the next record is of, 1 or 2, is the first of the values that the chooser says; 0 where both scripts have ended.
+abbrev pub scriptIn : List ℕ → ℕ
+scriptIn [] = 0
+scriptIn (script ∷ more) = script
+
+-- The record's length is the second of them; 0 where both scripts have ended.
 abbrev pub lengthIn : List ℕ → ℕ
 lengthIn [] = 0
 lengthIn (script ∷ []) = 0
 lengthIn (script ∷ long ∷ more) = long
 
--- What is said in three numbers: 1, the record's length and 0, or what is numbered as it is.
+-- What is said in three numbers: 1, the record's length and which script it is of, or what is numbered as it is.
 abbrev pub inThreeNumbers : Says → Said
-inThreeNumbers (values vs) = record { number = 1; first = lengthIn vs; second = 0 }
+inThreeNumbers (values vs) = record { number = 1; first = lengthIn vs; second = scriptIn vs }
 inThreeNumbers (numbered s) = s
 
+-- A choice is said in three numbers.
 abbrev pub chosenSaid : Chosen → Said
 chosenSaid c = inThreeNumbers (chosenSays c)
 

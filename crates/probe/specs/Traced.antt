@@ -25,6 +25,7 @@ use Rattle.probe.specs.Words.{mostWords, wordsBytes}
 abbrev pub callLength : ℕ
 callLength = 3 * wordLength
 
+-- The value that was read; 0 where reading it was refused.
 abbrev pub valueOr0 : NumberRead → ℕ
 valueOr0 (number.Number n) = n .value
 valueOr0 (number.Refused r) = 0
@@ -37,6 +38,7 @@ wordOr0 s at = valueOr0 (wordAt s at)
 abbrev pub callOf : (kind row cost : ℕ) → Call
 callOf kind row cost = cond (eqb kind 1) (Call.release row cost) Call.tick
 
+-- The call at a place: its three words, one after another.
 abbrev pub callAt : List ℕ → (at : ℕ) → Call
 callAt s at = callOf (wordOr0 s at) (wordOr0 s (at + wordLength)) (wordOr0 s (at + 2 * wordLength))
 
@@ -77,6 +79,7 @@ tickWords (ran serial false) late = 4 ∷ serial ∷ 0 ∷ late ∷ []
 tickWords (ran serial true) late = 5 ∷ serial ∷ 0 ∷ late ∷ []
 tickWords (says.TickSays.refused n place) late = refusedWords n place
 
+-- The words of a call are those of its answer, a release's or a tick's.
 abbrev pub eventWords : Event → List ℕ
 eventWords (Event.release row cost a) = releaseWords a
 eventWords (Event.tick a late) = tickWords a late

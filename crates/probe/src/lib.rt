@@ -98,8 +98,8 @@ fn which_number(script: Which) -> u64
     }
 }
 
-// Which of two scripts comes next: 1, with the record's bytes at the start of `part` (as many as fit) and its length and 0 in the answer buffer, the length 0
-// where both have ended; or the refusal's number, with its place and which script, 1 or 2. 13 first, where the answer buffer is not 16 bytes long.
+// Which of two scripts comes next: 1, with the record's bytes at the start of `part` (as many as fit), and its length and which script, 1 or 2, in the answer
+// buffer (0 and 0 where both have ended); or the refusal's number, with its place and which script. 13 first, where the answer buffer is not 16 bytes long.
 #[no_mangle]
 pub extern "C" fn choose<'a>(
     first: &'a [u8],
@@ -120,7 +120,8 @@ pub extern "C" fn choose<'a>(
     copy(script::chosen_part(first, second, one, other), part);
     match script::choose(first, second, one, other) {
         Chosen::Next(n) => {
-            put_words(answer, 0, [n.length as u64, 0, 0, 0], 2);
+            let script = n.script;
+            put_words(answer, 0, [n.length as u64, which_number(script), 0, 0], 2);
             A_RECORD
         }
         Chosen::Ended => {

@@ -16,19 +16,20 @@ use Rattle.probe.proofs.choose.Statement.{statement}
 use Rattle.probe.proofs.choose.Tie as tie
 
 -- The answer buffer has its length, the record's bytes are copied, and the choice is answered by what it says.
-answered : (c : tie.After-choose) (v : Chosen) (status : ℕ) (after : List ℕ) → c .choose .result ≡ v → status ≡ chosenSaid v .number
+answered : (c : tie.After-choose) (v : Chosen) (status script : ℕ) (after : List ℕ) → c .choose .result ≡ v → status ≡ chosenSaid v .number
+    → script ≡ chosenSaid v .second
     → (let a = c .before .before .before .before .before .before .before .before .before .before .before .args in
-    after ≡ sets (a .answer .now) 0 (wordsBytes (chosenSaid v .first ∷ chosenSaid v .second ∷ []))
+    after ≡ sets (a .answer .now) 0 (wordsBytes (chosenSaid v .first ∷ script ∷ []))
     → _≡_ {A = Answered} (record { status = status; part = c .before .before .before .copy .last .1 .0; answer = after })
     (chosenAnswered (a .first .now) (a .second .now) (a .first-time) (a .second-time) (a .part .now) (a .answer .now)))
-answered c v status after e s w =
+answered c v status script after e s which w =
     let a = c .before .before .before .before .before .before .before .before .before .before .before .args in
     let is : chosen (a .first .now) (a .second .now) (a .first-time) (a .second-time) ≡ v = sym (c .choose .ensures) ∙ e in
     let part : c .before .before .before .copy .last .1 .0 ≡ copied (partOf v (a .first .now) (a .second .now)) (a .part .now) =
     rw (c .before .before .before .before .before .chosen-part .ensures .0, is) at (c .before .before .before .copy .ensures) in
-    let said = chosenSaid v .first ∷ chosenSaid v .second ∷ [] in
+    let said = chosenSaid v .first ∷ script ∷ [] in
     let full : after ≡ wordsBytes said = w ∙ words-fill (a .answer .now) said (omega arith) in
-    rw (s, part, full, eq-eqb (length (a .answer .now)) choiceLength (omega arith), is)
+    rw (s, part, full, which, eq-eqb (length (a .answer .now)) choiceLength (omega arith), is)
 
 number-requires : tie.Need-number-requires
 number-requires c κs = search needs
@@ -50,6 +51,9 @@ choose-requires c κs = search needs
 enum-known-n : tie.Need-enum-known-n
 enum-known-n c = search needs
 
+which-number-requires : tie.Need-which-number-requires
+which-number-requires c κs = search needs
+
 put-words-requires : tie.Need-put-words-requires
 put-words-requires c κs = search needs
 
@@ -62,8 +66,8 @@ put-words-requires-2 c κs = search needs
 enum-known-r : tie.Need-enum-known-r
 enum-known-r c = search needs
 
-which-number-requires : tie.Need-which-number-requires
-which-number-requires c κs = search needs
+which-number-requires-2 : tie.Need-which-number-requires-2
+which-number-requires-2 c κs = search needs
 
 put-words-requires-3 : tie.Need-put-words-requires-3
 put-words-requires-3 c κs = search needs
@@ -80,8 +84,9 @@ same-length-2 c = search needs
 returns-2 : tie.Need-returns-2
 returns-2 c =
     let put = c .before .before in
-    let told = put .before .before .before in
-    answered (told .before .before) _ _ _ (told .n .given .1) refl (put .put-words .ensures)
+    let script = put .before in
+    let told = script .before .before .before in
+    answered (told .before .before) _ _ _ _ (told .n .given .1) refl (script .which-number .ensures) (put .put-words .ensures)
 
 same-length-3 : tie.Need-same-length-3
 same-length-3 c = search needs
@@ -93,7 +98,7 @@ returns-3 : tie.Need-returns-3
 returns-3 c =
     let put = c .before .before in
     let told = put .before .before in
-    answered (told .before .before) _ _ _ (told .enum-told .given .1) refl (put .put-words2 .ensures)
+    answered (told .before .before) _ _ _ _ (told .enum-told .given .1) refl refl (put .put-words2 .ensures)
 
 same-length-5 : tie.Need-same-length-5
 same-length-5 c = search needs
@@ -106,7 +111,7 @@ returns-4 c =
     let put = c .before .before .before in
     let script = put .before in
     let told = script .before .before .before .before in
-    answered (told .before .before) _ _ _ (told .r .given .1) (c .number2 .ensures) (rw (script .which-number .ensures) at (put .put-words3 .ensures))
+    answered (told .before .before) _ _ _ _ (told .r .given .1) (c .number2 .ensures) (script .which-number2 .ensures) (put .put-words3 .ensures)
 
 pub choose-spec : {M : Type 1} → statement M
 choose-spec =
@@ -118,11 +123,12 @@ choose-spec =
     copy-requires
     choose-requires
     enum-known-n
+    which-number-requires
     put-words-requires
     enum-told
     put-words-requires-2
     enum-known-r
-    which-number-requires
+    which-number-requires-2
     put-words-requires-3
     number-requires-2
     same-length
