@@ -79,7 +79,7 @@ fn random_release(rows: &[Row], random: &mut Random) -> Call {
 fn single_calls() {
     let seed = settings::number("JYRMEKKO_SEED", 1);
     let mut met = BTreeSet::new();
-    for index in 0..settings::number("JYRMEKKO_COMPARISONS", 0).max(TRACES) {
+    for index in 0..settings::number("JYRMEKKO_COMPARISONS", 0).max(settings::number("JYRMEKKO_TRACES", TRACES)) {
         let mut random = Random::of(seed, index);
         let rows = tables::to_replay(&mut random);
         let mut table = tables::spell(&rows);

@@ -12,13 +12,15 @@ use lib.ListN.{length-append, length-take, length-drop, length-map, length-rever
 use lib.Seq.{length-take-le, drop-cons, getD-take}
 use Rattle.kinds.specs.Numbering.{maxTime}
 use Rattle.kinds.specs.declared.Tick.{Tick}
+use Rattle.kinds.specs.declared.Refusal.the-variants.{ValueOutOfRange}
 use Rattle.kinds.proofs.Lists.{take-as-many}
 use Rattle.theory.specs.DueTimes.{dueTime}
 use Rattle.theory.proofs.DueTimes.{due-time-at-least-d, due-of-the-first, due-of-the-further}
 use Rattle.table.specs.declared.Row.{Row}
 use Rattle.table.specs.Rows.{rowInRange}
 use Rattle.due.specs.declared.Kept.{Kept}
-use Rattle.due.specs.Kept.{maxKept, keptTimes, earlier, lastOnes, keptAs, keptWith, noneTooLate, keptSound}
+use Rattle.due.specs.declared.KeepAnswer.the-variants as keep
+use Rattle.due.specs.Kept.{maxKept, keptTimes, earlier, lastOnes, keptAs, keptWith, keepStep, noneTooLate, keptSound}
 use Rattle.due.proofs.Lists.{getD-reverse, last-ones-all, last-ones-and-one, last-ones-take, stored-behind, movedDown}
 
 -- What an unused place holds.
@@ -44,25 +46,25 @@ pub length-kept : (k : Kept) (n : ℕ) → length (k .times) ≡ maxKept → n �
 length-kept k n whole counted = length-take (k .count) (k .times) ∙ ap (min (k .count)) whole ∙ sym counted
 
 module _ (k : Kept) (n : ℕ) (used : length (keptTimes k) ≡ n) where
-  -- They are the first n of the array ..
+  -- Kept are the first n of the array.
   kept-first : keptTimes k ≡ take n (k .times)
   kept-first = sym (take-as-many (k .count) (k .times)) ∙ ap (λ m. take m (k .times)) used
 
-  -- .. which has so many ..
+  -- The array has so many places.
   kept-inside : n ≤ length (k .times)
   kept-inside = omega (arith, length-take (k .count) (k .times))
 
-  -- .. and each stands at its place.
-  kept-at : (i : ℕ) → i < n → getD (keptTimes k) i noTime ≡ getD (k .times) i noTime
+  -- Each kept due time stands at its place of the array.
+  pub kept-at : (i : ℕ) → i < n → getD (keptTimes k) i noTime ≡ getD (k .times) i noTime
   kept-at i h = ap (λ l. getD l i noTime) kept-first ∙ getD-take n (k .times) i noTime h
 
   -- ---- the due time of a release
 
-  -- The rule sees as many as are kept ..
+  -- The rule sees as many as are kept.
   length-earlier : length (earlier k) ≡ n
   length-earlier = length-reverse (map number (keptTimes k)) ∙ length-map (keptTimes k) number ∙ used
 
-  -- .. and the x-th of them, newest first, stands x places before the end of those in use.
+  -- The x-th that the rule sees, newest first, stands x places before the end of those in use.
   earlier-at : (x : ℕ) → 1 ≤ x → x ≤ n → getD (earlier k) (x - 1) 0 ≡ getD (k .times) (n - x) noTime .0
   earlier-at x p h =
       let numbers = map number (keptTimes k) in
@@ -73,11 +75,11 @@ module _ (k : Kept) (n : ℕ) (used : length (keptTimes k) ≡ n) where
       ∙ ap number (kept-at (n - x) (omega arith))
 
   module _ (r : Row) (t : ℕ) where
-    -- With fewer than x kept a job is due d after its release ..
+    -- With fewer than x kept a job is due d after its release.
     pub due-alone : n < r .x → byRule k r t ≡ t + r .d
     due-alone h = due-of-the-first (r .x) (r .y) (r .d) (earlier k) t (omega (arith, length-earlier))
 
-    -- .. and with x or more not sooner than y after the x-th before it either.
+    -- With x or more kept a job is due at the later of d after its release and y after the x-th before it.
     pub due-spaced : 1 ≤ r .x → r .x ≤ n → byRule k r t ≡ max (t + r .d) (getD (k .times) (n - r .x) noTime .0 + r .y)
     due-spaced p h = due-of-the-further (r .x) (r .y) (r .d) (earlier k) t (omega (arith, length-earlier)) ∙ rw (earlier-at (r .x) p h)
 
@@ -87,15 +89,25 @@ due-after-release k r t = omega (arith, due-time-at-least-d (r .x) (r .y) (r .d)
 
 -- ---- one due time more
 
--- Of a row in range the newest x are kept ..
+-- Of a row in range the newest x are kept.
 pub kept-with : (k : Kept) (r : Row) (t : Tick) → rowInRange r ≡ true → keptWith k r t ≡ keptAs k (newestWith k r t)
 unfolding keptWith
 kept-with k r t fine = rw fine
 
--- .. and with any other row all stays.
+-- With a row out of range all stays.
 pub keeps-all : (k : Kept) (r : Row) (t : Tick) → rowInRange r ≡ false → keptWith k r t ≡ k
 unfolding keptWith
 keeps-all k r t out = rw out
+
+-- With a row out of range keeping is refused, and all stays.
+pub keep-refused : (k : Kept) (r : Row) (t : Tick) → rowInRange r ≡ false
+    → keepStep k r t ≡ record { kept = k; answer = keep.Refused ValueOutOfRange }
+keep-refused k r t out = rw (keeps-all k r t out, out)
+
+-- With a row in range keeping is done, and kept is what the rule says.
+pub keep-done : (k : Kept) (r : Row) (t : Tick) {m : Kept} → rowInRange r ≡ true → keptWith k r t ≡ m
+    → keepStep k r t ≡ record { kept = m; answer = keep.Done }
+keep-done k r t fine e = rw (e, fine)
 
 -- In an array that begins with some due times, storing one at the place behind them keeps them and that one.
 kept-stored : (k : Kept) (m : List Tick) (i : ℕ) (t : Tick) → length m ≡ i → i < length (k .times)
@@ -133,12 +145,12 @@ module _ (k : Kept) (n : ℕ) (used : length (keptTimes k) ≡ n) (r : Row) (t :
 
 -- ---- whether what is kept can be a row's
 
--- It can't where too many are counted ..
+-- What is kept can't be a row's where too many are counted.
 pub unsound-count : (k : Kept) (r : Row) → r .x < k .count → keptSound k r ≡ false
 unfolding keptSound
 unsound-count k r h = rw (lt-leb (k .count) (r .x) h)
 
--- .. and else it can where none is too late.
+-- Where at most x are counted, what is kept can be a row's exactly when none is too late.
 pub sound-count : (k : Kept) (r : Row) → k .count ≤ r .x → keptSound k r ≡ noneTooLate (keptTimes k)
 unfolding keptSound
 sound-count k r h = rw (le-leb (k .count) (r .x) h)
@@ -153,10 +165,10 @@ module _ (k : Kept) (n : ℕ) (used : length (keptTimes k) ≡ n) (i : ℕ) wher
     kept-from : drop i (keptTimes k) ≡ getD (k .times) i noTime ∷ drop (i + 1) (keptTimes k)
     kept-from = drop-cons (keptTimes k) i noTime (omega arith) ∙ rw (kept-at k n used i inside, add-one i)
 
-    -- So one that is too late settles the test ..
+    -- One that is too late settles the test.
     pub late-at : maxTime < getD (k .times) i noTime .0 → noneTooLate (drop i (keptTimes k)) ≡ false
     late-at h = rw (kept-from, lt-leb _ maxTime h)
 
-    -- .. and one that is not leaves it to the others.
+    -- One that is not too late leaves the test to the others.
     pub in-time-at : getD (k .times) i noTime .0 ≤ maxTime → noneTooLate (drop i (keptTimes k)) ≡ noneTooLate (drop (i + 1) (keptTimes k))
     in-time-at h = rw (kept-from, le-leb _ maxTime h)

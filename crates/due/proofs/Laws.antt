@@ -2,6 +2,7 @@
 -- them, and soundness is settled due time by due time. (docs/RULES.md, section 4.)
 use Prim.Native.Nat.{ℕ, zero, suc, _-_, _≤_, _<_}
 use mathlib.Core.Path.{_≡_, refl, sym, ap, _∙_}
+use mathlib.Core.Logic.{_↔_}
 use mathlib.Core.Bool.{Bool, true, false}
 use mathlib.Core.List.{List, [], _∷_, _++_, map, map-append, reverse, reverse-append}
 use native.Mathlib.Omega.{arith}
@@ -23,7 +24,7 @@ use Rattle.table.proofs.Ranges.{both-true}
 use Rattle.due.specs.declared.Kept.{Kept}
 use Rattle.due.specs.declared.Due.the-variants as due
 use Rattle.due.specs.Kept.{nothingKept, keptTimes, earlier, notTooLate, dueOf, keptAs, keptWith, noneTooLate, keptSound}
-use Rattle.due.specs.Laws.{StartsEmpty, KeepsOnKeeping, DueIsThePapers, GivenMeans, TooLateMeans, OutOfRangeMeans, SoundMeans, EmptyIsSound, StaysSound}
+use Rattle.due.specs.Laws.{StartsEmpty, KeepsOnKeeping, DueIsThePapers, CostPlaysNoPart, GivenDue, SoundMeans, EmptyIsSound, StaysSound}
 use Rattle.due.proofs.Lists.{take-reverse, map-last-ones, last-ones-few}
 use Rattle.due.proofs.Keeping.{noTime, number, byRule, newestWith, kept-with, sound-count}
 
@@ -32,11 +33,11 @@ use Rattle.due.proofs.Keeping.{noTime, number, byRule, newestWith, kept
 pub starts-empty : StartsEmpty
 starts-empty x = record { all-places = refl; newest = sym (take-nil x) }
 
--- What is kept as a list is that list ..
-kept-as : (k : Kept) (l : List Tick) → keptTimes (keptAs k l) ≡ l
+-- What is kept as a list is that list.
+pub kept-as : (k : Kept) (l : List Tick) → keptTimes (keptAs k l) ≡ l
 kept-as k l = take-append-seam l (drop (length l) (k .times))
 
--- .. in as many places as before.
+-- Keeping a list leaves as many places as before.
 places-as : (k : Kept) (l : List Tick) → length l ≤ length (k .times) → length (keptAs k l .times) ≡ length (k .times)
 places-as k l h = length-front (k .times) l (length l) (sym (length-take-le (length l) (k .times) h))
 
@@ -73,87 +74,91 @@ pub due-is-the-papers : DueIsThePapers
 due-is-the-papers k r history t fine kept =
     ap (λ h. dueTime (r .x) (r .y) (r .d) h t) (kept .newest) ∙ newest-are-enough (r .x) (r .y) (r .d) history t (in-range-means r .0 fine .some-x)
 
--- ---- each answer exactly when it should be
+pub cost-plays-no-part : CostPlaysNoPart
+unfolding dueOf
+cost-plays-no-part k r t cost other = refl
 
--- A due time that is in time is given ..
-in-time-given : (v : ℕ) → v ≤ maxTime → notTooLate v ≡ due.At (record { 0 = v })
+-- ---- which case each answer is
+
+-- A due time that is in time is given.
+pub in-time-given : (v : ℕ) → v ≤ maxTime → notTooLate v ≡ due.At (record { 0 = v })
 in-time-given v h = rw (le-leb v maxTime h)
 
--- .. and any other refused.
-late-refused : (v : ℕ) → maxTime < v → notTooLate v ≡ due.Refused DueTooLate
+-- A due time above 2^40 is refused.
+pub late-refused : (v : ℕ) → maxTime < v → notTooLate v ≡ due.Refused DueTooLate
 late-refused v h = rw (lt-leb v maxTime h)
 
-module _ (k : Kept) (r : Row) (t : ℕ) where
-  -- A row out of range has none ..
-  no-due : rowInRange r ≡ false → dueOf k r t ≡ due.Refused ValueOutOfRange
+module _ (k : Kept) (r : Row) (t cost : ℕ) where
+  -- A row out of range has no due time.
+  none-given : rowInRange r ≡ false → dueOf k r t cost ≡ due.Refused ValueOutOfRange
   unfolding dueOf
-  no-due e = rw e
+  none-given e = rw e
 
   module _ (fine : rowInRange r ≡ true) where
-    -- .. and for a row in range it is given ..
-    due-given : byRule k r t ≤ maxTime → dueOf k r t ≡ due.At (record { 0 = byRule k r t })
+    -- For a row in range a due time of at most 2^40 is given.
+    rule-given : byRule k r t ≤ maxTime → dueOf k r t cost ≡ due.At (record { 0 = byRule k r t })
     unfolding dueOf
-    due-given h = rw fine (in-time-given (byRule k r t) h)
+    rule-given h = rw fine (in-time-given (byRule k r t) h)
 
-    -- .. unless it is too late.
-    due-refused : maxTime < byRule k r t → dueOf k r t ≡ due.Refused DueTooLate
+    -- For a row in range a due time above 2^40 is refused.
+    rule-refused : maxTime < byRule k r t → dueOf k r t cost ≡ due.Refused DueTooLate
     unfolding dueOf
-    due-refused h = rw fine (late-refused (byRule k r t) h)
+    rule-refused h = rw fine (late-refused (byRule k r t) h)
 
   -- The three cases, each with its answer.
-  by-answer : {G : Type 0}
-      → (rowInRange r ≡ true → byRule k r t ≤ maxTime → dueOf k r t ≡ due.At (record { 0 = byRule k r t }) → G)
-      → (rowInRange r ≡ true → maxTime < byRule k r t → dueOf k r t ≡ due.Refused DueTooLate → G)
-      → (rowInRange r ≡ false → dueOf k r t ≡ due.Refused ValueOutOfRange → G) → G
+  pub by-answer : {G : Type 0}
+      → (rowInRange r ≡ true → byRule k r t ≤ maxTime → dueOf k r t cost ≡ due.At (record { 0 = byRule k r t }) → G)
+      → (rowInRange r ≡ true → maxTime < byRule k r t → dueOf k r t cost ≡ due.Refused DueTooLate → G)
+      → (rowInRange r ≡ false → dueOf k r t cost ≡ due.Refused ValueOutOfRange → G) → G
   by-answer {G} given late out = go (rowInRange r) refl
     where
       go : (fine : Bool) → rowInRange r ≡ fine → G
-      go true e = by-lt maxTime (byRule k r t) (λ h. late e h (due-refused e h)) (λ h. given e h (due-given e h))
-      go false e = out e (no-due e)
+      go true e = by-lt maxTime (byRule k r t) (λ h. late e h (rule-refused e h)) (λ h. given e h (rule-given e h))
+      go false e = out e (none-given e)
 
-pub given-means : GivenMeans
-given-means k r t v = (
-  λ e. by-answer k r t
-      (λ fine h a.
-      let same : record { 0 = byRule k r t } ≡ v = cc in
-      let by-rule : byRule k r t ≡ v .0 = ap number same in
-      record { row-in-range = fine; by-rule = by-rule; in-time = omega arith })
-      (λ fine h a. impossible cc)
-      (λ out a. impossible cc),
-  λ g. let in-time : byRule k r t ≤ maxTime = omega (arith, g .by-rule, g .in-time) in due-given k r t (g .row-in-range) in-time ∙ rw (g .by-rule),
-)
+  -- The answer is a due time exactly when it is the one by the rule.
+  pub due-given : (v : Tick) → (dueOf k r t cost ≡ due.At v) ↔ GivenDue k r t (v .0)
+  due-given v = (
+    λ e. by-answer
+        (λ fine h a.
+        let same : record { 0 = byRule k r t } ≡ v = cc in
+        let by-rule : byRule k r t ≡ v .0 = ap number same in
+        record { row-in-range = fine; by-rule = by-rule; in-time = omega arith })
+        (λ fine h a. impossible cc)
+        (λ out a. impossible cc),
+    λ g. let in-time : byRule k r t ≤ maxTime = omega (arith, g .by-rule, g .in-time) in rule-given (g .row-in-range) in-time ∙ rw (g .by-rule),
+  )
 
-pub too-late-means : TooLateMeans
-too-late-means k r t = (
-  λ e. by-answer k r t (λ fine h a. impossible cc) (λ fine h a. (fine, h)) (λ out a. impossible cc),
-  λ h. due-refused k r t (h .0) (h .1),
-)
+  -- The answer is refusal 9 exactly when the due time by the rule is above 2^40.
+  pub due-too-late : (dueOf k r t cost ≡ due.Refused DueTooLate) ↔ ((rowInRange r ≡ true) × (maxTime < byRule k r t))
+  due-too-late = (λ e. by-answer (λ fine h a. impossible cc) (λ fine h a. (fine, h)) (λ out a. impossible cc), λ h. rule-refused (h .0) (h .1))
 
-pub out-of-range-means : OutOfRangeMeans
-out-of-range-means k r t = (λ e. by-answer k r t (λ fine h a. impossible cc) (λ fine h a. impossible cc) (λ out a. out), no-due k r t)
+  -- The answer is refusal 3 exactly when the row is out of range.
+  pub due-out-of-range : (dueOf k r t cost ≡ due.Refused ValueOutOfRange) ↔ (rowInRange r ≡ false)
+  due-out-of-range = (λ e. by-answer (λ fine h a. impossible cc) (λ fine h a. impossible cc) (λ out a. out), none-given)
 
 -- ---- sound
 
--- Where none of a list is too late, the first is not, nor any behind it ..
+-- Where none of a list is too late, the first is not, nor any behind it.
 none-late-parts : (t : Tick) (l : List Tick) → noneTooLate (t ∷ l) ≡ true → (t .0 ≤ maxTime) × (noneTooLate l ≡ true)
 none-late-parts t l e = let b = both-true (leb (t .0) maxTime) (noneTooLate l) e in (leb-true (t .0) maxTime (b .0), b .1)
 
--- .. and the other way round.
+-- Where neither the first nor any behind it is too late, none of the list is.
 none-late-whole : (t : Tick) (l : List Tick) → t .0 ≤ maxTime → noneTooLate l ≡ true → noneTooLate (t ∷ l) ≡ true
 none-late-whole t l h e = rw (le-leb (t .0) maxTime h, e)
 
--- So each is in time by its place ..
+-- Where none of a list is too late, each is in time by its place.
 in-time-each : (l : List Tick) → noneTooLate l ≡ true → (i : ℕ) → i < length l → getD l i noTime .0 ≤ maxTime
 in-time-each [] e i h = absurd (omega arith)
 in-time-each (t ∷ l) e zero h = none-late-parts t l e .0
 in-time-each (t ∷ l) e (suc i) h = in-time-each l (none-late-parts t l e .1) i (omega arith)
 
--- .. and where each is, none is too late.
+-- Where each is in time by its place, none of the list is too late.
 in-time-all : (l : List Tick) → ((i : ℕ) → i < length l → getD l i noTime .0 ≤ maxTime) → noneTooLate l ≡ true
 in-time-all [] f = refl
 in-time-all (t ∷ l) f = none-late-whole t l (f 0 (omega arith)) (in-time-all l (λ i h. f (suc i) (omega arith)))
 
--- Sound: not too many are counted, and none is too late.
+-- What is sound counts at most x, and none of it is too late.
 sound-parts : (k : Kept) (r : Row) → keptSound k r ≡ true → (k .count ≤ r .x) × (noneTooLate (keptTimes k) ≡ true)
 unfolding keptSound
 sound-parts k r e = let b = both-true (leb (k .count) (r .x)) (noneTooLate (keptTimes k)) e in (leb-true (k .count) (r .x) (b .0), b .1)
@@ -167,12 +172,12 @@ sound-means k r = (
 pub empty-is-sound : EmptyIsSound
 empty-is-sound r = sound-count nothingKept r (omega arith)
 
--- One more that is in time leaves none too late ..
+-- One more that is in time leaves none too late.
 none-late-and-one : (l : List Tick) (t : Tick) → noneTooLate l ≡ true → t .0 ≤ maxTime → noneTooLate (l ++ (t ∷ [])) ≡ true
 none-late-and-one [] t e h = none-late-whole t [] h refl
 none-late-and-one (s ∷ l) t e h = let p = none-late-parts s l e in none-late-whole s (l ++ (t ∷ [])) (p .0) (none-late-and-one l t (p .1) h)
 
--- .. and so does dropping the first n.
+-- Dropping the first n leaves none too late.
 none-late-drop : (n : ℕ) (l : List Tick) → noneTooLate l ≡ true → noneTooLate (drop n l) ≡ true
 none-late-drop zero l e = e
 none-late-drop (suc n) [] e = e

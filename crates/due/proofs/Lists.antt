@@ -24,11 +24,11 @@ module _ {A : Type 0} where
       let further : suc (length l) - n ≡ suc (length l - n) = omega arith in
       List·getD-append (reverse l) (a ∷ []) d (n - 1) (omega (arith, length-reverse l)) ∙ getD-reverse l n d p k ∙ rw further)
 
-  -- The last n are at most n ..
+  -- The last n are at most n.
   pub last-ones-few : (n : ℕ) (l : List A) → length (lastOnes n l) ≤ n
   last-ones-few n l = omega (arith, length-drop (length l - n) l)
 
-  -- .. and all, where there are at most n.
+  -- The last n are all, where there are at most n.
   pub last-ones-all : (n : ℕ) (l : List A) → length l ≤ n → lastOnes n l ≡ l
   last-ones-all n l h = let none : length l - n ≡ 0 = omega arith in rw none
 
@@ -58,13 +58,13 @@ module _ {A : Type 0} where
       let parts : n ≡ n - m + m = omega arith in
       ap (λ i. drop (i - m) (take n l)) (length-take-le n l k) ∙ ap (λ i. drop (n - m) (take i l)) parts ∙ drop-take (n - m) m l (omega arith)
 
--- What is left of a map is the map of what is left ..
+-- What is left of a map is the map of what is left.
 map-drop : {A B : Type 0} (f : A → B) (n : ℕ) (l : List A) → map f (drop n l) ≡ drop n (map f l)
 map-drop f zero l = refl
 map-drop f (suc n) [] = refl
 map-drop f (suc n) (a ∷ l) = map-drop f n l
 
--- .. and so for the last n.
+-- The last n of a map are the map of the last n.
 pub map-last-ones : {A B : Type 0} (f : A → B) (n : ℕ) (l : List A) → map f (lastOnes n l) ≡ lastOnes n (map f l)
 map-last-ones f n l = map-drop f (length l - n) l ∙ ap (λ m. drop (m - n) (map f l)) (sym (length-map l f))
 
@@ -84,11 +84,11 @@ module _ {A : Type 0} where
   movedDown by i l = take i (drop by l) ++ drop i l
 
   module _ (by i : ℕ) (l : List A) (d : A) (inside : by + i < length l) where
-    -- All of these are there ..
+    -- All that are to be moved are there.
     moved-length : length (take i (drop by l)) ≡ i
     moved-length = length-take-le i (drop by l) (omega (arith, length-drop by l))
 
-    -- .. and what is to be moved next stands where it stood.
+    -- What is to be moved next stands where it stood.
     next-to-move : getD (movedDown by i l) (by + i) d ≡ getD (drop by l) i d
     next-to-move =
         let place : by + i ≡ length (take i (drop by l)) + by = omega (arith, moved-length) in

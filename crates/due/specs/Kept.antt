@@ -15,52 +15,63 @@ use Rattle.table.specs.Rows.{rowInRange}
 use Rattle.due.specs.declared.Kept.{Kept}
 use Rattle.due.specs.declared.Due.{Due}
 use Rattle.due.specs.declared.Due.the-variants as due
+use Rattle.due.specs.declared.KeepAnswer.{KeepAnswer}
+use Rattle.due.specs.declared.KeepAnswer.the-variants as keep
+use Rattle.due.specs.declared.KeepStep.{KeepStep}
 
--- As many due times are kept at most as x may be.
+-- As many due times are kept at most as x may be. (4.6, 3.2)
 abbrev pub maxKept : ℕ
 maxKept = maxX
 
--- Nothing is kept.
+-- A row with no jobs yet keeps no due times. (6.3)
 abbrev pub nothingKept : Kept
 nothingKept = record { times = replicate maxKept (record { 0 = 0 }); count = 0 }
 
--- What is kept of a row that there is none of.
+-- The default for a row number that is not in use.
 abbrev pub noKept : Kept
 noKept = record { times = []; count = 0 }
 
--- The kept due times, oldest first.
+-- The kept due times, oldest first. (4.6)
 abbrev pub keptTimes : Kept → List Tick
 keptTimes k = take (k .count) (k .times)
 
--- The same as the rule takes them: as numbers, newest first.
+-- The kept due times as the rule takes them: as numbers, newest first.
 abbrev pub earlier : Kept → List ℕ
 earlier k = reverse (map (λ (t : Tick). t .0) (keptTimes k))
 
--- A due time that is not later than any may be, or refusal 9.
+-- A due time of at most 2^40 stands, and one above it is refusal 9. (4.7)
 abbrev pub notTooLate : ℕ → Due
 notTooLate t = cond (leb t maxTime) (due.At (record { 0 = t })) (due.Refused DueTooLate)
 
--- The due time of the next job of a row, released at t.
-unfoldable pub dueOf : Kept → Row → (t : ℕ) → Due
-dueOf k r t = cond (rowInRange r) (notTooLate (dueTime (r .x) (r .y) (r .d) (earlier k) t)) (due.Refused ValueOutOfRange)
+-- The due time of the next job of a row, released at t with a stated cost. For a row the cost plays no part. (4.2, 4.3, 4.8)
+unfoldable pub dueOf : Kept → Row → (t cost : ℕ) → Due
+dueOf k r t cost = cond (rowInRange r) (notTooLate (dueTime (r .x) (r .y) (r .d) (earlier k) t)) (due.Refused ValueOutOfRange)
 
 -- The last n of a list.
 abbrev pub lastOnes : {A : Type 0} → (n : ℕ) → List A → List A
 lastOnes n l = drop (length l - n) l
 
--- Kept due times that begin as a list does; what stands past them stays.
+-- The list is kept in the first places, and the later places stay as they were.
 abbrev pub keptAs : Kept → List Tick → Kept
 keptAs k l = record { times = l ++ drop (length l) (k .times); count = length l }
 
--- One due time more: the newest x are kept.
+-- With one due time more, the newest x are kept. For a row out of range all stays as it was. (4.6)
 unfoldable pub keptWith : Kept → Row → Tick → Kept
 keptWith k r t = cond (rowInRange r) (keptAs k (lastOnes (r .x) (keptTimes k ++ (t ∷ [])))) k
 
--- No due time of the list is later than any may be.
+-- A due time is kept for a row in range, and any other row is refusal 3.
+abbrev pub keepAnswer : Row → KeepAnswer
+keepAnswer r = cond (rowInRange r) keep.Done (keep.Refused ValueOutOfRange)
+
+-- Keeping one due time more: what is kept afterwards, and the answer. (4.6)
+abbrev pub keepStep : Kept → Row → Tick → KeepStep
+keepStep k r t = record { kept = keptWith k r t; answer = keepAnswer r }
+
+-- No due time of the list is above 2^40.
 abbrev pub noneTooLate : List Tick → Bool
 noneTooLate [] = true
 noneTooLate (t ∷ ts) = leb (t .0) maxTime && noneTooLate ts
 
--- What is kept can be a row's: at most x due times are counted, none of them later than any may be.
+-- What is kept can be a row's: at most x due times are counted, and none of them is above 2^40. (4.6, 4.7)
 unfoldable pub keptSound : Kept → Row → Bool
 keptSound k r = leb (k .count) (r .x) && noneTooLate (keptTimes k)

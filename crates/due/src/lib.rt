@@ -4,7 +4,7 @@ use kinds::Tick;
 use table::Row;
 ghost use mathlib.Core.Path.{_≡_};
 ghost use Prim.Native.Nat.{min};
-ghost use Rattle.due.specs.Kept.{maxKept, nothingKept, dueOf, keptWith, keptSound};
+ghost use Rattle.due.specs.Kept.{maxKept, nothingKept, dueOf, keepStep, keptSound};
 
 // The due times of a row's newest accepted jobs, oldest first: the first `count`. A count above the array's length means all of it.
 pub struct Kept {
@@ -16,6 +16,18 @@ pub struct Kept {
 pub enum Due {
     At(Tick),
     Refused(Refusal),
+}
+
+// Whether a due time was kept.
+pub enum KeepAnswer {
+    Done,
+    Refused(Refusal),
+}
+
+// What is kept afterwards, beside the answer.
+pub struct KeepStep {
+    pub kept: Kept,
+    pub answer: KeepAnswer,
 }
 
 impl Kept {
@@ -38,9 +50,9 @@ impl Kept {
         }
     }
 
-    // The due time of the row's next job, released at a time: refusal 3 for a row out of range, 9 for a due time later than any may be.
-    pub fn due(self, row: Row, release: Tick) -> Due
-        ensures { λ r. ⌜ r ≡ dueOf self row (release .0) ⌝ }
+    // The due time of the row's next job, released at a time with a stated cost. A row out of range is refusal 3, and a due time above 2^40 is 9.
+    pub fn due(self, row: Row, release: Tick, cost: u64) -> Due
+        ensures { λ r. ⌜ r ≡ dueOf self row (release .0) cost ⌝ }
     {
         if !row.in_range() {
             return Due::Refused(Refusal::ValueOutOfRange);
@@ -69,20 +81,26 @@ impl Kept {
         Due::At(Tick(due))
     }
 
-    // One due time more: of the row's newest, as many are kept as the rule needs. For a row out of range all stays as it was.
-    pub fn keep(self, row: Row, due: Tick) -> Kept
-        ensures { λ r. ⌜ r ≡ keptWith self row due ⌝ }
+    // One due time more: of the row's newest, as many are kept as the rule needs. For a row out of range all stays as it was, with refusal 3.
+    pub fn keep(self, row: Row, due: Tick) -> KeepStep
+        ensures { λ r. ⌜ r ≡ keepStep self row due ⌝ }
     {
         let mut kept = self;
         if !row.in_range() {
-            return kept;
+            return KeepStep {
+                kept,
+                answer: KeepAnswer::Refused(Refusal::ValueOutOfRange),
+            };
         }
         let x = row.x as usize;
         let count = in_use(self.count);
         if count < x {
             kept.times[count] = due;
             kept.count = count + 1;
-            return kept;
+            return KeepStep {
+                kept,
+                answer: KeepAnswer::Done,
+            };
         }
         let last = x - 1;
         let oldest = count - last;
@@ -94,10 +112,13 @@ impl Kept {
         }
         kept.times[last] = due;
         kept.count = x;
-        kept
+        KeepStep {
+            kept,
+            answer: KeepAnswer::Done,
+        }
     }
 
-    // Whether what is kept can be a row's: at most x due times, none later than any may be.
+    // Whether what is kept can be a row's: at most x due times, none above 2^40.
     pub fn sound(self, row: Row) -> bool
         ensures { λ r. ⌜ r ≡ keptSound self row ⌝ }
     {

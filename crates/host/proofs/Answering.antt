@@ -25,9 +25,9 @@ use Rattle.verdict.specs.Verdict.{RightOfRead, Judged, verdictSays}
 use Rattle.replay.specs.declared.Replayed.{Replayed}
 use Rattle.replay.specs.declared.Replayed.the-variants as replayed
 use Rattle.replay.specs.Outcome.{replayOf, replaySays}
-use Rattle.replay.proofs.Stopping.{stopped-by}
-use Rattle.replay.proofs.Answering.{no-room-means, refused-means}
-use Rattle.replay.proofs.Lengths.{log-is-short}
+use Rattle.play.proofs.Stopping.{stopped-by}
+use Rattle.replay.proofs.Answering.{no-room-answered as no-room-means, refused-answered as refused-means}
+use Rattle.play.proofs.Lengths.{log-is-short}
 use Rattle.host.specs.Answer.{answerLength, answerBytes, wrong-size, said}
 use Rattle.host.specs.Laws.{Filled, AnswerFilled, VerdictOfAnotherSize, ReplayOfAnotherSize, VerdictOfSixteen, ReplayOfSixteen}
 use Rattle.host.specs.Laws.{ReplayIs13, ReplayNever11Or25, TenTimesIsRoom, VerdictStatuses, VerdictIs13}

@@ -1,15 +1,26 @@
--- One status and one answer buffer only are right of a table, and no status of either call is 0.
+-- Some status and answer buffer are right of a table, and these only; no status of either call is 0.
 use Prim.Native.Nat.{ℕ, _≤_}
-use mathlib.Core.Path.{sym, _∙_}
+use mathlib.Core.Path.{refl, sym, _∙_}
 use mathlib.Core.Bool.{Bool, true, false, cond}
+use native.Mathlib.Decide.{ℕ-discrete}
 use native.Mathlib.Omega.{arith}
 use lib.Dec.{eqb}
+use lib.ListN.{length}
 use Rattle.kinds.proofs.Numbering.{never-zero}
-use Rattle.verdict.proofs.Verdicts.{one-verdict, never-says-zero}
+use Rattle.verdict.proofs.Verdicts.{some-verdict, one-verdict, never-says-zero}
+use Rattle.verdict.specs.Verdict.{verdictSays}
 use Rattle.replay.specs.declared.Replayed.{Replayed}
 use Rattle.replay.specs.declared.Replayed.the-variants as replayed
 use Rattle.replay.specs.Outcome.{replayOf, replaySays}
-use Rattle.host.specs.Answer.{answerLength, wrong-size, said, OneVerdictAnswered, VerdictNeverZero, ReplayNeverZero}
+use Rattle.host.specs.Answer.{answerLength, answerBytes, wrong-size, said, SomeVerdictAnswered, OneVerdictAnswered, VerdictNeverZero, ReplayNeverZero}
+
+pub some-verdict-answered : SomeVerdictAnswered
+some-verdict-answered table answer bytes = elim (ℕ-discrete (length answer) answerLength) [
+  | yes l ↦
+      let v = some-verdict table bytes in
+      (verdictSays (v .0) .number, answerBytes (verdictSays (v .0)), said l (v .0) (v .1) refl refl)
+  | no l ↦ (13, answer, wrong-size l refl refl)
+]
 
 pub one-verdict-answered : OneVerdictAnswered
 one-verdict-answered table answer status status′ after after′ (wrong-size l s a) (wrong-size l′ s′ a′) = (cc, cc)

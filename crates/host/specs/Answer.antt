@@ -8,6 +8,7 @@ use lib.Dec.{eqb}
 use lib.ListN.{length}
 use Rattle.kinds.specs.Numbering.{Said, refusalNumber}
 use Rattle.kinds.specs.declared.Refusal.the-variants.{AnswerSize}
+use Rattle.numbers.specs.Laws.{Bytes}
 use Rattle.words.specs.Words.{wordLength, lowestFirst}
 use Rattle.verdict.specs.declared.Verdict.{Verdict}
 use Rattle.verdict.specs.Verdict.{Judged, verdictSays}
@@ -45,7 +46,11 @@ replayLog table script log size = cond (eqb size answerLength) (logLeft table sc
 
 -- ---- what is proved (proofs/Laws.antt and Bytes.antt)
 
--- One status and one answer buffer only are right.
+-- Of any table and any answer buffer, some status and some answer buffer afterwards are right. (9.2, 9.6)
+abbrev pub SomeVerdictAnswered : Type 0
+SomeVerdictAnswered = (table answer : List ℕ) → Bytes table → (status : ℕ) × (after : List ℕ) × VerdictAnswered table answer status after
+
+-- For each table and answer buffer exactly one status and one answer buffer afterwards are right.
 abbrev pub OneVerdictAnswered : Type 0
 OneVerdictAnswered = (table answer : List ℕ) (status status′ : ℕ) (after after′ : List ℕ)
     → VerdictAnswered table answer status after → VerdictAnswered table answer status′ after′ → (status ≡ status′) × (after ≡ after′)

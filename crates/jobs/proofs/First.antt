@@ -15,17 +15,17 @@ use Rattle.jobs.specs.Choice.{goesBefore, firstFrom, firstPlace, choiceO
 use Rattle.jobs.proofs.Places.{rest-cons}
 
 module _ (a b : Job) where
-  -- The earlier due time goes first ..
+  -- The earlier due time goes first.
   pub goes-by-due : a .due .0 < b .due .0 → true ≡ goesBefore a b
   unfolding goesBefore
   goes-by-due h = rw (lt-ltb (a .due .0) (b .due .0) h)
 
-  -- .. the later does not ..
+  -- The later due time does not go first.
   pub goes-not-by-due : b .due .0 < a .due .0 → false ≡ goesBefore a b
   unfolding goesBefore
   goes-not-by-due h = rw (le-ltb (a .due .0) (b .due .0) (omega arith), lt-ltb (b .due .0) (a .due .0) h)
 
-  -- .. and where neither is earlier the serial decides.
+  -- Where neither due time is earlier the serial decides.
   pub goes-by-serial : b .due .0 ≤ a .due .0 → a .due .0 ≤ b .due .0 → ltb (a .serial .0) (b .serial .0) ≡ goesBefore a b
   unfolding goesBefore
   goes-by-serial h k = rw (le-ltb (a .due .0) (b .due .0) h, le-ltb (b .due .0) (a .due .0) k)
@@ -46,22 +46,22 @@ first-next n l i at best d h false e = rw (rest-cons n l i d h, e, add-one)
 pub first-end : (js : List Job) (i at : ℕ) (best : Job) → length js ≤ i → firstFrom i at best (drop i js) ≡ firstPlace js → at ≡ firstPlace js
 first-end js i at best h e = rw (drop-of-length-le js h) at e
 
--- Nobody is chosen where no job is pending ..
+-- Nobody is chosen where no job is pending.
 pub choice-nobody : (js : List Job) → length js ≡ 0 → choice.Nobody ≡ choiceOf js
 choice-nobody [] e = refl
 choice-nobody (j ∷ js) e = absurd (omega arith)
 
--- .. and otherwise the job that goes first is.
+-- Where a job is pending, the one that goes first is chosen.
 pub choice-place : (js : List Job) → 1 ≤ length js → choice.Place (firstPlace js) ≡ choiceOf js
 choice-place [] h = absurd (omega arith)
 choice-place (j ∷ js) h = refl
 
--- Where nobody is chosen, no job is pending ..
+-- Where nobody is chosen, no job is pending.
 pub nobody-chosen : (js : List Job) → choiceOf js ≡ choice.Nobody → length js ≡ 0
 nobody-chosen [] e = refl
 nobody-chosen (j ∷ js) e = impossible cc
 
--- .. and where a place is, a job is pending, and the place is that of the job that goes first.
+-- Where a place is chosen, a job is pending, and the place is that of the job that goes first.
 pub place-chosen : (js : List Job) (at : ℕ) → choiceOf js ≡ choice.Place at → (1 ≤ length js) × (at ≡ firstPlace js)
 place-chosen [] at e = impossible cc
 place-chosen (j ∷ js) at e = (omega arith, cc)

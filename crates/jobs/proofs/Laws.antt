@@ -6,13 +6,12 @@ use mathlib.Core.List.{List, [], _∷_, _++_, append-nil}
 use mathlib.Core.Bool.{Bool, true, false, cond}
 use native.Mathlib.Nat.{not-suc-le-zero, le-of-suc-le-suc}
 use native.Mathlib.Numerals.{add-one}
-use native.Mathlib.Decide.{decLe, decLt}
+use native.Mathlib.Decide.{decLt}
 use native.Mathlib.Omega.{arith}
 use lib.Dec.{ltb}
-use borrow.Author.Tests.{le-leb, lt-leb, lt-ltb, le-ltb}
+use borrow.Author.Tests.{lt-ltb, le-ltb}
 use lib.ListN.{length, set, getD, length-append, length-take, length-set, length-replicate, List·getD-append}
 use lib.Seq.{append-snoc, split-at, getD-append-seam, getD-take, take-suc-set}
-use Rattle.kinds.proofs.Apart.{impossible}
 use Rattle.jobs.specs.declared.Job.{Job}
 use Rattle.jobs.specs.declared.Pending.{Pending}
 use Rattle.jobs.specs.Places.{maxPlaces, noJob, jobsOf, used, without, put, takenOut}
@@ -142,12 +141,6 @@ unfolding after
 after-a-unit p at h =
     let j = getD (jobsOf p) at noJob in
     rw (place-holds-job p at h) (after-either p at (worked j) h (lastUnit j))
-
-pub ran-says : laws.RanSays
-ran-says j = elim (decLe (j .left) 1) [
-  | yes l ↦ rw (le-leb (j .left) 1 l) (refl, (λ e. l, λ h. refl))
-  | no l ↦ rw (lt-leb (j .left) 1 (omega arith)) (refl, (λ e. impossible cc, λ h. absurd (omega arith)))
-]
 
 -- What holds of both holds of either.
 pub either : {A : Type 0} (P : A → Type 0) (b : Bool) (x y : A) → P x → P y → P (cond b x y)

@@ -5,3 +5,4 @@ pub mod Turns
 pub mod Serials
 pub mod Laws
 pub mod Answers
+pub mod Calls

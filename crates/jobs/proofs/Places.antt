@@ -11,7 +11,8 @@ use lib.Seq.{drop-cons, getD-take, take-at, take-set-lt}
 use Rattle.kinds.proofs.Lists.{take-as-many}
 use Rattle.jobs.specs.declared.Job.{Job}
 use Rattle.jobs.specs.declared.Pending.{Pending}
-use Rattle.jobs.specs.Places.{maxPlaces, noJob, jobsOf, used, without, takenOut}
+use Rattle.jobs.specs.declared.TakeAnswer.the-variants as answer
+use Rattle.jobs.specs.Places.{maxPlaces, noJob, jobsOf, used, without, takenOut, takeStep}
 
 module _ {A : Type 0} where
   -- What is left of the first n from a place on: what stands there, and then the rest.
@@ -31,7 +32,7 @@ module _ {A : Type 0} where
   moved-none (a ∷ l) zero = refl
   moved-none (a ∷ l) (suc at) = ap (_∷_ a) (moved-none l at)
 
-  -- One more moves down, with the next place as `suc i` ..
+  -- One more moves down, with the next place as `suc i`.
   moved-suc : (l : List A) (at i : ℕ) (d : A) → at ≤ i → suc i < length l → set (moved l at i) i (getD (moved l at i) (suc i) d) ≡ moved l at (suc i)
   moved-suc [] at i d h k = absurd (not-suc-le-zero k)
   moved-suc (a ∷ []) at i d h k = absurd (not-suc-le-zero (le-of-suc-le-suc k))
@@ -40,11 +41,11 @@ module _ {A : Type 0} where
   moved-suc (a ∷ b ∷ l) (suc at) zero d h k = absurd (not-suc-le-zero h)
   moved-suc (a ∷ b ∷ l) (suc at) (suc i) d h k = ap (_∷_ a) (moved-suc (b ∷ l) at i d (le-of-suc-le-suc h) (le-of-suc-le-suc k))
 
-  -- .. and with the next place as the code has it.
+  -- One more moves down, with the next place as the code has it.
   pub moved-more : (l : List A) (at i : ℕ) (d : A) → at ≤ i → i + 1 < length l → set (moved l at i) i (getD (moved l at i) (i + 1) d) ≡ moved l at (i + 1)
   moved-more l at i d h k = rw add-one (moved-suc l at i d h (omega arith))
 
-  -- All of the first places have moved, and the last of them, which is freed, is set: with their number as `suc last` ..
+  -- All of the first places have moved, and the last of them, which is freed, is set: with their number as `suc last`.
   moved-suc-all : (l : List A) (at last : ℕ) (e : A) → at ≤ last → last < length l
       → set (moved l at last) last e ≡ without (take (suc last) l) at ++ e ∷ drop (suc last) l
   moved-suc-all [] at last e h k = absurd (not-suc-le-zero k)
@@ -54,7 +55,7 @@ module _ {A : Type 0} where
   moved-suc-all (a ∷ l) (suc at) zero e h k = absurd (not-suc-le-zero h)
   moved-suc-all (a ∷ l) (suc at) (suc last) e h k = ap (_∷_ a) (moved-suc-all l at last e (le-of-suc-le-suc h) (le-of-suc-le-suc k))
 
-  -- .. and as the code has it.
+  -- The same with the number of the places as the code has it.
   pub moved-all : (l : List A) (at last : ℕ) (e : A) → at ≤ last → last < length l
       → set (moved l at last) last e ≡ without (take (last + 1) l) at ++ e ∷ drop (last + 1) l
   moved-all l at last e h k = rw add-one (moved-suc-all l at last e h k)
@@ -69,7 +70,7 @@ module _ {A : Type 0} where
 pub used-is : (p : Pending) (n : ℕ) → length (p .places) ≡ maxPlaces → n ≡ min (p .count) maxPlaces → n ≡ used p
 used-is p n h e = e ∙ ap (min (p .count)) (sym h) ∙ sym (length-take (p .count) (p .places))
 
--- A job taken out by moving the later ones down and clearing the last place in use.
+-- A job is taken out by moving the later ones down and clearing the last place in use.
 pub moved-is-taken-out : (p : Pending) (at last : ℕ) → at ≤ last → last + 1 ≡ used p
     → record { places = set (moved (p .places) at last) last noJob; count = last } ≡ takenOut p at
 unfolding takenOut
@@ -83,20 +84,35 @@ pub nothing-taken-out : (p : Pending) (at : ℕ) → used p ≤ at → p ≡ tak
 unfolding takenOut
 nothing-taken-out p at h = simp (le-ltb at (used p) h)
 
+-- The call hands back the job whose place was filled by moving the later ones down.
+pub take-moved : (p : Pending) (at last : ℕ) → at ≤ last → last + 1 ≡ used p
+    → record {
+      pending = record { places = set (moved (p .places) at last) last noJob; count = last };
+      answer = answer.Taken (getD (p .places) at noJob);
+    }
+    ≡ takeStep p at
+unfolding takeStep
+take-moved p at last h e = rw (moved-is-taken-out p at last h e, lt-ltb at (used p) (omega arith))
+
+-- The call says that nobody is there.
+pub take-nobody : (p : Pending) (at : ℕ) → used p ≤ at → record { pending = p; answer = answer.Nobody } ≡ takeStep p at
+unfolding takeStep
+take-nobody p at h = rw (← nothing-taken-out p at h, le-ltb at (used p) h)
+
 module _ (p : Pending) (at : ℕ) (h : at < used p) where
-  -- What is pending after a job is taken out: the others, in their order ..
+  -- What is pending after a job is taken out: the others, in their order.
   pub jobs-taken-out : jobsOf (takenOut p at) ≡ without (jobsOf p) at
   unfolding takenOut
   jobs-taken-out =
       let n : length (without (jobsOf p) at) ≡ used p - 1 = omega (arith, length-without (jobsOf p) at h) in
       simp (lt-ltb at (used p) h) (take-at (without (jobsOf p) at) (noJob ∷ drop (used p) (p .places)) (used p - 1) n)
 
-  -- .. one less than before ..
+  -- After a job is taken out, one less is counted.
   pub count-taken-out : takenOut p at .count + 1 ≡ used p
   unfolding takenOut
   count-taken-out = simp (lt-ltb at (used p) h) (omega arith)
 
-  -- .. in as many places.
+  -- After a job is taken out there are as many places as before.
   pub places-taken-out : length (takenOut p at .places) ≡ length (p .places)
   unfolding takenOut
   places-taken-out =

@@ -8,7 +8,7 @@ use Rattle.jobs.specs.declared.Pending.{Pending}
 use Rattle.jobs.specs.declared.Given.{Given}
 use Rattle.jobs.specs.declared.Finished.the-variants as finished
 use Rattle.jobs.specs.declared.Ran.{Ran}
-use Rattle.jobs.specs.declared.Turn.the-variants as turn
+use Rattle.jobs.specs.declared.GiveAnswer.the-variants as give-answer
 use Rattle.jobs.specs.Places.{noJob, used, takenOut}
 
 -- A job has had its last unit when it gets one and had no more than one left.
@@ -30,9 +30,9 @@ after p at =
     (takenOut p at)
     (record { places = set (p .places) at (worked (getD (p .places) at noJob)); count = used p })
 
--- One unit for the job at a place. Where no job is pending there, nobody has it and all stays as it was.
+-- One unit for the job at a place. Where nobody is pending there, that is the answer, and all stays as it was.
 unfoldable pub given : Pending → (at : ℕ) → Given
 given p at =
     cond (ltb at (used p))
-    (record { pending = after p at; turn = turn.Ran (ranOf (getD (p .places) at noJob)) })
-    (record { pending = p; turn = turn.Idle })
+    (record { pending = after p at; answer = give-answer.Ran (ranOf (getD (p .places) at noJob)) })
+    (record { pending = p; answer = give-answer.Nobody })

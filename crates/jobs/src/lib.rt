@@ -1,28 +1,26 @@
-// Jobs that wait for the processor: which one goes first, one unit given, a job taken out, who became late, and many ticks in one go. Nothing here knows of
+// Jobs that wait for the processor: a job put in, which one goes first, one unit given, a job taken out, who became late, and one tick. Nothing here knows of
 // tables or of a clock's limit, so another run with another choice can use it. (docs/RULES.md, section 6.)
 mod distinct;
 mod one_job;
 
 use crate::distinct::meets_again;
 use crate::distinct::rising;
-use crate::one_job::finish_of;
 use crate::one_job::goes_before;
 use crate::one_job::is_late;
-use crate::one_job::no_finish;
 use crate::one_job::no_job;
-use kinds::Finish;
+use crate::one_job::ran_of;
+use kinds::Refusal;
 use kinds::RowNumber;
 use kinds::Serial;
 use kinds::Tick;
 ghost use mathlib.Core.Path.{_≡_};
-ghost use mathlib.Core.List.{[]};
-ghost use Prim.Native.Nat.{min};
-ghost use Rattle.jobs.specs.Places.{maxPlaces, emptyPending, jobsOf, put, takenOut};
+ghost use Prim.Native.Nat.{_<_, min};
+ghost use Rattle.jobs.specs.Places.{maxPlaces, emptyPending, jobsOf, used, putStep, takeStep};
 ghost use Rattle.jobs.specs.Choice.{choiceOf};
-ghost use Rattle.jobs.specs.Units.{given};
+ghost use Rattle.jobs.specs.Units.{after, given};
 ghost use Rattle.jobs.specs.Late.{lateCount};
 ghost use Rattle.jobs.specs.Serials.{distinctSerials};
-ghost use Rattle.jobs.specs.Turns.{finishesOf, ticksFrom};
+ghost use Rattle.jobs.specs.Turns.{turned};
 
 // A pending job: what it asked for, and the units that it has left to get.
 pub struct Job {
@@ -52,7 +50,7 @@ pub struct Ran {
     pub finished: Finished,
 }
 
-// Who had a tick.
+// Who had a tick. It is idle exactly where nothing was pending.
 pub enum Turn {
     Idle,
     Ran(Ran),
@@ -64,25 +62,47 @@ pub enum Choice {
     Nobody,
 }
 
+// Whether a job found a place.
+pub enum PutAnswer {
+    Done,
+    Refused(Refusal),
+}
+
+// The pending jobs after one was put in, and whether it found a place.
+pub struct PutStep {
+    pub pending: Pending,
+    pub answer: PutAnswer,
+}
+
+// The job that was taken out of a place, or that nobody was there.
+pub enum TakeAnswer {
+    Taken(Job),
+    Nobody,
+}
+
+// The pending jobs after one was taken out, and which one it was.
+pub struct TakeStep {
+    pub pending: Pending,
+    pub answer: TakeAnswer,
+}
+
+// The job at a place that had a unit, or that nobody was there.
+pub enum GiveAnswer {
+    Ran(Ran),
+    Nobody,
+}
+
 // The pending jobs after a unit was given, and who had it.
 pub struct Given {
     pub pending: Pending,
-    pub turn: Turn,
+    pub answer: GiveAnswer,
 }
 
-// Jobs that finished, in order.
-pub struct Finishes {
-    pub records: [Finish; Pending::PLACES],
-    pub count: usize,
-}
-
-// What many ticks made of pending jobs: those that are left, the clock that was reached, who had the last tick, how many jobs became late, and which finished.
-pub struct Ticks {
+// What one tick made of pending jobs: those that are left, who had it, and how many jobs became late.
+pub struct Turned {
     pub pending: Pending,
-    pub clock: Tick,
     pub turn: Turn,
     pub late: u64,
-    pub finishes: Finishes,
 }
 
 // A count above the places means all of them.
@@ -93,19 +113,6 @@ fn in_use(count: usize) -> usize
         count
     } else {
         Pending::PLACES
-    }
-}
-
-impl Finishes {
-    // No job finished.
-    pub fn none() -> Finishes
-        ensures { λ r. ⌜ r ≡ finishesOf [] ⌝ }
-    {
-        let nothing = no_finish();
-        Finishes {
-            records: [nothing; Pending::PLACES],
-            count: 0,
-        }
     }
 }
 
@@ -129,17 +136,24 @@ impl Pending {
         }
     }
 
-    // The job in the first unused place; where there is none, all stays as it was.
-    pub fn put(self, job: Job) -> Pending
-        ensures { λ r. ⌜ r ≡ put self job ⌝ }
+    // The job in the first unused place; where there is none the answer is refusal 8, and all stays as it was.
+    pub fn put(self, job: Job) -> PutStep
+        ensures { λ r. ⌜ r ≡ putStep self job ⌝ }
     {
         let count = self.count;
-        let mut p = self;
-        if count < Pending::PLACES {
-            p.places[count] = job;
-            p.count = count + 1;
+        let mut pending = self;
+        if Pending::PLACES <= count {
+            return PutStep {
+                pending,
+                answer: PutAnswer::Refused(Refusal::PlacesFull),
+            };
         }
-        p
+        pending.places[count] = job;
+        pending.count = count + 1;
+        PutStep {
+            pending,
+            answer: PutAnswer::Done,
+        }
     }
 
     // The place of the job that goes first.
@@ -164,61 +178,67 @@ impl Pending {
         Choice::Place(at)
     }
 
-    // The job at a place taken out; the later ones move down by one.
-    pub fn take_out(self, at: usize) -> Pending
-        ensures { λ r. ⌜ r ≡ takenOut self at ⌝ }
+    // The job at a place taken out and handed back; the later ones move down by one.
+    pub fn take_out(self, at: usize) -> TakeStep
+        ensures { λ r. ⌜ r ≡ takeStep self at ⌝ }
     {
         let count = in_use(self.count);
-        let mut p = self;
+        let mut pending = self;
         if at >= count {
-            return p;
+            return TakeStep {
+                pending,
+                answer: TakeAnswer::Nobody,
+            };
         }
+        let taken = pending.places[at];
         let last = count - 1;
         let mut i = at;
         while i < last {
-            let job = p.places[i + 1];
-            p.places[i] = job;
+            let job = pending.places[i + 1];
+            pending.places[i] = job;
             i += 1;
         }
         let nobody = no_job();
-        p.places[last] = nobody;
-        p.count = last;
-        p
+        pending.places[last] = nobody;
+        pending.count = last;
+        TakeStep {
+            pending,
+            answer: TakeAnswer::Taken(taken),
+        }
     }
 
-    // One unit for the job at a place, which is taken out where that was its last.
-    pub fn give(self, at: usize) -> Given
-        ensures { λ r. ⌜ r ≡ given self at ⌝ }
+    // The pending jobs after the one at a place had a unit: it is taken out where that was its last.
+    fn after(self, at: usize) -> Pending
+        requires { ⌜ at < used self ⌝ }
+        ensures { λ r. ⌜ r ≡ after self at ⌝ }
     {
-        let count = in_use(self.count);
-        if at >= count {
-            return Given {
-                pending: self,
-                turn: Turn::Idle,
-            };
-        }
         let mut job = self.places[at];
-        let serial = job.serial;
         if job.left <= 1 {
-            let pending = self.take_out(at);
-            return Given {
-                pending,
-                turn: Turn::Ran(Ran {
-                    serial,
-                    finished: Finished::Yes,
-                }),
-            };
+            let step = self.take_out(at);
+            return step.pending;
         }
         job.left -= 1;
         let mut pending = self;
         pending.places[at] = job;
-        pending.count = count;
+        pending.count = in_use(self.count);
+        pending
+    }
+
+    // One unit for the job at a place. Where nobody is there, that is the answer, and all stays as it was.
+    pub fn give(self, at: usize) -> Given
+        ensures { λ r. ⌜ r ≡ given self at ⌝ }
+    {
+        if at >= in_use(self.count) {
+            return Given {
+                pending: self,
+                answer: GiveAnswer::Nobody,
+            };
+        }
+        let ran = ran_of(self.places[at]);
+        let pending = self.after(at);
         Given {
             pending,
-            turn: Turn::Ran(Ran {
-                serial,
-                finished: Finished::No,
-            }),
+            answer: GiveAnswer::Ran(ran),
         }
     }
 
@@ -258,40 +278,26 @@ impl Pending {
         true
     }
 
-    // Ticks from the clock until a time, or until nothing is pending.
-    pub fn ticks(self, clock: Tick, until: Tick) -> Ticks
-        ensures { λ r. ⌜ r ≡ ticksFrom self (clock .0) (until .0) ⌝ }
+    // One tick that ends at `clock`, the new clock: a unit for the job that goes first, if one is pending.
+    pub fn tick(self, clock: Tick) -> Turned
+        ensures { λ r. ⌜ r ≡ turned self (clock .0) ⌝ }
     {
-        let mut p = self;
-        p.count = in_use(self.count);
-        let mut now = clock.0;
-        let mut turn = Turn::Idle;
-        let mut late: u64 = 0;
-        let mut finishes = Finishes::none();
-        while now < until.0 {
-            let at = match p.choice() {
-                Choice::Place(at) => at,
-                Choice::Nobody => break,
-            };
-            now += 1;
-            let job = p.places[at];
-            if job.left <= 1 {
-                let done = finishes.count;
-                let finish = finish_of(job, Tick(now));
-                finishes.records[done] = finish;
-                finishes.count = done + 1;
+        match self.choice() {
+            Choice::Nobody => Turned {
+                pending: self,
+                turn: Turn::Idle,
+                late: 0,
+            },
+            Choice::Place(at) => {
+                let ran = ran_of(self.places[at]);
+                let pending = self.after(at);
+                let late = pending.late(clock);
+                Turned {
+                    pending,
+                    turn: Turn::Ran(ran),
+                    late,
+                }
             }
-            let given = p.give(at);
-            p = given.pending;
-            turn = given.turn;
-            late += p.late(Tick(now));
-        }
-        Ticks {
-            pending: p,
-            clock: Tick(now),
-            turn,
-            late,
-            finishes,
         }
     }
 }

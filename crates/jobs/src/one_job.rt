@@ -1,7 +1,8 @@
-// What is asked of one job or two: what an unused place holds, which job goes first, whether one is late, and its record once it finished.
-// (docs/RULES.md, 6.11, 6.13 and 6.14.)
+// What is asked of one job or two: what an unused place holds, which job goes first, whether one is late, and what is said of it when it has a unit.
+// (docs/RULES.md, 6.11 to 6.14.)
+use crate::Finished;
 use crate::Job;
-use kinds::Finish;
+use crate::Ran;
 use kinds::RowNumber;
 use kinds::Serial;
 use kinds::Tick;
@@ -9,7 +10,7 @@ ghost use mathlib.Core.Path.{_≡_};
 ghost use Rattle.jobs.specs.Places.{noJob};
 ghost use Rattle.jobs.specs.Choice.{goesBefore};
 ghost use Rattle.jobs.specs.Late.{isLate};
-ghost use Rattle.jobs.specs.Turns.{finishAt, noFinish};
+ghost use Rattle.jobs.specs.Units.{ranOf};
 
 pub(crate) fn no_job() -> Job
     ensures { λ r. ⌜ r ≡ noJob ⌝ }
@@ -47,24 +48,19 @@ pub(crate) fn is_late(job: Job, clock: Tick) -> bool
     false
 }
 
-pub(crate) fn finish_of(job: Job, finish: Tick) -> Finish
-    ensures { λ r. ⌜ r ≡ finishAt (finish .0) job ⌝ }
+// The serial of a job that has a unit, and whether it finishes with it.
+pub(crate) fn ran_of(job: Job) -> Ran
+    ensures { λ r. ⌜ r ≡ ranOf job ⌝ }
 {
     let serial = job.serial;
-    let row = job.row;
-    let release = job.release;
-    let due = job.due;
-    Finish {
-        serial,
-        row,
-        release,
-        due,
-        finish,
+    if job.left <= 1 {
+        return Ran {
+            serial,
+            finished: Finished::Yes,
+        };
     }
-}
-
-pub(crate) fn no_finish() -> Finish
-    ensures { λ r. ⌜ r ≡ noFinish ⌝ }
-{
-    finish_of(no_job(), Tick(0))
+    Ran {
+        serial,
+        finished: Finished::No,
+    }
 }

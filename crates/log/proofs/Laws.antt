@@ -25,7 +25,7 @@ use Rattle.numbers.specs.Laws.{Bytes}
 use Rattle.numbers.proofs.Laws.{reads-back, one-spelling, nothing-past-the-end, spelling-length}
 use Rattle.log.specs.Log.{valuesOf, spelledNumbers, spelledFinish, allInRange, writtenRecord}
 use Rattle.log.specs.Laws.{spelledLog, EachInRange, FinishAt, afterNumber, finishAt, ReadsAs, ended, one-more, WroteRecord}
-use Rattle.log.specs.Laws.{RecordLength, RecordReadsBack, RecordIsSpelled, RecordsDiffer, RecordWritten, RecordRefusals}
+use Rattle.log.specs.Laws.{RecordLength, RecordReadsBack, RecordIsSpelled, RecordsDiffer}
 use Rattle.log.specs.Laws.{LogReadsBack, LogIsSpelled, ReadsOneWay, OneLog, RestOfLog, LogGrows, LogKept}
 use Rattle.log.proofs.Records.{spelled-length, rest-of, rest-put, answers-too-big, answers-no-room, answers-length}
 
@@ -45,7 +45,7 @@ none-stand : (s : List ℕ) (at : ℕ) → Stand s at [] at
 unfolding flatten
 none-stand s at = record { in-range = refl; here = refl; ends = omega arith }
 
--- The first of them is read at the place, and the others stand after it; ..
+-- The first of numbers that stand is read at the place, and the others stand after it.
 first-read : {s : List ℕ} {at v : ℕ} {vs : List ℕ} {next : ℕ} → Stand s at (v ∷ vs) next
     → (mid : ℕ) × (readAt s at ≡ number.Number (record { value = v; next = mid })) × Stand s mid vs next
 unfolding flatten
@@ -62,7 +62,7 @@ first-read {s} {at} {v} {vs} {next} p =
       record { in-range = fits .1; here = others; ends = omega (arith, p .ends, length-append (spelling v) (spelledNumbers vs)) },
     )
 
--- .. and a number that is read before numbers that stand, stands with them.
+-- A number that is read before numbers that stand, stands with them.
 first-stands : {s : List ℕ} (at : ℕ) {n : Number} {vs : List ℕ} {next : ℕ} → Bytes s → readAt s at ≡ number.Number n → Stand s (n .next) vs next
     → Stand s at (n .value ∷ vs) next
 unfolding flatten
@@ -86,7 +86,7 @@ after-number (number.Refused r) k e then = impossible cc
 one-found : {x y : FinishAt} → some x ≡ some y → x ≡ y
 one-found e = cc
 
--- Where the numbers of a record stand, the record is read, ..
+-- Where the numbers of a record stand, the record is read.
 record-read : {s : List ℕ} {at next : ℕ} (f : Finish) → Stand s at (valuesOf f) next → finishAt s at ≡ some (record { finish = f; next = next })
 unfolding flatten
 record-read {s} {at} {next} f p =
@@ -98,7 +98,7 @@ record-read {s} {at} {next} f p =
     let last : finish .0 ≡ next = omega (arith, finish .2 .ends) in
     simp (serial .1, row .1, release .1, due .1, finish .1, last)
 
--- .. and where a record is read, its numbers stand.
+-- Where a record is read, its numbers stand.
 record-stands : {s : List ℕ} (at : ℕ) {found : FinishAt} → Bytes s → finishAt s at ≡ some found → Stand s at (valuesOf (found .finish)) (found .next)
 record-stands {s} at {found} b e =
     after-number (readAt s at) _ e λ serial h₁ e₁.
@@ -136,10 +136,14 @@ by-tests f room took true false p q e = impossible cc
 by-tests f room took false true p q e = impossible cc
 by-tests f room took false false p q e = impossible cc
 
-pub record-written : RecordWritten
+-- Where a length is answered, the record was written. (proofs/Answers.antt has what is said.)
+pub record-written : (f : Finish) (room took : ℕ) → writtenRecord f room ≡ Length took → WroteRecord f room took
 record-written f room took e = by-tests f room took _ _ refl refl e
 
-pub record-refusals : RecordRefusals
+-- A number too big is refused with 25, and after that no room with 12.
+pub record-refusals : (f : Finish) (room : ℕ)
+    → ((writtenRecord f room ≡ Refused NumberTooBig) ↔ (allInRange (valuesOf f) ≡ false))
+    × ((writtenRecord f room ≡ Refused NoRoom) ↔ ((allInRange (valuesOf f) ≡ true) × (room < length (spelledFinish f))))
 record-refusals f room = by-range _ refl
   where
     by-range : (b : Bool) → allInRange (valuesOf f) ≡ b

@@ -9,13 +9,14 @@ use lib.ListN.{length, take, drop}
 use borrow.Rule.Slice.PartMut.{midOf, putMid}
 use Rattle.kinds.specs.declared.Finish.{Finish}
 use Rattle.kinds.specs.declared.Refusal.{Refusal}
-use Rattle.kinds.specs.declared.Refusal.the-variants.{NumberTooBig, NoRoom}
+use Rattle.kinds.specs.Numbering.{numbered, values}
 use Rattle.numbers.specs.declared.Number.{Number}
 use Rattle.numbers.specs.declared.NumberRead.{NumberRead}
 use Rattle.numbers.specs.declared.NumberRead.the-variants as number
 use Rattle.numbers.specs.declared.Written.{Written}
 use Rattle.numbers.specs.declared.Written.the-variants.{Length, Refused}
 use Rattle.numbers.specs.Reading.{readAt}
+use Rattle.numbers.specs.Answers.{writtenSays, refusalAt}
 use Rattle.numbers.specs.Laws.{Bytes}
 use Rattle.log.specs.Log.{valuesOf, spelledFinish, allInRange, writtenRecord, restAfter}
 
@@ -61,7 +62,7 @@ pub data ReadsAs (s : List ℕ) : (at : ℕ) → List Finish → Type 0 where
   ended : {at : ℕ} → at ≡ length s → ReadsAs s at []
   one-more : {at : ℕ} {found : FinishAt} {fs : List Finish} → finishAt s at ≡ some found → ReadsAs s (found .next) fs → ReadsAs s at (found .finish ∷ fs)
 
--- ---- what is proved of records (proofs/Laws.antt)
+-- ---- what is proved of records (proofs/Laws.antt, proofs/Answers.antt)
 
 -- A record has 5 to 30 bytes.
 abbrev pub RecordLength : Type 0
@@ -87,36 +88,37 @@ abbrev pub RecordsDiffer : Type 0
 RecordsDiffer = (f g : Finish) (s t : List ℕ) → allInRange (valuesOf f) ≡ true → allInRange (valuesOf g) ≡ true
     → spelledFinish f ++ s ≡ spelledFinish g ++ t → (f ≡ g) × (s ≡ t)
 
--- What a length says that the record writer answered: the record's numbers are in range, its spelling has that length, and there was room for it.
+-- What is known of a record whose length the writer said: its numbers are in range, its spelling has that length, and there was room for it.
 pub record WroteRecord (f : Finish) (room took : ℕ) : Type 0 where
   pub in-range : allInRange (valuesOf f) ≡ true
   pub spelled : took ≡ length (spelledFinish f)
   pub had-room : took ≤ room
 
+-- The record writer says a length exactly where the record's numbers are in range and its spelling has that length and room. (8.10)
 abbrev pub RecordWritten : Type 0
-RecordWritten = (f : Finish) (room took : ℕ) → writtenRecord f room ≡ Length took → WroteRecord f room took
+RecordWritten = (f : Finish) (room took : ℕ) → (writtenSays (writtenRecord f room) ≡ values (took ∷ [])) ↔ WroteRecord f room took
 
--- A record is refused with 25 exactly where one of its numbers is too big, and with 12 exactly where none is and there is no room for it.
+-- A record is refused with 25 exactly where one of its numbers is too big, and with 12 exactly where none is and there is no room for it. (8.10)
 abbrev pub RecordRefusals : Type 0
 RecordRefusals = (f : Finish) (room : ℕ)
-    → ((writtenRecord f room ≡ Refused NumberTooBig) ↔ (allInRange (valuesOf f) ≡ false))
-    × ((writtenRecord f room ≡ Refused NoRoom) ↔ ((allInRange (valuesOf f) ≡ true) × (room < length (spelledFinish f))))
+    → ((writtenSays (writtenRecord f room) ≡ numbered (refusalAt 25 0)) ↔ (allInRange (valuesOf f) ≡ false))
+    × ((writtenSays (writtenRecord f room) ≡ numbered (refusalAt 12 0)) ↔ ((allInRange (valuesOf f) ≡ true) × (room < length (spelledFinish f))))
 
 -- ---- what is proved of logs
 
--- Records in range read back from their log, ..
+-- Records in range read back from their log.
 abbrev pub LogReadsBack : Type 0
 LogReadsBack = (fs : List Finish) → EachInRange fs → ReadsAs (spelledLog fs) 0 fs
 
--- .. what reads as some records is their log, ..
+-- What reads as some records is their log.
 abbrev pub LogIsSpelled : Type 0
 LogIsSpelled = (s : List ℕ) (fs : List Finish) → Bytes s → ReadsAs s 0 fs → EachInRange fs × (s ≡ spelledLog fs)
 
--- .. and it reads as no others.
+-- A log reads as no other records.
 abbrev pub ReadsOneWay : Type 0
 ReadsOneWay = (s : List ℕ) (at : ℕ) (fs gs : List Finish) → ReadsAs s at fs → ReadsAs s at gs → fs ≡ gs
 
--- So different records have different logs.
+-- Different records have different logs.
 abbrev pub OneLog : Type 0
 OneLog = (fs gs : List Finish) → EachInRange fs → EachInRange gs → spelledLog fs ≡ spelledLog gs → fs ≡ gs
 
@@ -140,11 +142,11 @@ pub record Holds (fs : List Finish) (log₀ log : List ℕ) (at : ℕ) : Type 0 
   pub same-length : length log ≡ length log₀
   pub stands : log ≡ spelledLog fs ++ drop at log₀
 
--- A record that was written at this place is one more, ..
+-- A record that was written at this place is one more.
 abbrev pub LogGrows : Type 0
 LogGrows = (fs : List Finish) (log₀ log : List ℕ) (at : ℕ) → Holds fs log₀ log at → (f : Finish) (took : ℕ) (after : List ℕ)
     → RecordBehind log at f (Length took) after → Holds (fs ++ (f ∷ [])) log₀ after (at + took)
 
--- .. and one that was refused leaves the log as it was.
+-- A record that was refused leaves the log as it was.
 abbrev pub LogKept : Type 0
 LogKept = (log : List ℕ) (at : ℕ) (f : Finish) (r : Refusal) (after : List ℕ) → RecordBehind log at f (Refused r) after → after ≡ log

@@ -1,11 +1,37 @@
--- No answer of the number reader and the number writer is numbered 0, and different answers say different things.
-use mathlib.Core.Path.{_≡_, ap, ap₂}
-use Rattle.kinds.specs.Numbering.{NeverNumberedZero, SaysApart}
+-- What the number reader and the number writer say: each case is settled, no answer is numbered 0, different answers say different things, and what is said
+-- tells what was read or written.
+use Prim.Native.Nat.{_≤_, _<_}
+use mathlib.Core.Path.{_≡_, refl, sym, ap, ap₂, _∙_}
+use mathlib.Core.Logic.{_⊎_, inl, inr, ⊎-elim}
+use lib.ListN.{length}
+use Rattle.kinds.specs.Numbering.{numbered, refusalNumber, refusedSays, NeverNumberedZero, SaysApart}
 use Rattle.kinds.proofs.Apart.{impossible}
-use Rattle.kinds.proofs.Numbering.{never-zero, refusals-apart, plain-refusals-apart}
+use Rattle.kinds.proofs.Numbering.{never-zero, refusals-apart, plain-refusals-apart, saidIn}
+use Rattle.numbers.specs.declared.NumberRead.{NumberRead}
 use Rattle.numbers.specs.declared.NumberRead.the-variants as read
+use Rattle.numbers.specs.declared.Written.{Written}
 use Rattle.numbers.specs.declared.Written.the-variants as write
-use Rattle.numbers.specs.Answers.{numberSays, writtenSays, NumbersNeverZero, NumbersSaidApart}
+use Rattle.numbers.specs.Spelling.{maxNumber, spelling}
+use Rattle.numbers.specs.Reading.{readAt}
+use Rattle.numbers.specs.Writing.{written}
+use Rattle.numbers.specs.Answers.{numberSays, writtenSays, refusalAt, NumbersNeverZero, NumbersSaidApart}
+use Rattle.numbers.specs.Answers.{NumberReadSays, RefusedReadSays, NumberWrittenSays, RefusedWriteSays}
+use Rattle.numbers.specs.Laws.{LengthAnswered, RefusalAnswered, LengthOfASpelling, TooBigHasNoLength, NothingPastTheEnd, RefusedAtItsStart}
+use Rattle.numbers.proofs.Laws as case
+
+-- ---- what each answer says
+
+pub number-read-says : NumberReadSays
+number-read-says n next = refl
+
+pub refused-read-says : RefusedReadSays
+refused-read-says r place = refl
+
+pub number-written-says : NumberWrittenSays
+number-written-says took = refl
+
+pub refused-write-says : RefusedWriteSays
+refused-write-says r = refl
 
 read-never-zero : NeverNumberedZero numberSays
 read-never-zero (read.Number n) = tt
@@ -35,3 +61,37 @@ written-apart (write.Refused q) (write.Refused r) e = ap write.Refused (plain-re
 
 pub numbers-said-apart : NumbersSaidApart
 numbers-said-apart = (read-apart, written-apart)
+
+-- ---- what is known of a number, by what was said
+
+pub length-answered : LengthAnswered
+length-answered n room took said = case.length-answered n room took (written-apart (written n room) (write.Length took) said)
+
+pub refusal-answered : RefusalAnswered
+refusal-answered n room said e = by-answer (written n room) refl e
+  where
+    by-answer : (v : Written) → written n room ≡ v → writtenSays v ≡ numbered said
+        → ((said ≡ refusalAt 25 0) × (maxNumber < n)) ⊎ ((said ≡ refusalAt 12 0) × (n ≤ maxNumber) × (room < length (spelling n)))
+    by-answer (write.Length k) p q = impossible cc
+    by-answer (write.Refused r) p q =
+        let same : said ≡ refusalAt (refusalNumber r) 0 = sym (ap saidIn q) in
+        ⊎-elim
+        (λ h. inl (same ∙ ap (λ k. refusalAt (refusalNumber k) 0) (h .0), h .1))
+        (λ h. inr (same ∙ ap (λ k. refusalAt (refusalNumber k) 0) (h .0), h .1, h .2))
+        (case.refusal-answered n room r p)
+
+pub length-of-a-spelling : LengthOfASpelling
+length-of-a-spelling n h = ap writtenSays (case.length-of-a-spelling n h)
+
+pub too-big-has-no-length : TooBigHasNoLength
+too-big-has-no-length n h = ap writtenSays (case.too-big-has-no-length n h)
+
+pub nothing-past-the-end : NothingPastTheEnd
+nothing-past-the-end s at h = ap numberSays (case.nothing-past-the-end s at h)
+
+pub refused-at-its-start : RefusedAtItsStart
+refused-at-its-start s at said e = by-answer (readAt s at) refl e
+  where
+    by-answer : (v : NumberRead) → readAt s at ≡ v → numberSays v ≡ numbered said → said ≡ refusalAt 1 at
+    by-answer (read.Number n) p q = impossible cc
+    by-answer (read.Refused r) p q = sym (ap saidIn q) ∙ ap refusedSays (case.refused-at-its-start s at r p)

@@ -1,7 +1,7 @@
 -- The laws of the spelling are proved: what was written reads as the number, and what reads as a number is spelled by it. Both go by induction on the
 -- number of groups that are allowed.
 use mathlib.Core.Path.{_≡_, refl, sym, ap, _∙_}
-use mathlib.Core.Logic.{inl, inr}
+use mathlib.Core.Logic.{_⊎_, inl, inr}
 use Prim.Native.Nat.{ℕ, zero, suc, _+_, _-_, _*_, _/_, _%_, _≤_, _<_}
 use native.Mathlib.Omega.{arith}
 use native.Mathlib.Decide.{decLe}
@@ -11,6 +11,7 @@ use lib.ListN.{length, drop, length-append, length-drop}
 use lib.Seq.{getD-drop, drop-drop, drop-append-seam}
 use lib.Dec.{ltb, eqb}
 use borrow.Author.Tests.{lt-ltb, le-ltb, le-leb, lt-leb, ne-eqb}
+use Rattle.kinds.specs.declared.Refusal.{Refusal}
 use Rattle.kinds.specs.declared.Refusal.the-variants.{Misspelled, NumberTooBig, NoRoom}
 use Rattle.kinds.specs.declared.RefusedAt.{RefusedAt}
 use Rattle.kinds.proofs.Apart.{impossible}
@@ -20,10 +21,9 @@ use Rattle.numbers.specs.declared.NumberRead.the-variants as answer
 use Rattle.numbers.specs.declared.Written.the-variants.{Length, Refused}
 use Rattle.numbers.specs.Spelling.{maxGroups, maxNumber, groupsOf, spelling}
 use Rattle.numbers.specs.Reading.{Spelt, number, superfluous-zero, asks-for-more, cut-off, before, spelt, answered, readAt, misspelledAt}
-use Rattle.numbers.specs.Writing.{written}
-use Rattle.numbers.specs.Laws.{Bytes, Spelled, NoNumber, LargestNumber, ReadsBack, LengthAnswered, RefusalAnswered, WrittenReadsBack, OneSpelling}
-use Rattle.numbers.specs.Laws.{LengthOfASpelling, TooBigHasNoLength}
-use Rattle.numbers.specs.Laws.{SpellingLength, SpelledInBytes, SpellingsDiffer, NothingPastTheEnd, RefusedAtItsStart}
+use Rattle.numbers.specs.Writing.{lengthOf, written}
+use Rattle.numbers.specs.Laws.{Bytes, Spelled, NoNumber, Wrote, LargestNumber, ReadsBack, WrittenReadsBack, OneSpelling}
+use Rattle.numbers.specs.Laws.{SpellingLength, SpelledInBytes, SpellingsDiffer}
 use Rattle.numbers.proofs.Reading.{limit, limit-pos, spelt-cut}
 
 pub largest-number : LargestNumber
@@ -31,12 +31,12 @@ largest-number = refl
 
 -- ---- the groups of a number
 
--- A number below 128 is one group ..
+-- A number below 128 is one group.
 groups-last : (most n : ℕ) → n < 128 → groupsOf (suc most) n ≡ n ∷ []
 unfolding groupsOf
 groups-last most n h = simp (lt-ltb n 128 h)
 
--- .. and any other is a group with 128 added, and then the groups of what is left.
+-- Any other number is a group with 128 added, and then the groups of what is left.
 groups-more : (most n : ℕ) → 128 ≤ n → groupsOf (suc most) n ≡ (n % 128 + 128) ∷ groupsOf most (n / 128)
 unfolding groupsOf
 groups-more most n h = simp (le-ltb n 128 h)
@@ -49,22 +49,22 @@ groups-enough (suc most) n h p = elim (decLe 128 n) [
   | no l ↦ let k : n < 128 = omega arith in simp (groups-last (suc most) n k, groups-last most n k)
 ]
 
--- So it is with spellings: a number below 128 is one group ..
+-- The spelling of a number below 128 is one group.
 pub spelling-last : (n : ℕ) → n < 128 → spelling n ≡ n ∷ []
 spelling-last n h = groups-last (maxGroups - 1) n h
 
--- .. and any other is a group with 128 added, and then the spelling of what is left.
+-- The spelling of any other number is a group with 128 added, and then the spelling of what is left.
 pub spelling-more : (n : ℕ) → n ≤ maxNumber → 128 ≤ n → spelling n ≡ (n % 128 + 128) ∷ spelling (n / 128)
 spelling-more n h l =
     let most = maxGroups - 1 in
     groups-more most n l ∙ ap (λ (t : List ℕ). (n % 128 + 128) ∷ t) (sym (groups-enough most (n / 128) (omega arith) (omega arith)))
 
--- A number has a group ..
+-- A number has a group or more.
 groups-some : (most n : ℕ) → 1 ≤ length (groupsOf (suc most) n)
 groups-some most n = elim (decLe 128 n)
     [ yes l ↦ simp (groups-more most n l) (omega arith) | no l ↦ simp (groups-last most n (omega arith)) (omega arith) ]
 
--- .. and at most as many as are allowed.
+-- A number has at most as many groups as are allowed.
 groups-most : (most n : ℕ) → length (groupsOf most n) ≤ most
 unfolding groupsOf
 groups-most zero n = omega arith
@@ -135,22 +135,27 @@ by-answer n room has-room no-room too-big = elim (decLe n maxNumber) [
   | no l ↦ let j : maxNumber < n = omega arith in too-big j (simp (lt-leb n maxNumber j))
 ]
 
-pub length-answered : LengthAnswered
+-- Where the writer answers a length, the number was written. (proofs/Answers.antt has what is said.)
+pub length-answered : (n room took : ℕ) → written n room ≡ Length took → Wrote n room took
 length-answered n room took e = by-answer n room
     (λ l k w. let z : took ≡ length (spelling n) = cc in record { in-range = l; spelled = z; had-room = omega arith })
     (λ l k w. impossible cc)
     (λ l w. impossible cc)
 
-pub refusal-answered : RefusalAnswered
+-- Where the writer refuses, the number is too big or has no room.
+pub refusal-answered : (n room : ℕ) (r : Refusal) → written n room ≡ Refused r
+    → ((r ≡ NumberTooBig) × (maxNumber < n)) ⊎ ((r ≡ NoRoom) × (n ≤ maxNumber) × (room < length (spelling n)))
 refusal-answered n room r e = by-answer n room
     (λ l k w. impossible cc)
     (λ l k w. inr (cc, l, k))
     (λ l w. inl (cc, l))
 
-pub length-of-a-spelling : LengthOfASpelling
+-- A number in range has the length of its spelling.
+pub length-of-a-spelling : (n : ℕ) → n ≤ maxNumber → lengthOf n ≡ Length (length (spelling n))
 length-of-a-spelling n h = simp (le-leb n maxNumber h)
 
-pub too-big-has-no-length : TooBigHasNoLength
+-- A number that is too big has no length.
+pub too-big-has-no-length : (n : ℕ) → maxNumber < n → lengthOf n ≡ Refused NumberTooBig
 too-big-has-no-length n h = simp (lt-leb n maxNumber h)
 
 pub written-reads-back : WrittenReadsBack
@@ -186,6 +191,21 @@ spelt-small (suc most) (b ∷ s) at n next h e = elim (decLe 128 b) [
       omega (arith, limit-pos most)
 ]
 
+-- A number that is read takes a byte or more, and ends within the bytes.
+spelt-within : (most : ℕ) (s : List ℕ) (at n next : ℕ) → spelt most s at ≡ number n next → (at < next) × (next ≤ at + length s)
+unfolding spelt
+spelt-within zero s at n next e = impossible cc
+spelt-within (suc most) [] at n next e = impossible cc
+spelt-within (suc most) (b ∷ s) at n next e = elim (decLe 128 b) [
+  | yes l ↦
+      let t = before-inverse (b - 128) n next (spelt most s (at + 1)) (simp (le-ltb b 128 l) at e) in
+      omega (arith, spelt-within most s (at + 1) (t .0) next (t .1))
+  | no l ↦
+      let q : ltb b 128 ≡ true = lt-ltb b 128 (omega arith) in
+      let y : at + 1 ≡ next = cc in
+      omega arith
+]
+
 -- What reads as n is the groups of n, and then anything.
 spelt-is-groups : (most : ℕ) (s : List ℕ) (at n next : ℕ) → Bytes s → spelt most s at ≡ number n next
     → (rest : List ℕ) × (s ≡ groupsOf most n ++ rest) × (next ≡ at + length (groupsOf most n))
@@ -215,6 +235,12 @@ answered-number start (superfluous-zero place) k e = impossible cc
 answered-number start (asks-for-more place) k e = impossible cc
 answered-number start (cut-off place) k e = impossible cc
 
+-- Where a number is read, the place after it is further on, and no later than the end.
+pub read-within : (s : List ℕ) (at : ℕ) (k : Number) → readAt s at ≡ answer.Number k → (at < k .next) × (k .next ≤ length s)
+read-within s at k e =
+    let w = spelt-within maxGroups (drop at s) at (k .value) (k .next) (answered-number at (spelt maxGroups (drop at s) at) k e) in
+    omega (arith, w, length-drop at s)
+
 -- What the spelling of a number at a place says of the place.
 spelled-rest : (s rest : List ℕ) (at : ℕ) (k : Number) → k .value ≤ maxNumber → drop at s ≡ spelling (k .value) ++ rest
     → k .next ≡ at + length (spelling (k .value)) → Spelled s at k
@@ -235,7 +261,8 @@ one-spelling s at k h e =
     let r = spelt-is-groups maxGroups (drop at s) at (k .value) (k .next) b n in
     spelled-rest s (r .0) at k (omega (arith, spelt-small maxGroups (drop at s) at (k .value) (k .next) b n)) (r .1) (r .2)
 
-pub nothing-past-the-end : NothingPastTheEnd
+-- Nothing is read at the end or past it.
+pub nothing-past-the-end : (s : List ℕ) (at : ℕ) → length s ≤ at → readAt s at ≡ misspelledAt at
 nothing-past-the-end s at h = rw (spelt-cut maxGroups s at (omega arith) h)
 
 -- Each fault is answered with 1, at the start.
@@ -245,17 +272,18 @@ answered-refused start (superfluous-zero place) q e = cc
 answered-refused start (asks-for-more place) q e = cc
 answered-refused start (cut-off place) q e = cc
 
-pub refused-at-its-start : RefusedAtItsStart
+-- Whatever is refused is refused with 1, at the number's start.
+pub refused-at-its-start : (s : List ℕ) (at : ℕ) (r : RefusedAt) → readAt s at ≡ answer.Refused r → r ≡ record { refusal = Misspelled; place = at }
 refused-at-its-start s at r e = answered-refused at (spelt maxGroups (drop at s) at) r e
 
 module _ {s : List ℕ} {at : ℕ} where
-  -- Where a number is spelled, it is read; ..
+  -- Where a number is spelled, it is read.
   pub spelled-read : {n : Number} → Spelled s at n → readAt s at ≡ answer.Number n
   spelled-read {n} p =
       read-here s at (n .value) (drop (n .next) s) (p .in-range) (p .stands-here)
       ∙ ap (λ next. answer.Number (record { value = n .value; next = next })) (sym (p .ends))
 
-  -- .. where none is, the place is refused with 1, ..
+  -- Where no number is spelled, the place is refused with 1.
   pub none-read : Bytes s → NoNumber s at → readAt s at ≡ misspelledAt at
   none-read b none = go (readAt s at) refl
     where
@@ -263,7 +291,7 @@ module _ {s : List ℕ} {at : ℕ} where
       go (answer.Number n) e = absurd (none n (one-spelling s at n b e))
       go (answer.Refused r) e = ap answer.Refused (refused-at-its-start s at r e)
 
-  -- .. and where a place is refused, none is spelled.
+  -- Where a place is refused, no number is spelled.
   pub refused-none : {r : RefusedAt} → readAt s at ≡ answer.Refused r → NoNumber s at
   refused-none e = λ n p. let q = spelled-read p in impossible cc
 

@@ -2,17 +2,16 @@
 use Prim.Native.Nat.{ℕ, _+_, _≤_, _<_}
 use mathlib.Core.Path.{_≡_}
 use mathlib.Core.Logic.{_⊎_}
-use mathlib.Core.List.{List, _++_}
+use mathlib.Core.List.{List, [], _∷_, _++_}
 use lib.ListN.{length, getD, drop}
-use Rattle.kinds.specs.declared.Refusal.{Refusal}
-use Rattle.kinds.specs.declared.Refusal.the-variants.{Misspelled, NumberTooBig, NoRoom}
-use Rattle.kinds.specs.declared.RefusedAt.{RefusedAt}
+use Rattle.kinds.specs.Numbering.{Said, numbered, values}
 use Rattle.numbers.specs.declared.Number.{Number}
 use Rattle.numbers.specs.declared.NumberRead.the-variants as answer
-use Rattle.numbers.specs.declared.Written.the-variants.{Length, Refused}
+use Rattle.numbers.specs.declared.Written.the-variants.{Length}
 use Rattle.numbers.specs.Spelling.{maxGroups, maxNumber, spelling}
-use Rattle.numbers.specs.Reading.{readAt, misspelledAt}
+use Rattle.numbers.specs.Reading.{readAt}
 use Rattle.numbers.specs.Writing.{lengthOf, written, bufferAfter}
+use Rattle.numbers.specs.Answers.{numberSays, writtenSays, refusalAt}
 
 -- Every element of a list is a byte.
 abbrev pub Bytes : List ℕ → Type 0
@@ -39,28 +38,30 @@ abbrev pub ReadsBack : Type 0
 ReadsBack = (front : List ℕ) (n : ℕ) (rest : List ℕ) → n ≤ maxNumber
     → readAt (front ++ (spelling n ++ rest)) (length front) ≡ answer.Number (record { value = n; next = length front + length (spelling n) })
 
--- What a length says that the writer answered: the number is in range, its spelling has that length, and there was room for it.
+-- What is known of a number whose length the writer said: it is in range, its spelling has that length, and there was room for it.
 pub record Wrote (n room took : ℕ) : Type 0 where
   pub in-range : n ≤ maxNumber
   pub spelled : took ≡ length (spelling n)
   pub had-room : took ≤ room
 
+-- The writer says a length only where the number is in range and its spelling has that length and room. (2.12)
 abbrev pub LengthAnswered : Type 0
-LengthAnswered = (n room took : ℕ) → written n room ≡ Length took → Wrote n room took
+LengthAnswered = (n room took : ℕ) → writtenSays (written n room) ≡ values (took ∷ []) → Wrote n room took
 
--- What a refusal says that the writer answered: the number is too big; or it is in range, and there was no room for its spelling.
+-- The writer refuses with 25 only a number that is too big, and with 12 only one in range that has no room. It refuses with nothing else. (2.13)
 abbrev pub RefusalAnswered : Type 0
-RefusalAnswered = (n room : ℕ) (r : Refusal) → written n room ≡ Refused r
-    → ((r ≡ NumberTooBig) × (maxNumber < n)) ⊎ ((r ≡ NoRoom) × (n ≤ maxNumber) × (room < length (spelling n)))
+RefusalAnswered = (n room : ℕ) (said : Said) → writtenSays (written n room) ≡ numbered said
+    → ((said ≡ refusalAt 25 0) × (maxNumber < n)) ⊎ ((said ≡ refusalAt 12 0) × (n ≤ maxNumber) × (room < length (spelling n)))
 
--- How long a spelling is can be asked beforehand: of a number in range its length is answered, and any other is refused with 25.
+-- How long a spelling is can be asked beforehand: the length of a number in range is said. (10.7)
 abbrev pub LengthOfASpelling : Type 0
-LengthOfASpelling = (n : ℕ) → n ≤ maxNumber → lengthOf n ≡ Length (length (spelling n))
+LengthOfASpelling = (n : ℕ) → n ≤ maxNumber → writtenSays (lengthOf n) ≡ values (length (spelling n) ∷ [])
 
+-- A number that is too big has no length, and is refused with 25. (10.7)
 abbrev pub TooBigHasNoLength : Type 0
-TooBigHasNoLength = (n : ℕ) → maxNumber < n → lengthOf n ≡ Refused NumberTooBig
+TooBigHasNoLength = (n : ℕ) → maxNumber < n → writtenSays (lengthOf n) ≡ numbered (refusalAt 25 0)
 
--- So a number that was written reads back at the buffer's start, and the next place is the length answered.
+-- A number that was written reads back at the buffer's start, and the next place is the length answered.
 abbrev pub WrittenReadsBack : Type 0
 WrittenReadsBack = (n took : ℕ) (buffer : List ℕ) → written n (length buffer) ≡ Length took
     → readAt (bufferAfter (Length took) n buffer) 0 ≡ answer.Number (record { value = n; next = took })
@@ -69,11 +70,11 @@ WrittenReadsBack = (n took : ℕ) (buffer : List ℕ) → written n (length buff
 abbrev pub OneSpelling : Type 0
 OneSpelling = (s : List ℕ) (at : ℕ) (number : Number) → Bytes s → readAt s at ≡ answer.Number number → Spelled s at number
 
--- A spelling has one to six bytes ..
+-- A spelling has one to six bytes.
 abbrev pub SpellingLength : Type 0
 SpellingLength = (n : ℕ) → (1 ≤ length (spelling n)) × (length (spelling n) ≤ maxGroups)
 
--- .. each of them a byte.
+-- Every element of a spelling is a byte.
 abbrev pub SpelledInBytes : Type 0
 SpelledInBytes = (n : ℕ) → Bytes (spelling n)
 
@@ -81,10 +82,10 @@ SpelledInBytes = (n : ℕ) → Bytes (spelling n)
 abbrev pub SpellingsDiffer : Type 0
 SpellingsDiffer = (m n : ℕ) (s t : List ℕ) → m ≤ maxNumber → n ≤ maxNumber → spelling m ++ s ≡ spelling n ++ t → (m ≡ n) × (s ≡ t)
 
--- A place at or past the end is refused there.
+-- A place at the end or past it is refused with 1, at the place that was handed in. (2.8, 2.9)
 abbrev pub NothingPastTheEnd : Type 0
-NothingPastTheEnd = (s : List ℕ) (at : ℕ) → length s ≤ at → readAt s at ≡ misspelledAt at
+NothingPastTheEnd = (s : List ℕ) (at : ℕ) → length s ≤ at → numberSays (readAt s at) ≡ numbered (refusalAt 1 at)
 
 -- Whatever is refused is refused with 1, at the number's start. (2.7, 2.9)
 abbrev pub RefusedAtItsStart : Type 0
-RefusedAtItsStart = (s : List ℕ) (at : ℕ) (r : RefusedAt) → readAt s at ≡ answer.Refused r → r ≡ record { refusal = Misspelled; place = at }
+RefusedAtItsStart = (s : List ℕ) (at : ℕ) (said : Said) → numberSays (readAt s at) ≡ numbered said → said ≡ refusalAt 1 at

@@ -3,7 +3,6 @@
 -- (docs/RULES.md, sections 8 and 9.)
 use Prim.Native.Nat.{ℕ, zero, suc, _+_, _-_, _≤_, _<_}
 use mathlib.Core.Path.{_≡_, refl, sym, subst, _∙_}
-use mathlib.Core.Logic.{⊎-elim}
 use mathlib.Core.Bool.{Bool, true, false, cond}
 use mathlib.Core.List.{List, [], _∷_, List·Memᴰ, List·Memᴰ·head}
 use native.Mathlib.Omega.{arith}
@@ -14,11 +13,8 @@ use Rattle.kinds.specs.declared.Refusal.{Refusal}
 use Rattle.kinds.specs.declared.Refusal.the-variants.{NoSuchRow, CostOutOfRange, TimeTooLate, ScriptMisspelled}
 use Rattle.kinds.specs.declared.RefusedAt.{RefusedAt}
 use Rattle.kinds.specs.Numbering.{maxTime, refusalNumber}
-use Rattle.kinds.proofs.Numbering.{never-an-answer}
+use Rattle.kinds.proofs.Numbering.{no-answer}
 use Rattle.numbers.specs.declared.Number.{Number}
-use Rattle.numbers.specs.declared.NumberRead.{NumberRead}
-use Rattle.numbers.specs.declared.NumberRead.the-variants as number
-use Rattle.numbers.specs.Reading.{readAt}
 use Rattle.numbers.specs.Laws.{Bytes}
 use Rattle.theory.specs.Curves.{EveryLengthFits}
 use Rattle.theory.proofs.Cases.{by-lt, by-eq, by-test}
@@ -26,6 +22,9 @@ use Rattle.theory.proofs.Lists.{all-of-members, none-passes}
 use Rattle.table.specs.declared.Table.{Table}
 use Rattle.table.specs.declared.TableAnswer.{TableAnswer}
 use Rattle.table.specs.declared.TableAnswer.the-variants as table
+use Rattle.table.specs.declared.CostLimit.{CostLimit}
+use Rattle.table.specs.declared.CostLimit.the-variants as limit
+use Rattle.table.specs.Costs.{costLimits, limitOf, costAnswer}
 use Rattle.table.specs.Rows.{fromOneTo}
 use Rattle.table.specs.Tables.{tableRead}
 use Rattle.verdict.specs.declared.Verdict.{Verdict}
@@ -37,25 +36,28 @@ use Rattle.run.specs.declared.Run.{Run}
 use Rattle.run.specs.declared.Released.{Released}
 use Rattle.run.specs.declared.Released.the-variants as release
 use Rattle.run.specs.declared.StartAnswer.the-variants as start
-use Rattle.run.specs.Runs.{rowInUse, costLimit, startAnswer, started}
+use Rattle.run.specs.Runs.{startAnswer, started}
 use Rattle.run.specs.Release.{released}
 use Rattle.run.specs.Ticking.{ticked}
+use Rattle.run.specs.Answers.{tickSays}
 use Rattle.run.specs.Advance.{Since, oneMore, ticksWhilePending}
 use Rattle.run.proofs.Ticking.{Good, facts, counted, tick-keeps-good}
-use Rattle.script.specs.Records.{asScripts}
+use Rattle.script.specs.Records.{scriptNumber}
+use Rattle.script.proofs.Records.{number-or-14}
 use Rattle.script.proofs.Laws.{record-is-spelled}
 use Rattle.log.specs.Laws.{spelledLog}
-use Rattle.replay.specs.declared.Ready.{Ready}
-use Rattle.replay.specs.declared.Tested.{Tested}
-use Rattle.replay.specs.declared.Tested.the-variants as tested
-use Rattle.replay.specs.Numbers.{numbersAt, refusedAt, onNumber, testedNumbers}
-use Rattle.replay.specs.Play.{Progress, begun, Step, goes-on, stops, afterRelease, tickedTo, afterTests, stepped}
-use Rattle.replay.specs.Play.{Played, whole, stopped, finalTicks, andThen, playedFrom, played}
-use Rattle.replay.specs.Outcome.{lateFinishes, answerOf, replayOf, replaySays}
-use Rattle.replay.proofs.SingleTicks.{tick-clock, along-draining}
-use Rattle.replay.proofs.Passing.{passed-is-read}
-use Rattle.replay.proofs.Through.{Keeps, went-on, step-keeps}
-use Rattle.replay.proofs.Laws.{late-is-the-sum}
+use Rattle.records.specs.declared.Ready.{Ready}
+use Rattle.records.specs.declared.Tested.{Tested}
+use Rattle.records.specs.declared.Tested.the-variants as tested
+use Rattle.records.specs.Numbers.{numbersAt, refusedAt, onNumber, onRow, onCost, testedNumbers}
+use Rattle.play.specs.Play.{Progress, begun, Step, goes-on, stops, afterRelease, tickedTo, afterTests, stepped}
+use Rattle.play.specs.Play.{Played, whole, stopped, finalTicks, andThen, playedFrom, played}
+use Rattle.play.specs.Late.{lateFinishes}
+use Rattle.replay.specs.Outcome.{answerOf, replayOf, replaySays}
+use Rattle.play.proofs.SingleTicks.{tick-clock, along-draining}
+use Rattle.records.proofs.Passing.{passed-is-read}
+use Rattle.play.proofs.Through.{Keeps, went-on, step-keeps}
+use Rattle.play.proofs.Laws.{late-is-the-sum}
 use Rattle.host.specs.Answer.{VerdictAnswered, answerLength}
 use Rattle.host.specs.Answer as host
 use Rattle.host.proofs.Answering.{replay-of-another-size, replay-of-sixteen}
@@ -63,9 +65,11 @@ use Rattle.promise.specs.Traces.{Call, Event, eventOf, clockOf, jobsIn, 
 use Rattle.promise.specs.Choice.{lateAt}
 use Rattle.promise.specs.InTime.{SaidFeasible}
 use Rattle.promise.specs.AtHost.{NotLate, AtHost, AtHostCalls}
+use Rattle.promise.specs.Link.{jobOf}
 use Rattle.promise.proofs.Bridge.{Bridge}
 use Rattle.promise.proofs.BridgeHolds.{bridge-of-started, release-keeps-bridge, tick-keeps-bridge}
-use Rattle.promise.proofs.Units.{jobOf, sound-facts, pending-is-owed}
+use Rattle.promise.proofs.Units.{sound-facts, pending-is-owed}
+use Rattle.promise.proofs.Ticks.{no-job-by-a-tick}
 use Rattle.promise.proofs.InTime.{feasible-fits, due-had-its-cost}
 use Rattle.promise.proofs.Choice.{late-of-the-trace}
 
@@ -74,7 +78,6 @@ use Rattle.promise.proofs.Choice.{late-of-the-trace}
 module _ {t : Table} (fits : EveryLengthFits (tableDemand t)) {run : Run} {es : List Event} (b : Bridge t run es) where
   -- After a tick every accepted job that is due then has had its cost; so the tick counts none as late.
   tick-counts-none : run .clock .0 < maxTime → ticked run .late ≡ 0
-  unfolding jobsIn
   tick-counts-none in-time =
       let next = tick-keeps-bridge b in
       let after = eventOf run Call.tick ∷ es in
@@ -83,7 +86,7 @@ module _ {t : Table} (fits : EveryLengthFits (tableDemand t)) {run : Run} {es : 
       ∙ none-passes (lateAt (clockOf es + 1) after) (λ _. 1) (jobsIn es)
       (all-of-members (jobsIn es) (λ j m. by-eq (j .due) (clockOf es + 1)
       (λ e.
-      let had = due-had-its-cost next fits j m (omega arith) in
+      let had = due-had-its-cost next fits j (rw (no-job-by-a-tick (tickSays (ticked run .answer)) (ticked run .late) es) m) (omega arith) in
       rw (eq-eqb (j .due) (clockOf es + 1) e, le-ltb (unitsOf (j .name) after) (j .cost) (omega arith)))
       (λ e. rw (ne-eqb (j .due) (clockOf es + 1) e))))
 
@@ -107,11 +110,11 @@ record NoneLate (t : Table) (s : Since) : Type 0 where
   bridge : Bridge t (s .run) events
   none-late : s .late ≡ 0
 
--- The run is sound then ..
+-- The run is sound then.
 still-sound : {t : Table} {s : Since} → NoneLate t s → Good (s .run)
 still-sound n = (n .bridge .sound, n .bridge .whole)
 
--- .. and it is so at the start.
+-- No job was late at the start.
 at-the-start : (bytes : List ℕ) → Bytes bytes → NoneLate (tableRead bytes .table) (begun (started bytes .run) .since)
 at-the-start bytes fine = record { events = []; bridge = bridge-of-started bytes fine; none-late = refl }
 
@@ -136,12 +139,12 @@ EndsInTime end (whole p) = p .since .late ≡ 0
 EndsInTime end (stopped r) = Inside end r
 
 module _ {t : Table} (fits : EveryLengthFits (tableDemand t)) where
-  -- A tick keeps it, as it counts no late job, ..
+  -- A tick keeps it, as it counts no late job.
   tick-keeps : (s : Since) → Good (s .run) → s .run .clock .0 < maxTime → NoneLate t s → NoneLate t (oneMore s)
   tick-keeps s good in-time n =
       record { events = _; bridge = tick-keeps-bridge (n .bridge); none-late = omega (arith, n .none-late, tick-counts-none fits (n .bridge) in-time) }
 
-  -- .. and so does an accepted release.
+  -- An accepted release keeps it too.
   calls-keep : Keeps (λ p. NoneLate t (p .since))
   calls-keep = record {
     tick = λ p. tick-keeps (p .since);
@@ -164,43 +167,50 @@ module _ {t : Table} (fits : EveryLengthFits (tableDemand t)) where
 
 -- ---- where a record stops a replay
 
--- What the tests of a record say: ready, or a refusal that is a 10 only before the end ..
+-- What the tests of a record say: ready, or a refusal that is a 10 only before the end.
 data TestedInside (end : ℕ) : Tested → Type 0 where
   ready : (r : Ready) → TestedInside end (tested.Ready r)
   refused : (r : Refusal) (place : ℕ) → (refusalNumber r ≡ 10 → place < end) → TestedInside end (refusedAt r place)
 
--- .. and what the record comes to.
+-- What the record comes to: it goes on, or a 10 stops it only before the end.
 abbrev StepInside : (end : ℕ) → Step → Type 0
 StepInside end (goes-on p next) = Unit {0}
 StepInside end (stops r) = Inside end r
 
 module _ {end : ℕ} where
-  -- A number of a script that can't be read is no 10 ..
-  number-inside : (v : NumberRead) (k : Number → Tested) → ((n : Number) → TestedInside end (k n)) → TestedInside end (onNumber (asScripts v) k)
-  number-inside (number.Number n) k h = h n
-  number-inside (number.Refused r) k h = refused ScriptMisspelled (r .place) (λ e. absurd (omega arith))
+  -- A number of a script that can't be read is no 10.
+  number-inside : (s : List ℕ) (at : ℕ) (k : Number → Tested) → ((n : Number) → TestedInside end (k n)) → TestedInside end (onNumber (scriptNumber s at) k)
+  number-inside s at k h = number-or-14 (λ v. TestedInside end (onNumber v k)) s at h (λ place. refused ScriptMisspelled place (λ e. absurd (omega arith)))
 
-  -- .. and what a test refuses is refused at the place that it names.
-  test-inside : (test : Bool) (then : Tested) (r : Refusal) (place : ℕ) → TestedInside end then → (refusalNumber r ≡ 10 → place < end)
-      → TestedInside end (cond test then (refusedAt r place))
-  test-inside true then r place h b = h
-  test-inside false then r place h b = refused r place b
+  -- A row number that is not in use is no 10.
+  row-inside : (most : CostLimit) (place : ℕ) (then : Tested) → TestedInside end then → TestedInside end (onRow most place then)
+  row-inside (limit.Units most) place then h = h
+  row-inside limit.NoSuchRow place then h = refused NoSuchRow place (λ e. absurd (omega arith))
+
+  -- A cost that is not allowed is no 10.
+  cost-inside : (most : CostLimit) (cost place : ℕ) (then : Tested) → TestedInside end then → TestedInside end (onCost (costAnswer most cost) place then)
+  cost-inside (limit.Units most) cost place then h =
+      by-test (fromOneTo most cost) (λ allowed. rw allowed h) (λ out. rw out (refused CostOutOfRange place (λ e. absurd (omega arith))))
+  cost-inside limit.NoSuchRow cost place then h = refused NoSuchRow place (λ e. absurd (omega arith))
+
+  -- A time that is too late is refused at the place that is named.
+  time-inside : (test : Bool) (then : Tested) (place : ℕ) → place < end → TestedInside end then → TestedInside end (cond test then (refusedAt TimeTooLate place))
+  time-inside true then place inside h = h
+  time-inside false then place inside h = refused TimeTooLate place (λ e. inside)
 
 module _ (s : List ℕ) (at : ℕ) (inside : at < length s) where
-  -- The tests of the record at a place answer 10 at this place only, ..
+  -- The tests of the record at a place answer 10 at this place only.
   tests-inside : (t : Table) (time : ℕ) → TestedInside (length s) (testedNumbers t time (numbersAt s at))
   tests-inside t time =
       let n = numbersAt s at in
-      number-inside (readAt s at) _ λ gap.
-      test-inside (leb (time + gap .value) maxTime) _ TimeTooLate at
-      (number-inside (readAt s (n .row .place)) _ λ row.
-      test-inside (rowInUse t (row .value)) _ NoSuchRow (n .row .place)
-      (number-inside (readAt s (n .cost .place)) _ λ cost.
-      test-inside (fromOneTo (costLimit t (row .value)) (cost .value)) _ CostOutOfRange (n .cost .place) (ready _) (λ e. absurd (omega arith)))
-      (λ e. absurd (omega arith)))
-      (λ e. inside)
+      number-inside s at _ λ gap.
+      time-inside (leb (time + gap .value) maxTime) _ at inside
+      (number-inside s (n .row .place) _ λ row.
+      row-inside (limitOf (costLimits t) (row .value)) (n .row .place) _
+      (number-inside s (n .cost .place) _ λ cost.
+      cost-inside (limitOf (costLimits t) (row .value)) (cost .value) (n .cost .place) _ (ready _)))
 
-  -- .. and a release is refused at this place too.
+  -- A release is refused at this place too.
   release-inside : (r : Ready) (p : Progress) (a : Released) → StepInside (length s) (afterRelease at r p a)
   release-inside r p (release.Accepted a) = tt
   release-inside r p (release.Refused refusal) = λ e. inside
@@ -220,7 +230,7 @@ module _ (s : List ℕ) (at : ℕ) (inside : at < length s) where
 -- ---- a whole script
 
 module _ {t : Table} (fits : EveryLengthFits (tableDemand t)) (s : List ℕ) (bytes : Bytes s) where
-  -- After a record the replay goes on at a place of the script, with no job late so far, or is stopped as it may be; ..
+  -- After a record the replay goes on at a place of the script, with no job late so far, or is stopped as it may be.
   after-record : (at : ℕ) (p : Progress) → at < length s → NoneLate t (p .since) → (k : Progress → ℕ → Played)
       → ((q : Progress) (next : ℕ) → next ≤ length s → NoneLate t (q .since) → EndsInTime (length s) (k q next))
       → EndsInTime (length s) (andThen (stepped p (numbersAt s at)) k)
@@ -234,7 +244,7 @@ module _ {t : Table} (fits : EveryLengthFits (tableDemand t)) (s : List ℕ) (by
           further q next (rw (w .goes-on-after) (spelled .within)) (there .0)
       by-step (stops r) e = subst (StepInside (length s)) e (step-inside s at inside p)
 
-  -- .. so from any of its places on the script is played in time.
+  -- So from any of its places on the script is played in time.
   from-in-time : (m at : ℕ) (p : Progress) → at ≤ length s → NoneLate t (p .since) → EndsInTime (length s) (playedFrom m s at p)
   unfolding playedFrom
   from-in-time zero at p before n = final-in-time fits (length s) p n
@@ -244,14 +254,10 @@ module _ {t : Table} (fits : EveryLengthFits (tableDemand t)) (s : List ℕ) (by
 
 -- ---- the answer
 
--- No refusal has the number of an answer.
-not-an-answer : (r : Refusal) → 20 ≤ refusalNumber r → refusalNumber r ≤ 23 → ⊥
-not-an-answer r least most = ⊎-elim (λ h. omega arith) (λ h. omega arith) (never-an-answer r)
-
 -- A run is started on a table that is feasible.
 feasible-starts : (t : Table) (a : TableAnswer) (v : Verdict) → RightOfRead t a v → verdictSays v .number ≡ 20 → startAnswer a ≡ start.Ready
 feasible-starts t (table.Accepted period) v right says = refl
-feasible-starts t (table.Refused r) v right says = let refused-so = rw right at says in absurd (not-an-answer (r .refusal) (omega arith) (omega arith))
+feasible-starts t (table.Refused r) v right says = let refused-so = rw right at says in absurd (no-answer (r .refusal) (omega arith) (omega arith))
 
 module _ (bytes script : List ℕ) (table : Bytes bytes) (fine : Bytes script) where
   -- So on a feasible table every script is played in time.
@@ -270,7 +276,7 @@ module _ (bytes script : List ℕ) (table : Bytes bytes) (fine : Bytes script) w
       (λ fits. rw (fits, none-late) (record { not-23 = λ q. omega arith; none-late = λ q. refl; not-stopped = λ q. absurd (omega arith) }))
       (λ full. rw full (record { not-23 = λ q. omega arith; none-late = λ q. refl; not-stopped = λ q. absurd (omega arith) }))
   says-in-time room (stopped r) e inside =
-      record { not-23 = λ q. not-an-answer (r .refusal) (omega arith) (omega arith); none-late = λ q. refl; not-stopped = inside }
+      record { not-23 = λ q. no-answer (r .refusal) (omega arith) (omega arith); none-late = λ q. refl; not-stopped = inside }
 
 -- On a feasible table no replay is late.
 pub at-host : AtHost
@@ -280,7 +286,7 @@ at-host bytes script table fine said room =
 -- ---- the host's calls
 
 -- The verdict's call returns 20 where `judge` says feasible.
-call-said-feasible : (table lent written : List ℕ) → VerdictAnswered table lent 20 written → SaidFeasible table
+pub call-said-feasible : (table lent written : List ℕ) → VerdictAnswered table lent 20 written → SaidFeasible table
 call-said-feasible table lent written (host.VerdictAnswered.wrong-size l s w) = absurd (omega arith)
 call-said-feasible table lent written (host.VerdictAnswered.said l v j s w) = record { answer = v; judged = j; feasible = sym s }
 

@@ -1,7 +1,7 @@
 -- The bridge holds at every point of every trace: at the fresh run that a table's bytes start, and after each release and each tick, refused ones included.
 -- (docs/RULES.md, section 6.)
 use Prim.Native.Nat.{ℕ, _+_, _≤_, _<_}
-use mathlib.Core.Path.{_≡_, refl}
+use mathlib.Core.Path.{_≡_, refl, ap}
 use mathlib.Core.List.{List, [], _∷_}
 use native.Mathlib.Omega.{arith}
 use native.Mathlib.Decide.{decLt, decLe}
@@ -35,9 +35,11 @@ use Rattle.run.proofs.Release.{Passed, each-release, release-keeps-sound, fresh
 use Rattle.run.proofs.Ticking.{Good, facts, counted, tick-too-late, tick-idle, tick-busy, idle-keeps, busy-keeps}
 use Rattle.run.specs.Answers.{accepted, releaseSays, TickSays, idle, tickSays}
 use Rattle.run.specs.Answers as says
-use Rattle.promise.specs.Traces.{Call, Event, runAt, trace, clockOf, jobsIn}
-use Rattle.promise.proofs.Bridge.{ticksOf, Follows, Bridge}
+use Rattle.promise.specs.Traces.{Call, Event, runAt, trace, told, clockOf, jobsIn}
+use Rattle.promise.specs.Link.{Follows, RunsFollowTheTheory}
+use Rattle.promise.proofs.Bridge.{Bridge}
 use Rattle.promise.proofs.Waiting.{follows-refused-release, follows-refused-tick, follows-accepted, follows-idle, follows-ran}
+use Rattle.promise.proofs.Ticks.{no-job-by-a-tick}
 use Rattle.promise.proofs.Histories.{duesOf, dues-with, latest-by, by-rule-with}
 
 module _ {t : Table} {run : Run} {es : List Event} (b : Bridge t run es) where
@@ -49,7 +51,7 @@ module _ {t : Table} {run : Run} {es : List Event} (b : Bridge t run es) where
 
   -- A refused release changes nothing.
   refused-release-keeps : (row cost number place : ℕ) → Bridge t run (Event.release row cost (says.ReleaseSays.refused number place) ∷ es)
-  unfolding clockOf jobsIn
+  unfolding told
   refused-release-keeps row cost number place = record {
     table-in-range = b .table-in-range;
     same-table = b .same-table;
@@ -77,7 +79,7 @@ module _ {t : Table} {run : Run} {es : List Event} (b : Bridge t run es) where
     abbrev longer : List Event
     longer = Event.release row cost (accepted (run .next .0) (due .0)) ∷ es
 
-    -- It waits, behind the others, ..
+    -- The job waits, behind the others.
     job-waits : Follows next longer
     job-waits =
         let form : WellFormed (run .pending) = record { all-places = b .whole .all-places; in-places = facts run good .few-pending } in
@@ -85,7 +87,7 @@ module _ {t : Table} {run : Run} {es : List Event} (b : Bridge t run es) where
         follows-accepted (b .follows) next row cost (run .next .0) (due .0) (newJob run row cost due) (p .some-cost) (rw clock)
         (put-adds-one (run .pending) (newJob run row cost due) form (p .room))
 
-    -- .. and comes next of its row by the rule, ..
+    -- It comes next of its row by the rule.
     job-by-rule : (i : ℕ) → row ≡ i → GaveDue run (duesOf (jobsIn es)) row (due .0) next
         → Next (rowAt t i .x) (rowAt t i .y) (rowAt t i .d) (rowAt t i .c) (own i (jobsIn es)) job
     job-by-rule i e gave = rw (← e) (record {
@@ -94,9 +96,9 @@ module _ {t : Table} {run : Run} {es : List Event} (b : Bridge t run es) where
       cost-at-most = rw (b .same-table) at (p .allowed);
     })
 
-    -- .. so that the bridge holds with it.
+    -- So the bridge holds with it.
     accepted-keeps : Good next → GaveDue run (duesOf (jobsIn es)) row (due .0) next → Bridge t next longer
-    unfolding clockOf jobsIn
+    unfolding told
     accepted-keeps still gave = record {
       table-in-range = b .table-in-range;
       same-table = b .same-table;
@@ -123,46 +125,45 @@ module _ {t : Table} {run : Run} {es : List Event} (b : Bridge t run es) where
       (λ r still gave. refused-release-keeps row cost (refusalNumber r) 0)
       (λ due p given still gave. accepted-keeps p due still (gave (record { serial = run .next; due = due }) refl))
       (release-keeps-sound run row cost (b .whole) (b .sound))
-      (λ a. due-by-whole-history run (duesOf (jobsIn es)) row cost a (b .whole) (b .keeps-history))
+      (λ a e. due-by-whole-history run (duesOf (jobsIn es)) row cost (a .serial .0) (a .due .0) (b .whole) (b .keeps-history) (ap releaseSays e))
 
   -- ---- a tick
 
   -- A tick accepts no job, and keeps all that is kept.
   tick-keeps : (clock : ℕ) (p : Pending) (a : TickSays) (late : ℕ) → Good (runWith run clock p) → clock ≡ clockOf (Event.tick a late ∷ es)
       → Follows (runWith run clock p) (Event.tick a late ∷ es) → Bridge t (runWith run clock p) (Event.tick a late ∷ es)
-  unfolding jobsIn
-  tick-keeps clock p a late still same-clock follows = record {
+  tick-keeps clock p a late still same-clock follows = let no-job = no-job-by-a-tick a late es in record {
     table-in-range = b .table-in-range;
     same-table = b .same-table;
     whole = still .1;
     sound = still .0;
     same-clock = same-clock;
-    next-serial = b .next-serial;
-    distinct = b .distinct;
-    names-below = b .names-below;
-    rows-in-use = b .rows-in-use;
+    next-serial = rw no-job (b .next-serial);
+    distinct = rw no-job (b .distinct);
+    names-below = rw no-job (b .names-below);
+    rows-in-use = rw no-job (b .rows-in-use);
     follows = follows;
-    keeps-history = record { newest = b .keeps-history .newest };
-    by-rule = b .by-rule;
+    keeps-history = record { newest = rw no-job (b .keeps-history .newest) };
+    by-rule = rw no-job (b .by-rule);
   }
 
-  -- A refused one changes nothing else either ..
+  -- A refused tick changes nothing.
   refused-tick-keeps : (number place : ℕ) → Bridge t run (Event.tick (says.TickSays.refused number place) 0 ∷ es)
-  unfolding clockOf
+  unfolding told
   refused-tick-keeps number place =
       tick-keeps (run .clock .0) (run .pending) _ 0 good (b .same-clock) (follows-refused-tick (b .follows) number place 0)
 
   module _ (in-time : run .clock .0 < maxTime) where
-    -- .. an idle one moves the clock, with nothing pending ..
+    -- An idle tick moves the clock, with nothing pending.
     idle-tick-keeps : run .pending .count ≡ 0 → Bridge t (idleTick run .run) (Event.tick idle 0 ∷ es)
-    unfolding clockOf
+    unfolding told
     idle-tick-keeps none =
         tick-keeps (run .clock .0 + 1) (run .pending) idle 0 (idle-keeps run good in-time) (omega (arith, b .same-clock))
         (follows-idle (b .follows) (run .clock .0 + 1) 0 (rw none))
 
-    -- .. and a busy one gives a unit to the job that goes first.
+    -- A busy tick gives a unit to the job that goes first.
     busy-tick-keeps : 1 ≤ run .pending .count → Bridge t (busyTick run .run) (Event.tick (tickSays (busyTick run .answer)) (busyTick run .late) ∷ es)
-    unfolding clockOf
+    unfolding told
     busy-tick-keeps some =
         let p = run .pending in
         let at = firstPlace (jobsOf p) in
@@ -190,9 +191,9 @@ table-of-sound run still =
     let sound = facts run still in
     record { few-rows = sound .few-rows; all-places = still .1 .all-rows; rows-in-range = λ i h. in-range-means (rowAt (run .table) i) .1 (sound .rows i h) }
 
--- The bridge holds of a run that is started, before any call ..
+-- The bridge holds of a run that is started, before any call.
 pub bridge-of-started : (bytes : List ℕ) → Bytes bytes → Bridge (tableRead bytes .table) (started bytes .run) []
-unfolding clockOf jobsIn ticksOf EarliestDueFirst NeverIdlesInVain own ByRule
+unfolding told EarliestDueFirst NeverIdlesInVain own ByRule
 bridge-of-started bytes fine =
     let still = started-is-sound bytes fine in
     let in-range = table-of-sound (started bytes .run) still in
@@ -211,9 +212,13 @@ bridge-of-started bytes fine =
       by-rule = λ i h. tt;
     }
 
--- .. and each call keeps it: it holds at every point of every trace.
+-- Each call keeps the bridge, so that it holds at every point of every trace.
 pub bridge : (bytes : List ℕ) → Bytes bytes → (calls : List Call) → Bridge (tableRead bytes .table) (runAt bytes calls) (trace bytes calls)
 unfolding runAt trace
 bridge bytes fine [] = bridge-of-started bytes fine
 bridge bytes fine (Call.release row cost ∷ calls) = release-keeps-bridge (bridge bytes fine calls) row cost
 bridge bytes fine (Call.tick ∷ calls) = tick-keeps-bridge (bridge bytes fine calls)
+
+-- So every run follows the theory.
+pub runs-follow-the-theory : RunsFollowTheTheory
+runs-follow-the-theory bytes fine calls = bridge bytes fine calls .follows

@@ -28,7 +28,7 @@ use Rattle.run.specs.declared.Released.the-variants as release
 use Rattle.run.specs.Sound.{soundOf, jobFits, jobSound}
 use Rattle.run.specs.Release.{released}
 use Rattle.run.specs.Ticking.{ticked}
-use Rattle.replay.proofs.OnItsWay.{release-adds-one}
+use Rattle.play.proofs.OnItsWay.{release-adds-one}
 use Rattle.run.specs.Answers.{accepted, idle, releaseSays, tickSays}
 use Rattle.promise.specs.Traces.{Call, runAt}
 use Rattle.promise.specs.Examples.{v1, v8}

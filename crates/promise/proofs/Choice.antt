@@ -33,11 +33,12 @@ use Rattle.jobs.specs.Answers.{hasFinished}
 use Rattle.run.specs.Answers.{idle, ran, tickSays}
 use Rattle.promise.specs.Traces.{Call, Event, eventOf, runAt, trace, clockOf, jobsIn, unitsOf, unfinished}
 use Rattle.promise.specs.Choice.{IdleWhenAllHaveTheirCost, GoesFirst, RanFirst, EarliestDueFirst, lateAt, LateCountIsTheLate}
+use Rattle.promise.specs.Link.{jobOf}
 use Rattle.promise.proofs.Bridge.{Bridge}
 use Rattle.promise.proofs.BridgeHolds.{bridge}
-use Rattle.promise.proofs.Units.{total-same, jobOf, sound-facts, pending-is-owed, pending-is-unfinished, unfinished-is-pending}
+use Rattle.promise.proofs.Units.{total-same, sound-facts, pending-is-owed, pending-is-unfinished, unfinished-is-pending}
 use Rattle.promise.proofs.Units.{finished-had-its-cost, unfinished-weigh-as-pending}
-use Rattle.promise.proofs.Ticks.{each-tick}
+use Rattle.promise.proofs.Ticks.{no-job-by-a-tick, each-tick}
 
 -- What counts under two tests, one after the other, counts where both hold.
 counts-if-both : (a b : Bool) (n : ℕ) → cond b (cond a n 0) 0 ≡ cond (a && b) n 0
@@ -54,7 +55,7 @@ late-count-is-total time (p ∷ ps) = omega (arith, late-count-is-total time ps)
 
 module _ {t : Table} {run : Run} {es : List Event} (b : Bridge t run es) where
   -- The pending jobs.
-  abbrev pending : List PendingJob
+  abbrev pub pending : List PendingJob
   pending = jobsOf (run .pending)
 
   -- As many jobs are pending as are counted.
@@ -75,7 +76,7 @@ module _ {t : Table} {run : Run} {es : List Event} (b : Bridge t run es) where
   no-jobs = ap (λ n. take n (run .pending .places))
 
   -- Where nothing is pending, every accepted job has had its cost.
-  none-pending : run .pending .count ≡ 0 → (j : Job) → List·Memᴰ j (jobsIn es) → unitsOf (j .name) es ≡ j .cost
+  pub none-pending : run .pending .count ≡ 0 → (j : Job) → List·Memᴰ j (jobsIn es) → unitsOf (j .name) es ≡ j .cost
   none-pending none j m = by-test (unfinished es j)
       (λ h. let found = unfinished-is-pending b j m h in absurd (List·Memᴰ·not-nil (subst (λ l. List·Memᴰ (found .place) l) (no-jobs none) (found .pending))))
       (finished-had-its-cost b j m)
@@ -83,23 +84,23 @@ module _ {t : Table} {run : Run} {es : List Event} (b : Bridge t run es) where
   -- ---- the job that goes first
 
   module _ (some : 1 ≤ run .pending .count) where
-    -- It stands at its place, ..
+    -- The job that goes first stands at its place.
     place : IsFirst pending (firstPlace pending)
     place = choice-is-first pending (omega (arith, many))
 
-    -- .. which is its place in the run's array too, ..
-    abbrev first : PendingJob
+    -- That is its place in the run's array too.
+    abbrev pub first : PendingJob
     first = getD pending (firstPlace pending) noJob
 
-    first-stands : firstJob (run .pending) ≡ first
+    pub first-stands : firstJob (run .pending) ≡ first
     first-stands = place-holds-job (run .pending) (firstPlace pending) (place .inside)
 
-    -- .. is pending ..
-    first-pending : List·Memᴰ first pending
+    -- It is pending.
+    pub first-pending : List·Memᴰ first pending
     first-pending = subst (λ l. List·Memᴰ first l) (sym (job-among-the-rest pending (firstPlace pending) (place .inside)))
         (Memᴰ·append-right (take (firstPlace pending) pending) (List·Memᴰ·head refl))
 
-    -- .. and comes after no other pending job.
+    -- It comes after no other pending job.
     after-none : (p : PendingJob) → List·Memᴰ p pending → NotAfter first p
     after-none = each-pending (NotAfter first) (place .first)
 
@@ -186,20 +187,21 @@ module _ {t : Table} {run : Run} {es : List Event} (b : Bridge t run es) where
 -- The late count of a tick is the number of accepted jobs that are late by the trace after it. At the last time, too: no job is due past it.
 pub late-of-the-trace : {t : Table} {run : Run} {es : List Event} → Bridge t run es → Bridge t (ticked run .run) (eventOf run Call.tick ∷ es)
     → ticked run .late ≡ total (weightIf (lateAt (clockOf es + 1) (eventOf run Call.tick ∷ es)) (λ _. 1)) (jobsIn es)
-unfolding jobsIn
-late-of-the-trace b next = rw (← b .same-clock) (late-after-the-tick b ∙ late-by-the-trace next _)
+late-of-the-trace {run = run} {es = es} b next =
+    let no-job = no-job-by-a-tick (tickSays (ticked run .answer)) (ticked run .late) es in
+    rw (← b .same-clock, ← no-job) (late-after-the-tick b ∙ late-by-the-trace next _)
 
 -- ---- the promises
 
--- Idle exactly when every accepted job has had its cost; ..
+-- A tick is idle exactly when every accepted job has had its cost.
 pub idle-when-all-have-their-cost : IdleWhenAllHaveTheirCost
 idle-when-all-have-their-cost bytes ok calls = idle-when-done (bridge bytes ok calls)
 
--- .. else the unit goes to the unfinished job that is due first; ..
+-- Else the unit goes to the unfinished job that is due first.
 pub earliest-due-first : EarliestDueFirst
 earliest-due-first bytes ok calls = ran-the-first (bridge bytes ok calls)
 
--- .. and the late count is the number of accepted jobs that are late then.
+-- The late count is the number of accepted jobs that are late then.
 pub late-count-is-the-late : LateCountIsTheLate
 unfolding runAt trace
 late-count-is-the-late bytes ok calls = late-of-the-trace (bridge bytes ok calls) (bridge bytes ok (Call.tick ∷ calls))

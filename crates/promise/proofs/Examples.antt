@@ -1,6 +1,6 @@
 -- The examples hold. A table's verdict is settled by a look at finitely many lengths, which is made by computing; the theory's bound says that these are enough.
 use Prim.Native.Nat.{ℕ, zero, suc, _+_, _≤_}
-use mathlib.Core.Path.{_≡_, refl, sym, ap, _∙_}
+use mathlib.Core.Path.{_≡_, refl, sym, ap, subst, _∙_}
 use mathlib.Core.Bool.{Bool, true, _&&_}
 use mathlib.Core.List.{List, [], _∷_, flatten}
 use native.Mathlib.Omega.{arith}
@@ -29,13 +29,14 @@ use Rattle.due.specs.declared.Kept.{Kept}
 use Rattle.due.specs.declared.Due.the-variants as due
 use Rattle.due.specs.Kept.{nothingKept, dueOf, keptWith}
 use Rattle.due.specs.Laws.{KeepsNewest}
-use Rattle.due.proofs.Laws.{given-means, keeps-on-keeping, due-is-the-papers, starts-empty}
+use Rattle.due.proofs.Laws.{due-given, keeps-on-keeping, due-is-the-papers, starts-empty}
 use Rattle.verdict.specs.declared.Verdict.{Verdict}
 use Rattle.verdict.specs.declared.Verdict.the-variants as verdict
 use Rattle.verdict.specs.Demand.{tableDemand, tableGrowth, largestD, largestOf}
-use Rattle.verdict.specs.Verdict.{RightOf, RightOfRead, Judged}
+use Rattle.verdict.specs.Verdict.{RightOf, RightOfRead, Judged, verdictSays}
 use Rattle.verdict.proofs.Accepted.{accepted-is-known}
-use Rattle.promise.specs.Examples.{dueTimesFrom, v1, v2, v3, v4, v5, v6, v7, v8, ExamplesHold}
+use Rattle.verdict.proofs.Verdicts.{said-apart}
+use Rattle.promise.specs.Examples.{dueTimesFrom, VerdictSays, feasible, overloaded, v1, v2, v3, v4, v5, v6, v7, v8, ExamplesHold}
 
 -- ---- looks that can be made by computing
 
@@ -70,18 +71,24 @@ accepted-right t a period v accepted right = rw accepted right
 module _ (s : List ℕ) (period : ℕ) (bytes : allBytes s ≡ true) (accepted : tableRead s .answer ≡ answer.Accepted period) where
   -- Growth within the period, and every length up to period + largest d fits.
   feasible-by-look : leb (tableGrowth (tableRead s .table) period) period ≡ true → looks (tableDemand (tableRead s .table)) (period + largestD (tableRead s .table)) ≡ true
-      → Judged s verdict.Feasible
+      → VerdictSays s feasible
   feasible-by-look within fits =
-      let known = accepted-is-known s period (are-bytes s bytes) accepted in
-      accepted-right (tableRead s .table) (tableRead s .answer) period verdict.Feasible accepted
-      (settled-within-a-period (tableDemand (tableRead s .table)) (largestD (tableRead s .table)) period (tableGrowth (tableRead s .table) period) (known .curve)
-      (known .some-period) (leb-true (tableGrowth (tableRead s .table) period) period within) (looked _ _ fits))
+      let known = accepted-is-known s period (are-bytes s bytes) accepted in (
+        verdict.Feasible,
+        accepted-right (tableRead s .table) (tableRead s .answer) period verdict.Feasible accepted
+            (settled-within-a-period (tableDemand (tableRead s .table)) (largestD (tableRead s .table)) period (tableGrowth (tableRead s .table) period) (known .curve)
+            (known .some-period) (leb-true (tableGrowth (tableRead s .table) period) period within) (looked _ _ fits)),
+        refl,
+      )
 
   overloaded-by-look : (shorter units : ℕ) → looks (tableDemand (tableRead s .table)) shorter ≡ true → tableDemand (tableRead s .table) (suc shorter) ≡ units
-      → ltb (suc shorter) units ≡ true → Judged s (verdict.Overloaded (record { length = suc shorter; demand = units }))
-  overloaded-by-look shorter units fits asks more =
-      accepted-right (tableRead s .table) (tableRead s .answer) period _ accepted
-      (record { some-length = omega arith; fails = rw asks (ltb-true (suc shorter) units more); smaller-fit = λ M some below. looked _ shorter fits M some (omega arith) }, sym asks)
+      → ltb (suc shorter) units ≡ true → VerdictSays s (overloaded (suc shorter) units)
+  overloaded-by-look shorter units fits asks more = (
+    verdict.Overloaded (record { length = suc shorter; demand = units }),
+    accepted-right (tableRead s .table) (tableRead s .answer) period _ accepted
+        (record { some-length = omega arith; fails = rw asks (ltb-true (suc shorter) units more); smaller-fit = λ M some below. looked _ shorter fits M some (omega arith) }, sym asks),
+    refl,
+  )
 
 -- ---- due times by the paper's rule
 
@@ -102,7 +109,7 @@ by-the-rule r in-range k history [] keeps fits = refl
 by-the-rule r in-range k history (t ∷ ts) keeps fits =
     let D : ℕ = dueTime (r .x) (r .y) (r .d) history t in
     let both = both-true (leb D maxTime) (noneLate (ruled (r .x) (r .y) (r .d) (D ∷ history) ts)) fits in
-    let given : dueOf k r t ≡ due.At (record { 0 = D }) = given-means k r t (record { 0 = D }) .1 (record {
+    let given : dueOf k r t (r .c) ≡ due.At (record { 0 = D }) = due-given k r t (r .c) (record { 0 = D }) .1 (record {
       row-in-range = in-range;
       by-rule = due-is-the-papers k r history t in-range keeps;
       in-time = leb-true D maxTime (both .0);
@@ -154,15 +161,19 @@ examples-hold =
     (then (due-by-rule 1 2 6 (0 ∷ 20 ∷ []) _ refl refl refl refl refl)
     tt)))))))))))
 
+-- What says the same as a verdict is that verdict.
+judged-so : (bytes : List ℕ) (w : Verdict) → VerdictSays bytes (verdictSays w) → Judged bytes w
+judged-so bytes w says = subst (Judged bytes) (said-apart (says .0) w (says .2)) (says .1)
+
 -- Some of them by themselves.
 pub v1-is-feasible : Judged v1 verdict.Feasible
-v1-is-feasible = examples-hold .0
+v1-is-feasible = judged-so v1 verdict.Feasible (examples-hold .0)
 
 pub v3-is-feasible : Judged v3 verdict.Feasible
-v3-is-feasible = examples-hold .1 .1 .0
+v3-is-feasible = judged-so v3 verdict.Feasible (examples-hold .1 .1 .0)
 
 pub v4-is-overloaded : Judged v4 (verdict.Overloaded (record { length = 11; demand = 12 }))
-v4-is-overloaded = examples-hold .1 .1 .1 .1 .0
+v4-is-overloaded = judged-so v4 (verdict.Overloaded (record { length = 11; demand = 12 })) (examples-hold .1 .1 .1 .1 .0)
 
 pub v8-is-overloaded : Judged v8 (verdict.Overloaded (record { length = 26; demand = 27 }))
-v8-is-overloaded = examples-hold .1 .1 .1 .1 .1 .1 .1 .1 .0
+v8-is-overloaded = judged-so v8 (verdict.Overloaded (record { length = 26; demand = 27 })) (examples-hold .1 .1 .1 .1 .1 .1 .1 .1 .0)

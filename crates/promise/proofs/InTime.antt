@@ -26,23 +26,23 @@ use Rattle.table.specs.declared.Table.{Table}
 use Rattle.table.specs.declared.TableAnswer.{TableAnswer}
 use Rattle.table.specs.declared.TableAnswer.the-variants as answer
 use Rattle.table.specs.Tables.{noRow, rowsOf, tableRead}
-use Rattle.table.proofs.Periods.{rows-used}
+use Rattle.table.proofs.Tables.{rows-used}
 use Rattle.verdict.specs.declared.Verdict.{Verdict}
 use Rattle.verdict.specs.declared.Verdict.the-variants as verdict
 use Rattle.verdict.specs.Demand.{rowDemandOf, tableDemand}
 use Rattle.verdict.specs.Verdict.{RightOfRead, verdictSays}
 use Rattle.verdict.proofs.Rows.{row-within, rows-within}
-use Rattle.due.proofs.Laws.{given-means}
+use Rattle.due.proofs.Laws.{due-given}
 use Rattle.run.specs.declared.Run.{Run}
 use Rattle.run.specs.Runs.{rowAt, keptOf}
 use Rattle.run.proofs.Release.{each-release}
 use Rattle.run.specs.Answers.{releaseSays, tickSays}
-use Rattle.promise.specs.Traces.{Call, Event, runAt, eventOf, trace, clockOf, jobsIn, unitsOf}
+use Rattle.promise.specs.Traces.{Call, Event, runAt, eventOf, trace, told, clockOf, jobsIn, ticksOf, unitsOf}
 use Rattle.promise.specs.InTime.{SaidFeasible, InTime, NeverMore, OneJobASerial, ticksIn, ClockCountsTicks, DueTimesCome}
-use Rattle.promise.proofs.Bridge.{ticksOf, Bridge}
+use Rattle.promise.proofs.Bridge.{Bridge}
 use Rattle.promise.proofs.BridgeHolds.{bridge}
-use Rattle.promise.proofs.Units.{units-counted, sound-facts, never-more-units}
-use Rattle.promise.proofs.Ticks.{each-tick}
+use Rattle.promise.proofs.Units.{sound-facts, never-more-units}
+use Rattle.promise.proofs.Ticks.{no-job-by-a-tick, no-tick-by-a-release, each-tick}
 use Rattle.promise.proofs.Share.{own-member, row-share}
 
 -- ---- a feasible table
@@ -63,7 +63,7 @@ feasible-fits bytes said = right-and-feasible (tableRead bytes .table) (tableRea
 module _ {t : Table} {run : Run} {es : List Event} (b : Bridge t run es) where
   -- ---- what the accepted jobs ask for
 
-  -- In every window the accepted jobs ask for at most the table's demand ..
+  -- In every window the accepted jobs ask for at most the table's demand.
   demand-bounds : BoundedBy (tableDemand t) (jobsIn es)
   unfolding tableDemand
   demand-bounds = sum-of-sources Row rowDemandOf noRow (rowsOf t) (jobsIn es) (rw (rows-used (b .table-in-range)) (b .rows-in-use))
@@ -71,7 +71,7 @@ module _ {t : Table} {run : Run} {es : List Event} (b : Bridge t run es) where
       let in-use : row < t .count = omega (arith, rows-used (b .table-in-range)) in
       rw (getD-take (t .count) (t .rows) row noRow in-use) (row-share b row in-use))
 
-  -- .. which is nothing in no time.
+  -- In no time the table has no demand.
   no-demand-at-zero : tableDemand t 0 ≡ 0
   unfolding tableDemand
   no-demand-at-zero =
@@ -90,7 +90,7 @@ module _ {t : Table} {run : Run} {es : List Event} (b : Bridge t run es) where
       by-end (all-at (λ (i : Job). i .due ≤ clockOf es → ServedOrEnded i (ticksOf es) []) all m due)
     where
       by-end : ServedOrEnded j (ticksOf es) [] → unitsOf (j .name) es ≡ j .cost
-      by-end (served e) = omega (arith, e, units-counted (j .name) es)
+      by-end (served e) = e
       by-end (ended u) = absurd (List·Memᴰ·not-nil (u .among))
 
 -- ---- the clock
@@ -98,7 +98,7 @@ module _ {t : Table} {run : Run} {es : List Event} (b : Bridge t run es) where
 module _ {t : Table} {run : Run} {es : List Event} (b : Bridge t run es) where
   -- A tick takes the clock one on, up to the last time.
   clock-after-a-tick : clockOf (eventOf run Call.tick ∷ es) ≡ min (suc (clockOf es)) maxTime
-  unfolding clockOf
+  unfolding told
   clock-after-a-tick =
       let clock = b .same-clock in
       let in-time : run .clock .0 ≤ maxTime = sound-facts b .clock-in-time in
@@ -111,7 +111,7 @@ module _ {t : Table} {run : Run} {es : List Event} (b : Bridge t run es) where
 
 -- No accepted job is due later than any may be.
 dues-in-time : (bytes : List ℕ) (calls : List Call) → All (λ j. j .due ≤ maxTime) (jobsIn (trace bytes calls))
-unfolding runAt trace jobsIn
+unfolding runAt trace told
 dues-in-time bytes [] = tt
 dues-in-time bytes (Call.release row cost ∷ calls) =
     let run = runAt bytes calls in
@@ -119,8 +119,8 @@ dues-in-time bytes (Call.release row cost ∷ calls) =
     each-release run row cost
     (λ step. All (λ j. j .due ≤ maxTime) (jobsIn (Event.release row cost (releaseSays (step .answer)) ∷ trace bytes calls)))
     (λ r. before)
-    (λ due passed given. (given-means (keptOf run row) (rowAt (run .table) row) (run .clock .0) due .0 given .in-time, before))
-dues-in-time bytes (Call.tick ∷ calls) = dues-in-time bytes calls
+    (λ due passed given. (due-given (keptOf run row) (rowAt (run .table) row) (run .clock .0) cost due .0 given .in-time, before))
+dues-in-time bytes (Call.tick ∷ calls) = rw no-job-by-a-tick (dues-in-time bytes calls)
 
 -- Every accepted job is due after its release.
 due-after-release : {t : Table} {run : Run} {es : List Event} → Bridge t run es → (j : Job) → List·Memᴰ j (jobsIn es) → suc (j .release) ≤ j .due
@@ -133,11 +133,11 @@ due-after-release {t = t} {es = es} b j m =
 
 -- ---- the promises
 
--- Every accepted job has its cost once it is due ..
+-- Every accepted job has had its cost once it is due.
 pub in-time : InTime
 in-time bytes ok said calls = due-had-its-cost (bridge bytes ok calls) (feasible-fits bytes said)
 
--- .. and never more.
+-- No job has more than its cost.
 pub never-more : NeverMore
 never-more bytes ok calls = never-more-units (bridge bytes ok calls)
 
@@ -147,9 +147,9 @@ one-job-a-serial bytes ok calls = bridge bytes ok calls .distinct
 
 -- The clock is the number of ticks that were called, up to the last time.
 clock-counts : (bytes : List ℕ) → Bytes bytes → (calls : List Call) → clockOf (trace bytes calls) ≡ min (ticksIn calls) maxTime
-unfolding trace clockOf ticksIn
+unfolding trace ticksIn told
 clock-counts bytes ok [] = refl
-clock-counts bytes ok (Call.release row cost ∷ calls) = clock-counts bytes ok calls
+clock-counts bytes ok (Call.release row cost ∷ calls) = rw no-tick-by-a-release (clock-counts bytes ok calls)
 clock-counts bytes ok (Call.tick ∷ calls) = omega (arith, clock-after-a-tick (bridge bytes ok calls), clock-counts bytes ok calls)
 
 -- The run's own clock says the same.

@@ -10,6 +10,7 @@ use Rattle.theory.specs.Lists.{total}
 use Rattle.theory.specs.Jobs.{Job, weighed}
 use Rattle.theory.specs.Demand.{rowJobs}
 use Rattle.theory.specs.Sources.{own, inTurn}
+use Rattle.theory.specs.Trace.{units}
 use Rattle.theory.specs.DueTimes.{dueTime}
 use Rattle.table.specs.Tables.{readRows}
 use Rattle.table.specs.Period.{firstMultiple, leastCommonMultiple}
@@ -22,10 +23,10 @@ use Rattle.run.specs.Sound.{soundOf, jobFits, jobSound}
 use Rattle.run.specs.Release.{released}
 use Rattle.run.specs.Ticking.{ticked}
 use Rattle.verdict.specs.declared.Verdict.the-variants.{Feasible, Overloaded}
-use Rattle.promise.specs.Traces.{runAt, trace, clockOf, jobsIn, unitsOf}
-use Rattle.promise.specs.NoOrder.{firstJobs, keptAfter}
+use Rattle.promise.specs.Traces.{runAt, trace, told, clockOf, jobsIn}
+use Rattle.promise.specs.NoOrder.{firstJobs, keptAfter, unitsBy}
 use Rattle.promise.specs.Examples.{v3, v4}
-use Rattle.promise.specs.Instances.{calls, AnswersAreThese, job, ThreeJobs, AllThreeInTime, ShareIsReached, NamedByV4, NobodyServesV4}
+use Rattle.promise.specs.Instances.{calls, AnswersAreThese, job, ThreeJobs, AllThreeInTime, ShareIsReached, NamedByV4, NobodyServesV4, SomebodyServesV4Later}
 use Rattle.promise.proofs.InTime.{in-time}
 use Rattle.promise.proofs.NoOrder.{no-order}
 use Rattle.promise.proofs.Examples.{are-bytes, v3-is-feasible, v4-is-overloaded}
@@ -36,14 +37,14 @@ unfolding
 answers-are-these = refl
 
 pub three-jobs : ThreeJobs
-unfolding clockOf jobsIn
+unfolding told
 three-jobs = (refl, refl)
 
 v3-in-bytes : Bytes v3
 unfolding spelling.groupsOf flatten
 v3-in-bytes = are-bytes v3 refl
 
--- Each of the three jobs was accepted, and the clock is at its due time or past it ..
+-- Each of the three jobs was accepted, and the clock is at its due time or past it.
 record Due (j : Job) : Type 0 where
   pub accepted : List·Memᴰ j (jobsIn (trace v3 calls))
   pub due : j .due ≤ clockOf (trace v3 calls)
@@ -54,7 +55,7 @@ clock-at-8 = rw answers-are-these (three-jobs .1)
 among-the-three : (j : Job) → List·Memᴰ j (job 2 0 4 8 2 ∷ job 1 1 0 6 3 ∷ job 0 0 0 4 2 ∷ []) → j .due ≤ 8 → Due j
 among-the-three j m due = record { accepted = rw answers-are-these (rw (three-jobs .0) m); due = rw clock-at-8 due }
 
--- .. so that it has had its cost: by *In time*.
+-- So each has had its cost: by *In time*.
 pub all-three-in-time : AllThreeInTime
 all-three-in-time =
     let says = in-time v3 v3-in-bytes (record { answer = Feasible; judged = v3-is-feasible; feasible = refl }) calls in
@@ -68,7 +69,7 @@ all-three-in-time =
 
 -- The share of row 0, worked out of the answers.
 pub share-is-reached : ShareIsReached
-unfolding jobsIn unitsOf clockOf own weighed total
+unfolding told units own weighed total
 share-is-reached = rw answers-are-these (refl, refl)
 
 pub named-by-v4 : NamedByV4
@@ -85,3 +86,8 @@ pub nobody-serves-v4 : NobodyServesV4
 nobody-serves-v4 who =
     rw named-by-v4 at
     (no-order v4 v4-in-bytes (Overloaded (record { length = 11; demand = 12 })) v4-is-overloaded 11 12 refl who)
+
+-- Somebody serves them one tick later: the units are counted.
+pub somebody-serves-v4-later : SomebodyServesV4Later
+unfolding unitsBy
+somebody-serves-v4-later = rw named-by-v4 (omega arith, (omega arith, (omega arith, (omega arith, (omega arith, tt)))))

@@ -6,11 +6,17 @@ pub mod Units
 pub mod Ticks
 pub mod Share
 pub mod InTime
+pub mod Earlier
 pub mod Choice
 pub mod Refusals
 pub mod AtHost
+pub mod Replays
+pub mod ServedAtHost
 pub mod Recurrence
+pub mod NamedJobs
 pub mod NoOrder
+pub mod OverloadedAtHost
+pub mod Served
 pub mod Paper
 pub mod Examples
 pub mod Spelling

@@ -1,121 +1,40 @@
--- No order. The jobs that a witness names are those of the theory that are all released at zero: the definitions that a release goes by give them the same due
--- times. They are due by L and cost more than L, so no assignment serves them.
+-- No order. The jobs that a witness L names are due by L and cost more than L, so no assignment serves them. (docs/RULES.md, section 5.)
 use Prim.Native.Nat.{ℕ, zero, suc, _+_, _≤_}
-use mathlib.Core.Path.{_≡_, refl, ap, ap₂}
+use mathlib.Core.Path.{_≡_, refl, ap}
 use mathlib.Core.Logic.{⊎-elim}
 use mathlib.Core.Option.{Option}
 use mathlib.Core.List.{List, [], _∷_, flatten}
 use native.Mathlib.Omega.{arith}
-use lib.ListN.{length}
 use Rattle.kinds.specs.Numbering.{maxTime}
 use Rattle.kinds.proofs.Apart.{impossible}
-use Rattle.theory.specs.Lists.{All, total}
-use Rattle.theory.specs.Jobs.{Job, DistinctNames}
+use Rattle.numbers.specs.Laws.{Bytes}
+use Rattle.theory.specs.Lists.{All}
+use Rattle.theory.specs.Jobs.{Job}
 use Rattle.theory.specs.Ticks.{had, noneTaken}
 use Rattle.theory.specs.Curves.{SmallestFailing}
-use Rattle.theory.specs.Demand.{rowJobs}
-use Rattle.theory.specs.DueTimes.{dueTime, dues, allAtZero}
 use Rattle.theory.specs.Schedules.{unitsBefore, unitsIn, Meets}
 use Rattle.theory.specs.Sources.{inTurn}
 use Rattle.theory.proofs.Lists.{all-flatten}
 use Rattle.theory.proofs.Curves.{decided, one-smallest-failing, none-where-every-length-fits}
 use Rattle.theory.proofs.Ticks.{all-free}
-use Rattle.theory.proofs.AllAtZero.{first-are-due-within, first-cost-the-demand, all-at-zero-are-numbered}
 use Rattle.theory.proofs.Schedules.{overload-of-sources}
-use Rattle.theory.proofs.Sources.{numbered-through}
-use Rattle.table.specs.declared.Row.{Row}
 use Rattle.table.specs.declared.Table.{Table}
 use Rattle.table.specs.declared.TableAnswer.{TableAnswer}
 use Rattle.table.specs.declared.TableAnswer.the-variants as answer
 use Rattle.table.specs.Tables.{rowsOf, tableRead}
 use Rattle.table.specs.Laws.{WithinLimits}
-use Rattle.table.proofs.Ranges.{in-range-of}
-use Rattle.due.specs.declared.Due.the-variants as due
-use Rattle.due.specs.Kept.{dueOf}
-use Rattle.due.specs.Laws.{KeepsNewest}
-use Rattle.due.proofs.Laws.{given-means, keeps-on-keeping, due-is-the-papers, starts-empty}
 use Rattle.verdict.specs.declared.Witness.{Witness}
 use Rattle.verdict.specs.declared.Verdict.{Verdict}
 use Rattle.verdict.specs.declared.Verdict.the-variants as verdict
-use Rattle.verdict.specs.Demand.{rowDemandOf, tableDemand, tableGrowth, largestD}
-use Rattle.verdict.specs.Verdict.{RightOfRead, verdictSays}
+use Rattle.verdict.specs.Demand.{tableDemand, tableGrowth, largestD}
+use Rattle.verdict.specs.Verdict.{RightOfRead, Judged, verdictSays}
 use Rattle.verdict.proofs.Accepted.{Known, accepted-is-known}
 use Rattle.verdict.proofs.Verdicts.{said-apart}
 use Rattle.verdict.proofs.Rows.{rows-within}
 use Rattle.verdict.proofs.Bounds.{last-at-most}
-use Rattle.promise.specs.NoOrder.{keptAfter, firstJobs, namedJobs, unitsBy, NoOrder}
-
--- ---- the jobs of one row
-
-module _ (r : Row) (within : WithinLimits r) (L : ℕ) (not-too-late : L ≤ maxTime) where
-  -- The first n jobs, as the theory has them.
-  abbrev ofTheory : (source first n : ℕ) → List Job
-  ofTheory source first n = allAtZero (r .x) (r .y) (r .d) (r .c) source first n
-
-  -- Where the next is due by the rule, a release gives that due time ..
-  same-due : (source first n : ℕ) → KeepsNewest (keptAfter r n) (r .x) (dues (ofTheory source first n)) → suc n ≤ rowJobs (r .x) (r .y) (r .d) L
-      → dueOf (keptAfter r n) r 0 ≡ due.At (record { 0 = dueTime (r .x) (r .y) (r .d) (dues (ofTheory source first n)) 0 })
-  unfolding allAtZero
-  same-due source first n keeps named =
-      let in-range = in-range-of r within in
-      given-means (keptAfter r n) r 0 (record { 0 = dueTime (r .x) (r .y) (r .d) (dues (ofTheory source first n)) 0 }) .1 (record {
-        row-in-range = in-range;
-        by-rule = due-is-the-papers (keptAfter r n) r (dues (ofTheory source first n)) 0 in-range keeps;
-        in-time = omega (arith, first-are-due-within (r .x) (r .y) (r .d) (r .c) source first L (suc n) (within .some-x) (within .some-y) named .0);
-      })
-
-  -- .. and keeps it, so that the next is by the rule too.
-  keeps-the-first : (source first n : ℕ) → n ≤ rowJobs (r .x) (r .y) (r .d) L → KeepsNewest (keptAfter r n) (r .x) (dues (ofTheory source first n))
-  unfolding allAtZero keptAfter
-  keeps-the-first source first zero named = starts-empty (r .x)
-  keeps-the-first source first (suc n) named =
-      let before = keeps-the-first source first n (omega arith) in
-      rw (same-due source first n before named) (keeps-on-keeping (keptAfter r n) r (dues (ofTheory source first n)) _ (in-range-of r within) before)
-
-  same-jobs : (source first n : ℕ) → n ≤ rowJobs (r .x) (r .y) (r .d) L → firstJobs source first r n ≡ ofTheory source first n
-  unfolding allAtZero firstJobs
-  same-jobs source first zero named = refl
-  same-jobs source first (suc n) named =
-      rw (same-due source first n (keeps-the-first source first n (omega arith)) named) (rw (same-jobs source first n (omega arith)) refl)
-
--- ---- the jobs of all rows
-
--- Of a row as many jobs as can be released and due in L ticks: as the witness names them, and as the theory has them.
-abbrev named : (L source first : ℕ) → Row → List Job
-named L source first r = firstJobs source first r (rowJobs (r .x) (r .y) (r .d) L)
-
-abbrev theirs : (L source first : ℕ) → Row → List Job
-theirs L source first r = allAtZero (r .x) (r .y) (r .d) (r .c) source first (rowJobs (r .x) (r .y) (r .d) L)
-
-module _ (L : ℕ) where
-  -- They are the same, row by row.
-  same-lists : L ≤ maxTime → (i first : ℕ) (rows : List Row) → All WithinLimits rows → inTurn (named L) i first rows ≡ inTurn (theirs L) i first rows
-  unfolding inTurn
-  same-lists h i first [] all = refl
-  same-lists h i first (r ∷ rows) all =
-      rw (same-jobs r (all .0) L h i first (rowJobs (r .x) (r .y) (r .d) L) (omega arith))
-      (ap (λ l. theirs L i first r ∷ l) (same-lists h (suc i) (first + length (theirs L i first r)) rows (all .1)))
-
-  -- They are due by L ..
-  all-due : (i first : ℕ) (rows : List Row) → All WithinLimits rows → All (All (λ j. j .due ≤ L)) (inTurn (theirs L) i first rows)
-  unfolding inTurn
-  all-due i first [] all = tt
-  all-due i first (r ∷ rows) all = (
-    first-are-due-within (r .x) (r .y) (r .d) (r .c) i first L (rowJobs (r .x) (r .y) (r .d) L) (all .0 .some-x) (all .0 .some-y) (omega arith),
-    all-due (suc i) (first + length (theirs L i first r)) rows (all .1),
-  )
-
-  -- .. cost together the demand of the rows ..
-  all-cost : (i first : ℕ) (rows : List Row) → total (λ js. total (λ j. j .cost) js) (inTurn (theirs L) i first rows) ≡ total (λ r. rowDemandOf r L) rows
-  unfolding inTurn total
-  all-cost i first [] = refl
-  all-cost i first (r ∷ rows) =
-      ap₂ _+_ (first-cost-the-demand (r .x) (r .y) (r .d) (r .c) i first L) (all-cost (suc i) (first + length (theirs L i first r)) rows)
-
-  -- .. and no two have one name.
-  all-distinct : (rows : List Row) → DistinctNames (flatten (inTurn (theirs L) 0 0 rows))
-  all-distinct rows =
-      numbered-through Row (theirs L) (λ i first r. all-at-zero-are-numbered (r .x) (r .y) (r .d) (r .c) i first (rowJobs (r .x) (r .y) (r .d) L)) 0 0 rows .distinct
+use Rattle.promise.specs.NoOrder.{namedJobs, unitsBy, NoOrder}
+use Rattle.promise.specs.NamedJobs.{WitnessIsInTime}
+use Rattle.promise.proofs.NamedJobs.{theirs, all-due, all-cost, all-distinct, all-at-zero, same-named}
 
 -- ---- assignments
 
@@ -141,21 +60,7 @@ meets who (j ∷ js) zero-all had-all = (
 
 -- ---- the witness
 
--- The first jobs of a row are released at zero, and so are those of all rows.
-released-at-zero : (x y d c source first n : ℕ) → All (λ j. j .release ≡ 0) (allAtZero x y d c source first n)
-unfolding allAtZero
-released-at-zero x y d c source first zero = tt
-released-at-zero x y d c source first (suc n) = (refl, released-at-zero x y d c source first n)
-
-all-at-zero : (L i first : ℕ) (rows : List Row) → All (All (λ j. j .release ≡ 0)) (inTurn (theirs L) i first rows)
-unfolding inTurn
-all-at-zero L i first [] = tt
-all-at-zero L i first (r ∷ rows) = (
-  released-at-zero (r .x) (r .y) (r .d) (r .c) i first (rowJobs (r .x) (r .y) (r .d) L),
-  all-at-zero L (suc i) (first + length (theirs L i first r)) rows,
-)
-
--- A smallest failing length of a table is not later than any time may be.
+-- A smallest failing length of a table is at most 2^40.
 witness-in-time : (t : Table) (period : ℕ) → Known t period → (L : ℕ) → SmallestFailing (tableDemand t) L → L ≤ maxTime
 witness-in-time t period known L smallest = ⊎-elim
     (λ fits. absurd (none-where-every-length-fits (tableDemand t) L fits smallest))
@@ -173,25 +78,41 @@ not-served : (t : Table) (period : ℕ) → Known t period → (L : ℕ) → Sma
 unfolding tableDemand
 not-served t period known L smallest who served =
     let within : All WithinLimits (rowsOf t) = rows-within (known .in-range) (t .count) (omega arith) in
-    let same : namedJobs t L ≡ flatten (inTurn (theirs L) 0 0 (rowsOf t)) =
-    ap flatten (same-lists L (witness-in-time t period known L smallest) 0 0 (rowsOf t) within) in
+    let same = same-named t L within (witness-in-time t period known L smallest) in
     overload-of-sources noneTaken L (inTurn (theirs L) 0 0 (rowsOf t)) (all-distinct L (rowsOf t)) (all-due L 0 0 (rowsOf t) within)
     (omega (arith, all-free 0 L, all-cost L 0 0 (rowsOf t), smallest .fails)) who
     (meets who (flatten (inTurn (theirs L) 0 0 (rowsOf t))) (all-flatten (λ j. j .release ≡ 0) _ (all-at-zero L 0 0 (rowsOf t))) (rw same at served))
 
--- What says 21 with L is the overloaded verdict with the length L ..
+-- What says 21 with L is the overloaded verdict with the length L.
 pub says-overloaded : (v : Verdict) (L demand : ℕ) → verdictSays v ≡ record { number = 21; first = L; second = demand }
     → v ≡ verdict.Overloaded (record { length = L; demand = demand })
 says-overloaded v L demand said = said-apart v (verdict.Overloaded (record { length = L; demand = demand })) said
 
--- .. and it is given only of a table that was accepted, where that length is the smallest that fails.
+-- It is given only of a table that was accepted, where that length is the smallest that fails.
 overloaded-is-right : (t : Table) (a : TableAnswer) (w : Witness) → RightOfRead t a (verdict.Overloaded w)
     → (period : ℕ) × (a ≡ answer.Accepted period) × SmallestFailing (tableDemand t) (w .length)
 overloaded-is-right t (answer.Accepted period) w right = (period, refl, right .0)
 overloaded-is-right t (answer.Refused r) w right = impossible cc
 
+module _ (bytes : List ℕ) (fine : Bytes bytes) (v : Verdict) (judged : Judged bytes v) (L demand : ℕ)
+    (said : verdictSays v ≡ record { number = 21; first = L; second = demand }) where
+  -- So of the bytes that were judged.
+  witness : (period : ℕ) × (tableRead bytes .answer ≡ answer.Accepted period) × SmallestFailing (tableDemand (tableRead bytes .table)) L
+  witness =
+      overloaded-is-right (tableRead bytes .table) (tableRead bytes .answer) (record { length = L; demand = demand })
+      (rw (says-overloaded v L demand said) at judged)
+
+  known : Known (tableRead bytes .table) (witness .0)
+  known = accepted-is-known bytes (witness .0) fine (witness .1)
+
+-- The witness is at most 2^40.
+pub witness-is-in-time : WitnessIsInTime
+witness-is-in-time bytes fine v judged L demand said =
+    witness-in-time (tableRead bytes .table) (witness bytes fine v judged L demand said .0) (known bytes fine v judged L demand said) L
+    (witness bytes fine v judged L demand said .2)
+
+-- Nobody serves the jobs that the witness names.
 pub no-order : NoOrder
-no-order bytes b v judged L demand said who =
-    let right = overloaded-is-right (tableRead bytes .table) (tableRead bytes .answer) (record { length = L; demand = demand })
-    (rw (says-overloaded v L demand said) at judged) in
-    not-served (tableRead bytes .table) (right .0) (accepted-is-known bytes (right .0) b (right .1)) L (right .2) who
+no-order bytes fine v judged L demand said =
+    not-served (tableRead bytes .table) (witness bytes fine v judged L demand said .0) (known bytes fine v judged L demand said) L
+    (witness bytes fine v judged L demand said .2)

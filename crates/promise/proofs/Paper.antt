@@ -11,8 +11,10 @@ use Rattle.theory.proofs.Paper.{demand-is-lemma41}
 use Rattle.theory.proofs.Curves.{none-where-every-length-fits}
 use Rattle.table.specs.declared.Row.{Row}
 use Rattle.table.specs.declared.Table.{Table}
+use Rattle.table.specs.declared.TableAnswer.the-variants as answer
 use Rattle.table.specs.Tables.{rowsOf, tableRead}
 use Rattle.table.specs.Laws.{WithinLimits}
+use Rattle.table.proofs.Answers.{tables-said-apart}
 use Rattle.verdict.specs.declared.Verdict.{Verdict}
 use Rattle.verdict.specs.declared.Verdict.the-variants as verdict
 use Rattle.verdict.specs.Demand.{rowDemandOf, tableDemand}
@@ -38,8 +40,9 @@ feasible-means t (verdict.Refused r) right = absurd right
 
 pub feasible-is-theorem42 : FeasibleIsTheorem42
 unfolding tableDemand
-feasible-is-theorem42 bytes b h accepted v judged =
+feasible-is-theorem42 bytes b h says v judged =
     let t = tableRead bytes .table in
+    let accepted = tables-said-apart (tableRead bytes .answer) (answer.Accepted h) says in
     let within : All WithinLimits (rowsOf t) = rows-within (accepted-is-known bytes h b accepted .in-range) (t .count) (omega arith) in
     let means = feasible-means t v (rw accepted at judged) in (
       (λ said L some. rw (← demand-is-the-papers (rowsOf t) L within) (means .0 said L some)),

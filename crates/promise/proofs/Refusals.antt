@@ -10,6 +10,7 @@ use native.Mathlib.Omega.{arith}
 use lib.Dec.{leb, ltb}
 use lib.ListN.{length}
 use borrow.Author.Tests.{lt-ltb, le-ltb}
+use Rattle.kinds.specs.declared.Refusal.the-variants.{NoSuchRow, CostOutOfRange}
 use Rattle.kinds.specs.Numbering.{maxTime}
 use Rattle.kinds.proofs.Apart.{impossible}
 use Rattle.theory.specs.Lists.{total}
@@ -17,21 +18,23 @@ use Rattle.theory.specs.DueTimes.{dueTime, dues}
 use Rattle.theory.specs.Sources.{own}
 use Rattle.theory.proofs.Cases.{by-lt, by-test}
 use Rattle.table.specs.declared.Table.{Table}
+use Rattle.table.specs.declared.CostAnswer.the-variants as cost-answer
+use Rattle.table.specs.Costs.{costLimits, limitOf, costAnswer}
 use Rattle.table.specs.Rows.{fromOneTo, rowInRange}
 use Rattle.table.proofs.Ranges.{in-range-of}
 use Rattle.due.specs.Kept.{earlier, dueOf}
 use Rattle.due.proofs.Laws.{due-is-the-papers}
 use Rattle.jobs.specs.Places.{maxPlaces, jobsOf}
 use Rattle.run.specs.declared.Run.{Run}
-use Rattle.run.specs.Runs.{rowAt, costLimit, keptOf}
-use Rattle.run.specs.Sound.{soundOf}
+use Rattle.run.specs.Runs.{rowInUse, rowAt, costLimit, keptOf}
+use Rattle.run.specs.Sound.{soundOf, Whole}
 use Rattle.run.specs.Release.{released}
 use Rattle.run.specs.Ticking.{ticked}
-use Rattle.run.proofs.Release.{each-release}
+use Rattle.run.proofs.Release.{bounded, each-release, one-test-means}
 use Rattle.run.proofs.Ticking.{counted}
 use Rattle.run.specs.Answers.{accepted, releaseSays, tickSays}
 use Rattle.run.specs.Answers as says
-use Rattle.promise.specs.Traces.{Call, Event, runAfter, eventOf, runAt, clockOf, jobsIn, unfinishedIn}
+use Rattle.promise.specs.Traces.{Call, Event, runAfter, eventOf, runAt, Told, told, clockOf, jobsIn, unfinishedIn}
 use Rattle.promise.specs.Refusals.{nextDue, releaseAnswer, ReleasesByTheTrace, TicksByTheTrace, PlacesAreEnough, Refused, RefusedChangesNothing}
 use Rattle.promise.proofs.Bridge.{Bridge}
 use Rattle.promise.proofs.BridgeHolds.{bridge}
@@ -50,8 +53,16 @@ total-of-ones (a ∷ l) = omega (arith, total-of-ones l)
 abbrev dueKept : Run → (row : ℕ) → ℕ
 dueKept run row = let r = rowAt (run .table) row in dueTime (r .x) (r .y) (r .d) (earlier (keptOf run row)) (run .clock .0)
 
--- What a release of a sound run says, by its tests, of a row that is in use ..
-says-by-tests : (run : Run) (row cost : ℕ) → soundOf run ≡ true → row < run .table .count → rowInRange (rowAt (run .table) row) ≡ true
+-- The one test of row number and cost, in the table's own terms.
+one-test : (run : Run) (row cost : ℕ) → soundOf run ≡ true → Whole run
+    → costAnswer (limitOf (costLimits (run .table)) row) cost
+    ≡ cond (rowInUse (run .table) row)
+    (cond (fromOneTo (costLimit (run .table) row) cost) cost-answer.Allowed (cost-answer.Refused CostOutOfRange))
+    (cost-answer.Refused NoSuchRow)
+one-test run row cost sound whole = one-test-means (run .table) (bounded run sound .few-rows) (whole .all-rows) row cost
+
+-- What a release of a sound run says, by its tests, of a row that is in use.
+says-by-tests : (run : Run) (row cost : ℕ) → soundOf run ≡ true → Whole run → row < run .table .count → rowInRange (rowAt (run .table) row) ≡ true
     → releaseSays (released run row cost .answer)
     ≡ cond (fromOneTo (costLimit (run .table) row) cost)
     (cond (ltb (run .pending .count) maxPlaces)
@@ -59,22 +70,22 @@ says-by-tests : (run : Run) (row cost : ℕ) → soundOf run ≡ true → row < 
     (says.ReleaseSays.refused 8 0))
     (says.ReleaseSays.refused 7 0)
 unfolding released dueOf
-says-by-tests run row cost sound in-use in-range = rw (sound, lt-ltb row (run .table .count) in-use, in-range)
+says-by-tests run row cost sound whole in-use in-range = rw (sound, one-test run row cost sound whole, lt-ltb row (run .table .count) in-use)
     (by-test (fromOneTo (costLimit (run .table) row) cost)
     (λ fits. rw fits (by-test (ltb (run .pending .count) maxPlaces)
-    (λ room. rw room (by-test (leb (dueKept run row) maxTime) (λ in-time. rw in-time) (λ late. rw late)))
+    (λ room. rw (room, in-range) (by-test (leb (dueKept run row) maxTime) (λ in-time. rw in-time) (λ late. rw late)))
     (λ full. rw full)))
     (λ fits-not. rw fits-not))
 
--- .. and of one that is not.
-says-no-such-row : (run : Run) (row cost : ℕ) → soundOf run ≡ true → run .table .count ≤ row
+-- What it says of a row that is not in use.
+says-no-such-row : (run : Run) (row cost : ℕ) → soundOf run ≡ true → Whole run → run .table .count ≤ row
     → releaseSays (released run row cost .answer) ≡ says.ReleaseSays.refused 6 0
 unfolding released
-says-no-such-row run row cost sound unused = rw (sound, le-ltb row (run .table .count) unused)
+says-no-such-row run row cost sound whole unused = rw (sound, one-test run row cost sound whole, le-ltb row (run .table .count) unused)
 
 module _ {t : Table} {run : Run} {es : List Event} (b : Bridge t run es) where
   -- As many jobs are pending as are unfinished.
-  pending-count : run .pending .count ≡ unfinishedIn es
+  pub pending-count : run .pending .count ≡ unfinishedIn es
   pending-count =
       omega (arith, unfinished-weigh-as-pending b (λ _. 1), total-of-ones (jobsOf (run .pending)), counted run (b .sound, b .whole))
 
@@ -94,9 +105,9 @@ module _ {t : Table} {run : Run} {es : List Event} (b : Bridge t run es) where
   -- A release is answered by the trace.
   pub release-by-the-trace : (row cost : ℕ) → releaseSays (released run row cost .answer) ≡ releaseAnswer t es row cost
   release-by-the-trace row cost = rw (← b .same-table) (by-lt row (run .table .count)
-      (λ in-use. says-by-tests run row cost (b .sound) in-use (row-in-range row in-use)
+      (λ in-use. says-by-tests run row cost (b .sound) (b .whole) in-use (row-in-range row in-use)
       ∙ rw (lt-ltb row (run .table .count) in-use, due-as-next row in-use, pending-count, ← b .next-serial))
-      (λ unused. says-no-such-row run row cost (b .sound) unused ∙ rw (le-ltb row (run .table .count) unused)))
+      (λ unused. says-no-such-row run row cost (b .sound) (b .whole) unused ∙ rw (le-ltb row (run .table .count) unused)))
 
   -- A tick is refused with 10 at place 0, and at the last time only.
   pub tick-by-the-trace : (number place : ℕ)
@@ -115,28 +126,28 @@ pub refused-leaves-the-run : (run : Run) → soundOf run ≡ true → (c : Call)
 refused-leaves-the-run run sound (Call.release row cost) =
     each-release run row cost (λ step. Refused (Event.release row cost (releaseSays (step .answer))) → step .run ≡ run)
     (λ r refused. refl)
-    (λ due passed given refused. absurd refused)
+    (λ due passed given refused. absurd (omega (arith, ap (λ (t : Told). length (t .jobs)) (refused (told [])))))
 refused-leaves-the-run run sound Call.tick =
     each-tick run sound (λ step. Refused (Event.tick (tickSays (step .answer)) (step .late)) → step .run ≡ run)
     (λ last refused. refl)
-    (λ h none refused. absurd refused)
-    (λ h some refused. absurd refused)
+    (λ h none refused. absurd (omega (arith, ap (λ (t : Told). t .clock) (refused (told [])))))
+    (λ h some refused. absurd (omega (arith, ap (λ (t : Told). t .clock) (refused (told [])))))
 
 -- ---- the promises
 
--- Every release is answered as the trace says, ..
+-- Every release is answered as the trace says.
 pub releases-by-the-trace : ReleasesByTheTrace
 releases-by-the-trace bytes ok calls = release-by-the-trace (bridge bytes ok calls)
 
--- .. a tick is refused after the last time only, ..
+-- A tick is refused after the last time only.
 pub ticks-by-the-trace : TicksByTheTrace
 ticks-by-the-trace bytes ok calls = tick-by-the-trace (bridge bytes ok calls)
 
--- .. there is a place for every unfinished job, ..
+-- There is a place for every unfinished job.
 pub places-are-enough : PlacesAreEnough
 places-are-enough bytes ok calls = let b = bridge bytes ok calls in omega (arith, pending-count b, sound-facts b .few-pending)
 
--- .. and a refused call changes nothing.
+-- A refused call changes nothing.
 pub refused-changes-nothing : RefusedChangesNothing
 unfolding runAt
 refused-changes-nothing bytes ok calls = refused-leaves-the-run (runAt bytes calls) (bridge bytes ok calls .sound)

@@ -12,13 +12,13 @@ use Rattle.numbers.proofs.Laws.{written-reads-back as reads-back-there, one-spe
 use Rattle.numbers.proofs.Answers.{numbers-said-apart}
 use Rattle.promise.specs.Spelling.{WrittenReadsBack, OneSpelling}
 
--- A number that was written reads back ..
+-- A number that was written reads back.
 pub written-reads-back : WrittenReadsBack
 written-reads-back n took buffer said =
     let wrote = numbers-said-apart .1 (written n (length buffer)) (write.Length took) said in
     rw wrote (ap numberSays (reads-back-there n took buffer wrote))
 
--- .. and where a number reads, its one spelling stands.
+-- Where a number reads, its one spelling stands.
 pub one-spelling : OneSpelling
 one-spelling s at n next bytes said =
     let number : Number = record { value = n; next = next } in

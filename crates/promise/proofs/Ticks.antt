@@ -1,8 +1,9 @@
 -- A tick of a sound run has three answers: refused (10) at the last clock, idle where nothing is pending, and else it ran the job that goes first.
 -- (docs/RULES.md, sections 6.10 to 6.16.)
-use Prim.Native.Nat.{_≤_, _<_}
-use mathlib.Core.Path.{_≡_}
+use Prim.Native.Nat.{ℕ, _≤_, _<_}
+use mathlib.Core.Path.{_≡_, refl}
 use mathlib.Core.Bool.{true}
+use mathlib.Core.List.{List, _∷_}
 use native.Mathlib.Omega.{arith}
 use Rattle.kinds.specs.Numbering.{maxTime}
 use Rattle.kinds.specs.declared.Refusal.the-variants.{TimeTooLate}
@@ -11,7 +12,23 @@ use Rattle.run.specs.declared.Run.{Run}
 use Rattle.run.specs.declared.TickStep.{TickStep}
 use Rattle.run.specs.Sound.{soundOf}
 use Rattle.run.specs.Ticking.{refusedTick, idleTick, busyTick, ticked}
+use Rattle.run.specs.Answers.{ReleaseSays, accepted, TickSays, idle, ran}
+use Rattle.run.specs.Answers as says
 use Rattle.run.proofs.Ticking.{tick-too-late, tick-idle, tick-busy}
+use Rattle.promise.specs.Traces.{Event, told, clockOf, jobsIn}
+
+-- Whatever it is answered, a tick tells of no job.
+pub no-job-by-a-tick : (a : TickSays) (late : ℕ) (es : List Event) → jobsIn (Event.tick a late ∷ es) ≡ jobsIn es
+unfolding told
+no-job-by-a-tick idle late es = refl
+no-job-by-a-tick (ran serial fin) late es = refl
+no-job-by-a-tick (says.TickSays.refused number place) late es = refl
+
+-- Whatever it is answered, a release tells of no tick.
+pub no-tick-by-a-release : (row cost : ℕ) (a : ReleaseSays) (es : List Event) → clockOf (Event.release row cost a ∷ es) ≡ clockOf es
+unfolding told
+no-tick-by-a-release row cost (accepted serial due) es = refl
+no-tick-by-a-release row cost (says.ReleaseSays.refused number place) es = refl
 
 -- What holds of each of the three, where it is given, holds of the tick.
 pub each-tick : (run : Run) → soundOf run ≡ true → (P : TickStep → Type 0)
@@ -19,8 +36,8 @@ pub each-tick : (run : Run) → soundOf run ≡ true → (P : TickStep → Type 
     → (run .clock .0 < maxTime → run .pending .count ≡ 0 → P (idleTick run))
     → (run .clock .0 < maxTime → 1 ≤ run .pending .count → P (busyTick run))
     → P (ticked run)
-each-tick run sound P refused idle busy = by-lt (run .clock .0) maxTime
+each-tick run sound P refused idling busy = by-lt (run .clock .0) maxTime
     (λ h. by-lt 0 (run .pending .count)
     (λ some. rw (tick-busy run sound h some) (busy h some))
-    (λ none. rw (tick-idle run sound h (omega arith)) (idle h (omega arith))))
+    (λ none. rw (tick-idle run sound h (omega arith)) (idling h (omega arith))))
     (λ h. rw (tick-too-late run sound h) (refused h))

@@ -1,5 +1,5 @@
--- Units. What the answers of the ticks tell of a job's units is what the theory counts; and an accepted job that has had fewer units than its cost is a
--- pending one, and conversely. So a sum over the unfinished accepted jobs is the same sum over the pending ones. (docs/RULES.md, sections 1.7, 6.1 and 6.26.)
+-- Units. An accepted job that has had fewer units than its cost is a pending one, and conversely. So a sum over the unfinished accepted jobs is the same sum
+-- over the pending ones. (docs/RULES.md, sections 1.7, 6.1 and 6.26.)
 use Prim.Native.Nat.{ℕ, _+_, _≤_}
 use mathlib.Core.Path.{_≡_, refl, sym, ap, subst, _∙_}
 use mathlib.Core.Logic.{_≢_}
@@ -11,7 +11,7 @@ use borrow.Author.Tests.{ltb-true, ltb-false, lt-ltb, eq-eqb, ne-eqb, eqb-false,
 use Rattle.kinds.proofs.Apart.{impossible}
 use Rattle.theory.specs.Lists.{All, total, weightIf}
 use Rattle.theory.specs.Jobs.{Job, named, weighed}
-use Rattle.theory.specs.Trace.{Waiting, units, Accounted, Fate, waits, over, served, ended}
+use Rattle.theory.specs.Trace.{Waiting, Accounted, Fate, waits, over, served, ended}
 use Rattle.theory.proofs.Cases.{by-eq, by-test}
 use Rattle.theory.proofs.Lists.{all-of, all-of-members, all-at, total-plus, total-zero, weight-if, weight-unless, none-passes, the-only-one}
 use Rattle.theory.proofs.Jobs.{at-most-one-named, one-job-a-name}
@@ -25,21 +25,9 @@ use Rattle.jobs.proofs.Laws.{distinct-means}
 use Rattle.run.specs.declared.Run.{Run}
 use Rattle.run.specs.Sound.{Sound}
 use Rattle.run.proofs.Ticking.{facts}
-use Rattle.run.specs.Answers.{idle, ran}
-use Rattle.run.specs.Answers as says
-use Rattle.promise.specs.Traces.{Event, jobsIn, unitsOf, unfinished}
-use Rattle.promise.proofs.Bridge.{waitingOf, waitingIn, ticksOf, Bridge}
-
--- ---- units
-
--- The units that the ticks gave to a serial are those that the theory counts.
-pub units-counted : (s : ℕ) (es : List Event) → unitsOf s es ≡ units s (ticksOf es)
-unfolding unitsOf units total ticksOf
-units-counted s [] = refl
-units-counted s (Event.release row cost a ∷ es) = units-counted s es
-units-counted s (Event.tick idle late ∷ es) = omega (arith, units-counted s es)
-units-counted s (Event.tick (ran serial fin) late ∷ es) = omega (arith, units-counted s es)
-units-counted s (Event.tick (says.TickSays.refused n place) late ∷ es) = units-counted s es
+use Rattle.promise.specs.Traces.{Event, jobsIn, ticksOf, unitsOf, unfinished}
+use Rattle.promise.specs.Link.{jobOf, waitingOf, waitingIn}
+use Rattle.promise.proofs.Bridge.{Bridge}
 
 -- ---- sums
 
@@ -57,18 +45,14 @@ total-same v w (a ∷ l) h = omega (arith, total-same v w l (h .1))
 
 -- ---- pending jobs
 
--- A pending job as it was accepted.
-abbrev pub jobOf : PendingJob → Job
-jobOf p = waitingOf p .job
-
--- Where no pending job has the serial s, none passes for it ..
+-- Where no pending job has the serial s, none passes the test for it.
 none-of-a-serial : (s : ℕ) (ps : List PendingJob) → hasNot s ps ≡ true → All (λ p. eqb s (p .serial .0) ≡ false) ps
 none-of-a-serial s [] h = tt
 none-of-a-serial s (p ∷ ps) h =
     let apart = both-true (not (eqb (p .serial .0) s)) (hasNot s ps) h in
     (ne-eqb s (p .serial .0) (λ e. eqb-false (p .serial .0) s (not-true (eqb (p .serial .0) s) (apart .0)) (sym e)), none-of-a-serial s ps (apart .1))
 
--- .. and of pending jobs of distinct serials at most one has it.
+-- Of pending jobs with distinct serials at most one has the serial s.
 at-most-one-pending : (s : ℕ) (ps : List PendingJob) → distinctSerials ps ≡ true → total (weightIf (λ p. eqb s (p .serial .0)) (λ _. 1)) ps ≤ 1
 unfolding total
 at-most-one-pending s [] h = omega arith
@@ -103,19 +87,19 @@ module _ {t : Table} {run : Run} {es : List Event} (b : Bridge t run es) where
   -- No accepted job has had more than its cost.
   pub never-more-units : (j : Job) → List·Memᴰ j (jobsIn es) → unitsOf (j .name) es ≤ j .cost
   never-more-units j m =
-      rw units-counted (all-at (λ (i : Job). units (i .name) (ticksOf es) ≤ i .cost) (never-more-than-its-cost (b .follows .events) (b .distinct)) m)
+      all-at (λ (i : Job). unitsOf (i .name) es ≤ i .cost) (never-more-than-its-cost (b .follows .events) (b .distinct)) m
 
   -- What is pending is owed.
   pub pending-is-owed : (p : PendingJob) → List·Memᴰ p (jobsOf (run .pending)) → Owed es p
   pending-is-owed p m =
       let a = all-at (Accounted (jobsIn es) (ticksOf es)) (waiting-are-accounted (b .follows .events) (b .distinct)) (Memᴰ·map waitingOf m) in
-      record { was-accepted = a .was-accepted; some-left = a .some-left; had-the-rest = omega (arith, a .had-the-rest, units-counted (p .serial .0) es) }
+      record { was-accepted = a .was-accepted; some-left = a .some-left; had-the-rest = a .had-the-rest }
 
-  -- So a pending job is unfinished ..
+  -- So a pending job is unfinished.
   pub pending-is-unfinished : (p : PendingJob) → List·Memᴰ p (jobsOf (run .pending)) → unfinished es (jobOf p) ≡ true
   pending-is-unfinished p m = let o = pending-is-owed p m in lt-ltb (unitsOf (p .serial .0) es) (p .cost) (omega arith)
 
-  -- .. and an unfinished accepted job is pending.
+  -- An unfinished accepted job is pending.
   pub unfinished-is-pending : (j : Job) → List·Memᴰ j (jobsIn es) → unfinished es j ≡ true → IsPending run j
   unfinished-is-pending j m h = by-fate (all-at _ (every-job-has-its-fate (b .follows .events) (b .distinct)) m)
     where
@@ -123,7 +107,7 @@ module _ {t : Table} {run : Run} {es : List Event} (b : Bridge t run es) where
       by-fate (waits u) =
           let found = Memᴰ·of-map waitingOf (jobsOf (run .pending)) (u .among) in
           record { place = found .0; pending = found .1; its-own = ap (λ (w : Waiting). w .job) (found .2) }
-      by-fate (over (served e)) = absurd (omega (arith, e, units-counted (j .name) es, ltb-true (unitsOf (j .name) es) (j .cost) h))
+      by-fate (over (served e)) = absurd (omega (arith, e, ltb-true (unitsOf (j .name) es) (j .cost) h))
       by-fate (over (ended u)) = absurd (List·Memᴰ·not-nil (u .among))
 
   -- The others have had their cost.
@@ -148,7 +132,7 @@ module _ {t : Table} {run : Run} {es : List Event} (b : Bridge t run es) where
     abbrev shared : Job → PendingJob → ℕ
     shared j p = weightIf (λ q. eqb (j .name) (q .serial .0)) (λ _. w j) p
 
-    -- For all pending jobs together it weighs what it should if it is unfinished, and else nothing ..
+    -- For all pending jobs together an accepted job weighs what it should if it is unfinished, and else nothing.
     weight-of-accepted : (j : Job) → List·Memᴰ j (jobsIn es) → weightIf (unfinished es) w j ≡ total (shared j) (jobsOf (run .pending))
     weight-of-accepted j m =
         let its : PendingJob → Bool = λ p. eqb (j .name) (p .serial .0) in
@@ -161,7 +145,7 @@ module _ {t : Table} {run : Run} {es : List Event} (b : Bridge t run es) where
         (λ h. weight-unless (unfinished es) w j h ∙ sym (none-passes its (λ _. w j) (jobsOf (run .pending))
         (all-of-members (jobsOf (run .pending)) (λ p k. ne-eqb (j .name) (p .serial .0) (not-its j m h p k)))))
 
-    -- .. and all accepted jobs together weigh for a pending one what that does itself.
+    -- For one pending job all accepted jobs together weigh what that job does.
     weight-of-pending : (p : PendingJob) → List·Memᴰ p (jobsOf (run .pending)) → total (λ j. shared j p) (jobsIn es) ≡ w (jobOf p)
     unfolding weighed
     weight-of-pending p m =

@@ -22,8 +22,8 @@ use Rattle.run.specs.declared.Run.{Run}
 use Rattle.run.specs.Ticking.{runWith}
 use Rattle.run.specs.Answers.{accepted, idle, ran}
 use Rattle.run.specs.Answers as says
-use Rattle.promise.specs.Traces.{Event, clockOf, jobsIn}
-use Rattle.promise.proofs.Bridge.{waitingOf, waitingIn, ticksOf, Follows}
+use Rattle.promise.specs.Traces.{Event, told, clockOf}
+use Rattle.promise.specs.Link.{waitingOf, waitingIn, Follows}
 
 -- ---- an element and its place
 
@@ -33,13 +33,13 @@ module _ {A : Type 0} where
   insert-last a [] = here
   insert-last a (b ∷ l) = there (insert-last a l)
 
-  -- What stands at a place was put in there, ..
+  -- What stands at a place was put in there.
   insert-at : (d : A) (l : List A) (i : ℕ) → i < length l → Insert (getD l i d) (without l i) l
   insert-at d [] i h = absurd (not-suc-le-zero h)
   insert-at d (a ∷ l) zero h = here
   insert-at d (a ∷ l) (suc i) h = there (insert-at d l i (le-of-suc-le-suc h))
 
-  -- .. and so is what takes its place.
+  -- What takes its place is put in there.
   insert-set : (a : A) (l : List A) (i : ℕ) → i < length l → Insert a (without l i) (set l i a)
   insert-set a [] i h = absurd (not-suc-le-zero h)
   insert-set a (b ∷ l) zero h = here
@@ -82,11 +82,11 @@ module _ (js : List PendingJob) (at : ℕ) where
   left = its .left - 1
 
   module _ (inside : at < length js) (some-left : 1 ≤ its .left) where
-    -- It waited, beside the rest, ..
+    -- The job waited, beside the rest.
     waited : Insert (record { job = waitingOf its .job; left = suc left }) (map waitingOf (without js at)) (map waitingOf js)
     waited = let q : suc left ≡ its .left = omega arith in rw q (insert-map waitingOf (insert-at noJob js at inside))
 
-    -- .. and is gone after its last unit, and else waits on.
+    -- It is gone after its last unit, and else waits on.
     onward : Onward (waitingOf its .job) left (map waitingOf (without js at)) (map waitingOf (unitAt js at))
     onward = elim (decLe (its .left) 1) [
       | yes l ↦ let q : left ≡ 0 = omega arith in rw (le-leb (its .left) 1 l, q) done
@@ -102,21 +102,21 @@ module _ (js : List PendingJob) (at : ℕ) where
 -- ---- the theory's trace, one event longer
 
 module _ {run : Run} {es : List Event} (f : Follows run es) where
-  -- A refused release is no event of it ..
+  -- A refused release is no event of the theory's trace.
   pub follows-refused-release : (row cost number place : ℕ) → Follows run (Event.release row cost (says.ReleaseSays.refused number place) ∷ es)
-  unfolding clockOf jobsIn ticksOf
+  unfolding told
   follows-refused-release row cost number place = record { events = f .events; earliest-due = f .earliest-due; never-idle = f .never-idle }
 
-  -- .. and neither is a refused tick.
+  -- A refused tick is no event of it.
   pub follows-refused-tick : (number place late : ℕ) → Follows run (Event.tick (says.TickSays.refused number place) late ∷ es)
-  unfolding clockOf jobsIn ticksOf
+  unfolding told
   follows-refused-tick number place late = record { events = f .events; earliest-due = f .earliest-due; never-idle = f .never-idle }
 
   -- A job is accepted, at the end of what is pending: released now, with all of its cost left.
   pub follows-accepted : (next : Run) (row cost serial due : ℕ) (j : PendingJob) → 1 ≤ cost
       → waitingOf j ≡ record { job = record { name = serial; source = row; release = clockOf es; due = due; cost = cost }; left = cost }
       → jobsOf (next .pending) ≡ jobsOf (run .pending) ++ (j ∷ []) → Follows next (Event.release row cost (accepted serial due) ∷ es)
-  unfolding clockOf jobsIn ticksOf EarliestDueFirst NeverIdlesInVain
+  unfolding told EarliestDueFirst NeverIdlesInVain
   follows-accepted next row cost serial due j some-cost its jobs =
       let job : Job = record { name = serial; source = row; release = clockOf es; due = due; cost = cost } in
       let put : Insert (record { job = job; left = cost }) (waitingIn run) (waitingIn next) = rw (jobs, ← its) (waits-last (jobsOf (run .pending)) j) in
@@ -125,14 +125,14 @@ module _ {run : Run} {es : List Event} (f : Follows run es) where
   module _ (clock late : ℕ) where
     -- A tick idles: nothing waits.
     pub follows-idle : waitingIn run ≡ [] → Follows (runWith run clock (run .pending)) (Event.tick idle late ∷ es)
-    unfolding clockOf jobsIn ticksOf EarliestDueFirst NeverIdlesInVain
+    unfolding told EarliestDueFirst NeverIdlesInVain
     follows-idle none = record { events = theory.Trace.idle (f .events) refl; earliest-due = f .earliest-due; never-idle = (none, f .never-idle) }
 
     -- A job has the tick: the one at a place that comes after none of the others.
     pub follows-ran : (p : Pending) (at : ℕ) (finished : Bool) → IsFirst (jobsOf (run .pending)) at → 1 ≤ getD (jobsOf (run .pending)) at noJob .left
         → jobsOf p ≡ unitAt (jobsOf (run .pending)) at
         → Follows (runWith run clock p) (Event.tick (ran (getD (jobsOf (run .pending)) at noJob .serial .0) finished) late ∷ es)
-    unfolding clockOf jobsIn ticksOf EarliestDueFirst NeverIdlesInVain
+    unfolding told EarliestDueFirst NeverIdlesInVain
     follows-ran p at finished first some-left jobs =
         let js = jobsOf (run .pending) in
         let goes : Onward (waitingOf (its js at) .job) (left js at) (map waitingOf (without js at)) (map waitingOf (jobsOf p)) =

@@ -1,17 +1,20 @@
--- At the host. Where `judge` says feasible of a table's bytes, a replay of any script with these bytes is never late: it never answers 23, its jobs late are 0, and the
--- clock never stops its final ticks. (The 10 of a script time that is too late has its place inside the script; that of the final ticks has the script's length.)
--- (Demand 3 at the host's calls; docs/RULES.md, sections 8 and 9.)
-use Prim.Native.Nat.{ℕ, _<_}
+-- At the host. Where `judge` says feasible of a table's bytes, a replay of any script with these bytes is never late: it never answers 23, its jobs late are 0,
+-- and the clock never stops its final ticks. (The 10 of a script time that is too late has its place inside the script; that of the final ticks has the
+-- script's length.) (Demand 3 at the host's calls; docs/RULES.md, sections 8 and 9.)
+use Prim.Native.Nat.{ℕ, _^_, _<_}
 use mathlib.Core.Path.{_≡_}
 use mathlib.Core.Logic.{_≢_}
+use mathlib.Core.Option.{Option}
 use mathlib.Core.List.{List}
 use lib.ListN.{length}
 use Rattle.kinds.specs.Numbering.{Said}
 use Rattle.numbers.specs.Laws.{Bytes}
+use Rattle.table.specs.Tables.{tableRead}
 use Rattle.replay.specs.Outcome.{replayOf, replaySays}
 use Rattle.host.specs.Answer.{VerdictAnswered}
 use Rattle.host.specs.Laws.{Filled, ReplayLeaves}
 use Rattle.promise.specs.InTime.{SaidFeasible}
+use Rattle.promise.specs.NoOrder.{namedJobs, Serves}
 
 -- What is said of a replay that is not late. (`end` is the script's length.)
 pub record NotLate (end : ℕ) (said : Said) : Type 0 where
@@ -36,3 +39,9 @@ AtHostCalls = (table script : List ℕ) → Bytes table → Bytes script
     → (lent written : List ℕ) → VerdictAnswered table lent 20 written
     → (log answer : List ℕ) (status : ℕ) (after left : List ℕ) → ReplayLeaves table script log answer status after left
     → CallNotLate (length script) status after
+
+-- Where `verdict` may return 21 of a table, nobody serves the jobs that the length in the answer buffer names. (The buffer holds numbers of 64 bits.)
+abbrev pub NoOrderAtHostCalls : Type 0
+NoOrderAtHostCalls = (table : List ℕ) → Bytes table → (lent written : List ℕ) → VerdictAnswered table lent 21 written
+    → (L demand : ℕ) → L < 2 ^ 64 → Filled (record { number = 21; first = L; second = demand }) written
+    → (who : ℕ → Option ℕ) → ¬ Serves who (namedJobs (tableRead table .table) L)

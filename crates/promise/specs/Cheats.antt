@@ -1,4 +1,5 @@
--- The cheats, shut out: programs that would look as if they kept the promises, each with what shows that no program that meets the contracts can be it. (docs/CHEATS.md.)
+-- The cheats, shut out: programs that would look as if they kept the promises, each with what shows that no program that meets the contracts can be it.
+-- (docs/CHEATS.md.)
 use Prim.Native.Nat.{ℕ, _≤_, _<_}
 use mathlib.Core.Path.{_≡_}
 use mathlib.Core.Bool.{false}
@@ -14,11 +15,11 @@ use Rattle.promise.specs.Traces.{Call, runAt}
 use Rattle.promise.specs.Choice.{nextTick}
 use Rattle.promise.specs.Examples.{v1, v3, v8}
 
--- Refuse everything: of V1 no word but feasible is right ..
+-- Refuse every table: of V1 no word but feasible is right.
 abbrev pub NotAllRefused : Type 0
 NotAllRefused = (v : Verdict) → Judged v1 v → verdictSays v ≡ record { number = 20; first = 0; second = 0 }
 
--- .. and of V3 a job of row 0 is accepted at once, due at 4.
+-- Refuse every release: on V3 a job of row 0 is accepted at once, due at 4.
 abbrev pub NotAllReleasesRefused : Type 0
 NotAllReleasesRefused = releaseSays (released (runAt v3 []) 0 2 .answer) ≡ accepted 0 4
 

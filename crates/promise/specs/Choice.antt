@@ -1,5 +1,5 @@
--- Choice. A tick runs the unfinished accepted job with the earliest due time, the one with the lowest serial among equals, and is idle exactly when there is none.
--- All of it is said of the trace alone, on any table that a run can be started on. (Demand 2; docs/RULES.md, sections 6.10 to 6.16.)
+-- Choice. A tick runs the unfinished accepted job with the earliest due time, the one with the lowest serial among equals, and is idle exactly when there is
+-- none. All of it is said of the trace alone, on any table that a run can be started on. (Demand 2; docs/RULES.md, sections 6.10 to 6.16.)
 use Prim.Native.Nat.{ℕ, suc, _+_, _≤_, _<_}
 use mathlib.Core.Path.{_≡_}
 use mathlib.Core.Logic.{_↔_}
@@ -49,8 +49,8 @@ EarliestDueFirst = (bytes : List ℕ) → Bytes bytes → (calls : List Call) (s
 abbrev pub lateAt : (time : ℕ) → List Event → Job → Bool
 lateAt time es j = eqb (j .due) time && unfinished es j
 
--- The late count is the number of accepted jobs that are due at the new clock and, with this tick's unit counted, have had fewer units than their cost. (Beside a
--- refused tick it is 0, as no job is due after 2^40.)
+-- The late count is the number of accepted jobs that are due at the new clock and, with this tick's unit counted, have had fewer units than their cost. (Beside
+-- a refused tick it is 0, as no job is due after 2^40.)
 abbrev pub LateCountIsTheLate : Type 0
 LateCountIsTheLate = (bytes : List ℕ) → Bytes bytes → (calls : List Call)
     → nextLate bytes calls

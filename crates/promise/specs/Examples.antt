@@ -1,35 +1,40 @@
--- The examples of the rules, V1 to V8 and D1 to D3, as one list under one claim. Where a table is feasible, the claim is that every length fits, however long; D1 to
--- D3 are claimed for every cost c in range. (docs/RULES.md, sections 4 and 5.)
+-- The examples of the rules, V1 to V8 and D1 to D3, as one list under one claim. Where a table is feasible, the claim is that every length fits, however long;
+-- D1 to D3 are claimed for every cost c in range. (docs/RULES.md, sections 4 and 5.)
 use Prim.Native.Nat.{ℕ, _≤_}
 use mathlib.Core.Path.{_≡_}
 use mathlib.Core.List.{List, [], _∷_}
+use Rattle.kinds.specs.Numbering.{Said}
 use Rattle.theory.specs.Lists.{All}
 use Rattle.table.specs.declared.Row.{Row}
 use Rattle.table.specs.Limits.{maxC}
+use Rattle.table.specs.Content.{rowsAlone}
 use Rattle.table.specs.Tables.{tableRead}
 use Rattle.table.specs.Laws.{spelledTable}
 use Rattle.due.specs.declared.Kept.{Kept}
 use Rattle.due.specs.Kept.{nothingKept, dueOf, keptWith}
 use Rattle.verdict.specs.declared.Verdict.{Verdict}
-use Rattle.verdict.specs.declared.Verdict.the-variants.{Feasible, Overloaded}
 use Rattle.verdict.specs.Demand.{tableDemand}
-use Rattle.verdict.specs.Verdict.{Judged}
+use Rattle.verdict.specs.Verdict.{Judged, verdictSays}
 use Rattle.promise.specs.NoOrder.{dueAt}
 
--- An example: bytes and their verdict; a table's demand in a length; or releases of a row, and their due times.
+-- An example: bytes and what their verdict says; a table's demand in a length; or releases of a row, and their due times.
 pub data Example : Type 0 where
-  verdict : (bytes : List ℕ) → Verdict → Example
+  verdict : (bytes : List ℕ) → Said → Example
   demand : (bytes : List ℕ) (L units : ℕ) → Example
   due-times : (x y d : ℕ) (releases due-times : List ℕ) → Example
 
--- The due times of releases, one after another, by the definitions that a release goes by.
+-- The due times of releases at full cost, one after another, by the definitions that a release goes by.
 abbrev pub dueTimesFrom : Kept → Row → (releases : List ℕ) → List ℕ
 dueTimesFrom k r [] = []
-dueTimesFrom k r (t ∷ ts) = let due = dueAt (dueOf k r t) in due .0 ∷ dueTimesFrom (keptWith k r due) r ts
+dueTimesFrom k r (t ∷ ts) = let due = dueAt (dueOf k r t (r .c)) in due .0 ∷ dueTimesFrom (keptWith k r due) r ts
+
+-- The right verdict of the bytes says this. (`OneVerdict`: there is no other right one.)
+abbrev pub VerdictSays : (bytes : List ℕ) → Said → Type 0
+VerdictSays bytes said = (v : Verdict) × Judged bytes v × (verdictSays v ≡ said)
 
 -- The claim.
 abbrev pub Holds : Example → Type 0
-Holds (verdict bytes v) = Judged bytes v
+Holds (verdict bytes said) = VerdictSays bytes said
 Holds (demand bytes L units) = tableDemand (tableRead bytes .table) L ≡ units
 Holds (due-times x y d releases times) =
     (c : ℕ) → 1 ≤ c → c ≤ maxC → dueTimesFrom nothingKept (record { x = x; y = y; d = d; c = c }) releases ≡ times
@@ -37,8 +42,12 @@ Holds (due-times x y d releases times) =
 abbrev row : (x y d c : ℕ) → Row
 row x y d c = record { x = x; y = y; d = d; c = c }
 
-abbrev overloaded : (length units : ℕ) → Verdict
-overloaded length units = Overloaded (record { length = length; demand = units })
+-- What the two verdicts say: 20; and 21 with the smallest length that fails and its demand.
+abbrev pub feasible : Said
+feasible = record { number = 20; first = 0; second = 0 }
+
+abbrev pub overloaded : (length units : ℕ) → Said
+overloaded length units = record { number = 21; first = length; second = units }
 
 -- V1 and V2 by their bytes, and the other tables by their rows.
 abbrev pub v1 : List ℕ
@@ -48,31 +57,31 @@ abbrev pub v2 : List ℕ
 v2 = 0x01 ∷ 0x01 ∷ 0x02 ∷ 0x06 ∷ 0x01 ∷ []
 
 abbrev pub v3 : List ℕ
-v3 = spelledTable (row 1 4 4 2 ∷ row 1 6 6 3 ∷ [])
+v3 = spelledTable (rowsAlone (row 1 4 4 2 ∷ row 1 6 6 3 ∷ []))
 
 abbrev pub v4 : List ℕ
-v4 = spelledTable (row 1 4 3 2 ∷ row 1 6 5 3 ∷ [])
+v4 = spelledTable (rowsAlone (row 1 4 3 2 ∷ row 1 6 5 3 ∷ []))
 
 abbrev pub v5 : List ℕ
-v5 = spelledTable (row 3 6 6 2 ∷ [])
+v5 = spelledTable (rowsAlone (row 3 6 6 2 ∷ []))
 
 abbrev pub v6 : List ℕ
-v6 = spelledTable (row 3 6 5 2 ∷ [])
+v6 = spelledTable (rowsAlone (row 3 6 5 2 ∷ []))
 
 abbrev pub v7 : List ℕ
-v7 = spelledTable (row 2 1 1 1 ∷ [])
+v7 = spelledTable (rowsAlone (row 2 1 1 1 ∷ []))
 
 abbrev pub v8 : List ℕ
-v8 = spelledTable (row 1 2 10 3 ∷ [])
+v8 = spelledTable (rowsAlone (row 1 2 10 3 ∷ []))
 
 abbrev pub examples : List Example
 examples =
-    verdict v1 Feasible
-    ∷ verdict v2 Feasible
-    ∷ verdict v3 Feasible
+    verdict v1 feasible
+    ∷ verdict v2 feasible
+    ∷ verdict v3 feasible
     ∷ demand v3 12 12
     ∷ verdict v4 (overloaded 11 12)
-    ∷ verdict v5 Feasible
+    ∷ verdict v5 feasible
     ∷ verdict v6 (overloaded 5 6)
     ∷ verdict v7 (overloaded 1 2)
     ∷ verdict v8 (overloaded 26 27)

@@ -1,10 +1,10 @@
--- The promises at work: a feasible table of two rows, with a trace of releases, refusals and ticks to which *In time* and *Share* apply; and an overloaded one, with the
--- jobs that its witness names. Nothing here is promised that isn't promised elsewhere; it shows that the promises are not empty.
-use Prim.Native.Nat.{ℕ, _≤_}
+-- The promises at work: a feasible table of two rows, with a trace of releases, refusals and ticks to which *In time* and *Share* apply; and an overloaded one,
+-- with the jobs that its witness names. Nothing here is promised that isn't promised elsewhere; it shows that the promises are not empty.
+use Prim.Native.Nat.{ℕ, zero, suc, _+_, _≤_}
 use mathlib.Core.Path.{_≡_}
 use mathlib.Core.Bool.{true, false}
-use mathlib.Core.Option.{Option}
-use mathlib.Core.List.{List, [], _∷_}
+use mathlib.Core.Option.{Option, none, some}
+use mathlib.Core.List.{List, [], _∷_, map}
 use Rattle.theory.specs.Lists.{All}
 use Rattle.theory.specs.Jobs.{Job}
 use Rattle.table.specs.Tables.{tableRead}
@@ -12,7 +12,7 @@ use Rattle.run.specs.Answers.{accepted, idle, ran}
 use Rattle.run.specs.Answers as says
 use Rattle.promise.specs.Traces.{Call, Event, trace, clockOf, jobsIn, unitsOf}
 use Rattle.promise.specs.Share.{costsIn, consumedIn}
-use Rattle.promise.specs.NoOrder.{namedJobs, unitsBy}
+use Rattle.promise.specs.NoOrder.{namedJobs, unitsBy, Serves}
 use Rattle.promise.specs.Examples.{v3, v4}
 
 -- On V3: a job of each row, two releases that are refused, four ticks, one more job, and four ticks. (Newest first, as in every trace.)
@@ -59,3 +59,16 @@ NamedByV4 = namedJobs (tableRead v4 .table) 11
 abbrev pub NobodyServesV4 : Type 0
 NobodyServesV4 = (who : ℕ → Option ℕ)
     → ¬ All (λ j. j .cost ≤ unitsBy (j .due) who (j .name)) (job 2 0 0 11 2 ∷ job 1 0 0 7 2 ∷ job 0 0 0 3 2 ∷ job 4 1 0 11 3 ∷ job 3 1 0 5 3 ∷ [])
+
+-- Were each of them due one tick later, somebody could: the ticks go to the jobs in this order. (So it is not the way of counting that no order serves them.)
+abbrev pub oneLater : Job → Job
+oneLater j = record { name = j .name; source = j .source; release = j .release; due = j .due + 1; cost = j .cost }
+
+abbrev pub inThisOrder : List ℕ → ℕ → Option ℕ
+inThisOrder [] t = none
+inThisOrder (n ∷ ns) zero = some n
+inThisOrder (n ∷ ns) (suc t) = inThisOrder ns t
+
+abbrev pub SomebodyServesV4Later : Type 0
+SomebodyServesV4Later =
+    Serves (inThisOrder (0 ∷ 0 ∷ 3 ∷ 3 ∷ 3 ∷ 1 ∷ 1 ∷ 2 ∷ 2 ∷ 4 ∷ 4 ∷ 4 ∷ [])) (map oneLater (namedJobs (tableRead v4 .table) 11))

@@ -1,11 +1,14 @@
 pub mod Traces
+pub mod Link
 pub mod InTime
 pub mod Choice
 pub mod Refusals
 pub mod Share
 pub mod NoOrder
+pub mod NamedJobs
 pub mod Paper
 pub mod AtHost
+pub mod Replays
 pub mod Examples
 pub mod Spelling
 pub mod Instances

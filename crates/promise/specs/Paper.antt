@@ -2,8 +2,9 @@
 use Prim.Native.Nat.{ℕ, _≤_, _<_}
 use mathlib.Core.Path.{_≡_}
 use mathlib.Core.Logic.{_↔_}
-use mathlib.Core.List.{List}
+use mathlib.Core.List.{List, [], _∷_}
 use lib.ListN.{length}
+use Rattle.kinds.specs.Numbering.{values}
 use Rattle.numbers.specs.Laws.{Bytes}
 use Rattle.theory.specs.Lists.{total}
 use Rattle.theory.specs.Paper.{paperDemand}
@@ -11,8 +12,8 @@ use Rattle.theory.specs.DueTimes.{RecurrenceOne, jth, releases, dues}
 use Rattle.theory.specs.Sources.{own}
 use Rattle.table.specs.declared.Row.{Row}
 use Rattle.table.specs.declared.Table.{Table}
-use Rattle.table.specs.declared.TableAnswer.the-variants as answer
 use Rattle.table.specs.Tables.{rowsOf, tableRead}
+use Rattle.table.specs.Answers.{tableSays}
 use Rattle.verdict.specs.declared.Verdict.{Verdict}
 use Rattle.verdict.specs.Verdict.{Judged, verdictSays}
 use Rattle.run.specs.Runs.{rowAt}
@@ -22,9 +23,9 @@ use Rattle.promise.specs.Traces.{Call, trace, jobsIn}
 abbrev pub Theorem42 : Table → Type 0
 Theorem42 t = (L : ℕ) → 0 < L → total (λ (r : Row). paperDemand (r .x) (r .y) (r .d) (r .c) L) (rowsOf t) ≤ L
 
--- Of a table that is accepted, `judge` says feasible exactly when the condition holds.
+-- Of a table that is accepted (it says its period h), `judge` says feasible exactly when the condition holds.
 abbrev pub FeasibleIsTheorem42 : Type 0
-FeasibleIsTheorem42 = (bytes : List ℕ) → Bytes bytes → (h : ℕ) → tableRead bytes .answer ≡ answer.Accepted h → (v : Verdict) → Judged bytes v
+FeasibleIsTheorem42 = (bytes : List ℕ) → Bytes bytes → (h : ℕ) → tableSays (tableRead bytes .answer) ≡ values (h ∷ []) → (v : Verdict) → Judged bytes v
     → (verdictSays v .number ≡ 20) ↔ Theorem42 (tableRead bytes .table)
 
 -- The accepted jobs of a row, counted from 1 in the order of their release, are due as recurrence (1) says.

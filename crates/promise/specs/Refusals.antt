@@ -1,6 +1,6 @@
--- Refused exactly when. What each release and each tick of a trace is answered, by the table and the answers before it alone: 6 and 7 by the table, 8 where so many
--- accepted jobs are unfinished as there are places, 9 where the paper's due time over the row's accepted jobs is above 2^40, 10 after 2^40 ticks, and never 11. A
--- refused call changes nothing. (Demand 1; docs/RULES.md, sections 6 and 10.)
+-- Refused exactly when. What each release and each tick of a trace is answered, by the table and the answers before it alone: 6 and 7 by the table, 8 where so
+-- many accepted jobs are unfinished as there are places, 9 where the paper's due time over the row's accepted jobs is above 2^40, 10 after 2^40 ticks, and
+-- never 11. A refused call changes nothing. (Demand 1; docs/RULES.md, sections 6 and 10.)
 use Prim.Native.Nat.{ℕ, _≤_}
 use mathlib.Core.Path.{_≡_}
 use mathlib.Core.Logic.{_↔_}
@@ -20,7 +20,7 @@ use Rattle.run.specs.Runs.{rowInUse, rowAt, costLimit}
 use Rattle.run.specs.Release.{released}
 use Rattle.run.specs.Answers.{ReleaseSays, accepted, releaseSays}
 use Rattle.run.specs.Answers as says
-use Rattle.promise.specs.Traces.{Call, Event, runAt, eventOf, trace, clockOf, jobsIn, unfinishedIn}
+use Rattle.promise.specs.Traces.{Call, Event, runAt, eventOf, trace, Told, tell, clockOf, jobsIn, unfinishedIn}
 use Rattle.promise.specs.Choice.{nextTick}
 
 -- The due time by the paper's recurrence, over the jobs that the row has had so far.
@@ -51,13 +51,9 @@ TicksByTheTrace = (bytes : List ℕ) → Bytes bytes → (calls : List Call) (nu
 abbrev pub PlacesAreEnough : Type 0
 PlacesAreEnough = (bytes : List ℕ) → Bytes bytes → (calls : List Call) → unfinishedIn (trace bytes calls) ≤ maxPlaces
 
--- The call was refused.
+-- The call was refused: its answer tells of no job and of no tick.
 abbrev pub Refused : Event → Type 0
-Refused (Event.release row cost (accepted serial due)) = ⊥
-Refused (Event.release row cost (says.ReleaseSays.refused n place)) = Unit {0}
-Refused (Event.tick (says.TickSays.refused n place) late) = Unit {0}
-Refused (Event.tick says.TickSays.idle late) = ⊥
-Refused (Event.tick (says.TickSays.ran serial fin) late) = ⊥
+Refused e = (t : Told) → tell e t ≡ t
 
 -- A refused call leaves the run as it was.
 abbrev pub RefusedChangesNothing : Type 0

@@ -1,6 +1,6 @@
--- Share. In any window of time, what a row's jobs that are released and due inside it may cost, and all the units that ticks ever give them, are at most that row's
--- demand in the window's length, whatever the other rows release: on any table, feasible or not, and in windows that reach past the clock. (Demand 3, second
--- sentence; docs/RULES.md, section 5.)
+-- Share. In any window of time, what a row's jobs that are released and due inside it may cost, and all the units that ticks ever give them, are at most that
+-- row's demand in the window's length, whatever the other rows release: on any table, feasible or not, and in windows that reach past the clock. (Demand 3,
+-- second sentence; docs/RULES.md, section 5.)
 use Prim.Native.Nat.{ℕ, _-_, _≤_, _<_}
 use mathlib.Core.Path.{_≡_}
 use mathlib.Core.List.{List}

@@ -6,9 +6,12 @@ use mathlib.Core.List.{List, [], _∷_, _++_, flatten, append-assoc, append-nil,
 use lib.ListN.{length, length-append}
 use denote.Ref.{now}
 use Rattle.script.specs.declared.Record.{Record}
+use Rattle.script.specs.declared.RecordAt.{RecordAt}
 use Rattle.script.specs.declared.RecordRead.the-variants as read
 use Rattle.script.specs.Laws.{spelledRecord, spelledScript, AllCanBeSpelled}
+use Rattle.script.specs.Answers.{recordSays}
 use Rattle.script.proofs.Laws.{record-reads-back, record-is-spelled, end-is-the-length}
+use Rattle.script.proofs.Answers.{scripts-said-apart, refused-record}
 use Rattle.reader.specs.declared.ScriptReader.{ScriptReader}
 use Rattle.reader.specs.Reader.{foundBy, moved}
 use Rattle.reader.specs.Laws.{movedTimes, placed, MovesPastARecord, StaysAtTheEnd, StaysOnARefusal, YieldedByAReader}
@@ -17,13 +20,19 @@ use Rattle.reader.specs.Laws.{StandsAfterTheFirst, FindsTheNext, EndsAft
 -- ---- one move
 
 pub moves-past-a-record : MovesPastARecord
-moves-past-a-record reader found b e = rw (e, record-is-spelled (now (reader .script)) (reader .at) found b e .ends)
+moves-past-a-record reader found b said =
+    let e = scripts-said-apart .0 (foundBy reader) (read.Record found) said in
+    rw (e, record-is-spelled (now (reader .script)) (reader .at) found b e .ends)
+
+-- Where the end is found, the reader stays.
+stays-there : (reader : ScriptReader) → foundBy reader ≡ read.End → moved reader ≡ reader
+stays-there reader e = rw e
 
 pub stays-at-the-end : StaysAtTheEnd
-stays-at-the-end reader e = rw e
+stays-at-the-end reader said = stays-there reader (scripts-said-apart .0 (foundBy reader) read.End said)
 
 pub stays-on-a-refusal : StaysOnARefusal
-stays-on-a-refusal reader r e = rw e
+stays-on-a-refusal reader said e = refused-record (foundBy reader) said e λ r is says. rw is
 
 pub yielded-by-a-reader : YieldedByAReader
 yielded-by-a-reader reader = refl
@@ -53,13 +62,16 @@ stands-after-the-first reader first rest all start =
 
 pub finds-the-next : FindsTheNext
 finds-the-next reader first r rest all can start =
-    rw (stands-after-the-first reader first (spelledRecord r ++ rest) all start, start .holds) (record-reads-back (spelledScript first) r rest can)
+    let here : RecordAt = record { release = r; next = length (spelledScript first) + length (spelledRecord r) } in
+    let found : foundBy (movedTimes (length first) reader) ≡ read.Record here =
+    rw (stands-after-the-first reader first (spelledRecord r ++ rest) all start, start .holds) (record-reads-back (spelledScript first) r rest can) in
+    ap recordSays found
 
 -- At the end more moves change nothing.
 stays-for-good : (n : ℕ) (reader : ScriptReader) → foundBy reader ≡ read.End → movedTimes n reader ≡ reader
 unfolding movedTimes
 stays-for-good zero reader e = refl
-stays-for-good (suc n) reader e = ap (movedTimes n) (stays-at-the-end reader e) ∙ stays-for-good n reader e
+stays-for-good (suc n) reader e = ap (movedTimes n) (stays-there reader e) ∙ stays-for-good n reader e
 
 -- So a reader that has come to the end after m moves is there after any more.
 end-for-good : (m n : ℕ) (reader : ScriptReader) → m ≤ n → foundBy (movedTimes m reader) ≡ read.End → movedTimes n reader ≡ movedTimes m reader
@@ -76,4 +88,4 @@ ends-after-the-last reader rs n all start many =
     let stands : movedTimes (length rs) reader ≡ last =
     stands-after-the-first reader rs [] all (record { holds = whole ∙ sym (append-nil (spelledScript rs)); at-start = start .at-start }) in
     let there : movedTimes n reader ≡ last = end-for-good (length rs) n reader many (ap foundBy stands ∙ end) ∙ stands in
-    (there, ap foundBy there ∙ end)
+    (there, ap recordSays (ap foundBy there ∙ end))

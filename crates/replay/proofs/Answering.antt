@@ -2,67 +2,60 @@
 -- (docs/RULES.md, sections 8.8 to 8.17, 9.5 and 10.)
 use Prim.Native.Nat.{ℕ, _-_, _≤_, _<_}
 use mathlib.Core.Path.{_≡_, refl, sym, ap, ap₂, subst, _∙_}
-use mathlib.Core.Logic.{_⊎_, inl, inr, ⊎-elim}
-use mathlib.Core.List.{List, [], _∷_, _++_, flatten, List·Memᴰ·head, List·Memᴰ·tail, List·Memᴰ·cases-cons, List·Memᴰ·not-nil}
+use mathlib.Core.Logic.{_⊎_, _≢_, _↔_, inl, inr, ⊎-elim}
+use mathlib.Core.List.{List, [], _++_, flatten}
 use native.Mathlib.Omega.{arith}
-use lib.ListN.{length, drop, length-append, length-drop, length-replicate, getD-replicate}
+use lib.ListN.{length, drop, getD, length-append, length-drop, length-replicate, getD-replicate}
 use lib.Seq.{take-at, drop-at}
-use borrow.Author.Tests.{le-leb, lt-leb, lt-ltb, le-ltb, eq-eqb, ne-eqb}
-use Rattle.kinds.specs.Numbering.{maxTime}
-use Rattle.kinds.specs.declared.Finish.{Finish}
+use borrow.Author.Tests.{le-leb, lt-leb, eq-eqb, ne-eqb}
+use Rattle.kinds.specs.Numbering.{Said, maxTime, refusalNumber}
 use Rattle.kinds.specs.declared.Refusal.the-variants.{NoRoom}
 use Rattle.kinds.specs.declared.RefusedAt.{RefusedAt}
+use Rattle.kinds.proofs.Numbering.{numbers-differ, never-zero, no-answer}
 use Rattle.numbers.specs.Laws.{Bytes}
 use Rattle.theory.proofs.Cases.{by-lt}
 use Rattle.table.specs.declared.TableAnswer.the-variants as answer
 use Rattle.table.specs.Tables.{tableRead}
+use Rattle.table.proofs.Answers.{tables-said-apart}
 use Rattle.run.specs.Runs.{started}
 use Rattle.log.specs.Laws.{spelledLog}
+use Rattle.replay.specs.declared.LateJobs.{LateJobs}
 use Rattle.replay.specs.declared.Replayed.{Replayed}
 use Rattle.replay.specs.declared.Replayed.the-variants as replayed
-use Rattle.replay.specs.Play.{Progress, begun}
-use Rattle.replay.specs.Play.{Played, whole, stopped, finalTicks, playedFrom, played}
-use Rattle.replay.specs.Outcome.{lateFinishes, replayOf}
+use Rattle.play.specs.Play.{Progress, begun}
+use Rattle.play.specs.Play.{Played, whole, stopped, finalTicks, playedFrom, played}
+use Rattle.play.specs.Late.{lateFinishes, AllInTime}
+use Rattle.replay.specs.Outcome.{replayOf, replaySays, logLeft}
 use Rattle.replay.specs.Exactly as laws
-use Rattle.replay.specs.Exactly.{AllInTime, Ended, LogHolds}
-use Rattle.replay.proofs.Ticking.{no-more}
-use Rattle.replay.proofs.Laws.{log-reads-back}
-use Rattle.replay.proofs.Stopping.{stopped-by}
+use Rattle.replay.specs.Exactly.{Ended, LogHolds}
+use Rattle.play.proofs.SingleTicks.{no-more}
+use Rattle.play.proofs.Late.{none-late-means}
+use Rattle.play.proofs.Laws.{log-reads-back}
+use Rattle.play.proofs.Stopping.{stopped-by}
 
--- ---- jobs late
+-- ---- what a replay says
 
-pub one-late : laws.OneLate
-unfolding lateFinishes
-one-late f h = rw (lt-ltb (f .due .0) (f .finish .0) h)
+pub never-says-zero : laws.NeverSaysZero
+never-says-zero (replayed.InTime n) = omega arith
+never-says-zero (replayed.Late l) = omega arith
+never-says-zero (replayed.Refused r) = never-zero (r .refusal)
 
-pub one-in-time : laws.OneInTime
-unfolding lateFinishes
-one-in-time f h = rw (le-ltb (f .due .0) (f .finish .0) h)
+-- Outcomes that agree in the three numbers that are said are one.
+same-said : (r q : Replayed) → replaySays r .number ≡ replaySays q .number → replaySays r .first ≡ replaySays q .first
+    → replaySays r .second ≡ replaySays q .second → r ≡ q
+same-said (replayed.InTime n) (replayed.InTime m) k f s = ap replayed.InTime f
+same-said (replayed.InTime n) (replayed.Late l) k f s = absurd (omega arith)
+same-said (replayed.InTime n) (replayed.Refused r) k f s = absurd (no-answer (r .refusal) (omega arith) (omega arith))
+same-said (replayed.Late l) (replayed.InTime m) k f s = absurd (omega arith)
+same-said (replayed.Late l) (replayed.Late m) k f s = ap₂ (λ length late. replayed.Late (record { length = length; late = late })) f s
+same-said (replayed.Late l) (replayed.Refused r) k f s = absurd (no-answer (r .refusal) (omega arith) (omega arith))
+same-said (replayed.Refused r) (replayed.InTime m) k f s = absurd (no-answer (r .refusal) (omega arith) (omega arith))
+same-said (replayed.Refused r) (replayed.Late m) k f s = absurd (no-answer (r .refusal) (omega arith) (omega arith))
+same-said (replayed.Refused r) (replayed.Refused q) k f s =
+    ap₂ (λ kind place. replayed.Refused (record { refusal = kind; place = place })) (numbers-differ (r .refusal) (q .refusal) k) f
 
-pub late-together : laws.LateTogether
-unfolding lateFinishes
-late-together [] gs = omega arith
-late-together (f ∷ fs) gs = omega (arith, late-together fs gs)
-
--- Where none is late all are in time, ..
-all-in-time : (fs : List Finish) → lateFinishes fs ≡ 0 → AllInTime fs
-unfolding lateFinishes
-all-in-time [] none f m = absurd (List·Memᴰ·not-nil m)
-all-in-time (g ∷ fs) none f m =
-    by-lt (g .due .0) (g .finish .0)
-    (λ late. absurd (omega (arith, rw (lt-ltb (g .due .0) (g .finish .0) late) at none)))
-    (λ in-time. ⊎-elim (λ (e : f ≡ g). rw e in-time) (λ n. all-in-time fs (omega arith) f n) (List·Memᴰ·cases-cons m))
-
--- .. and where all are in time none is late.
-none-late : (fs : List Finish) → AllInTime fs → lateFinishes fs ≡ 0
-unfolding lateFinishes
-none-late [] all = refl
-none-late (f ∷ fs) all =
-    let rest = none-late fs (λ g m. all g (List·Memᴰ·tail m)) in
-    rw (le-ltb (f .due .0) (f .finish .0) (all f (List·Memᴰ·head refl)), rest)
-
-pub none-late-means : laws.NoneLateMeans
-none-late-means fs = (all-in-time fs, none-late fs)
+pub said-apart : laws.SaidApart
+said-apart r q e = same-said r q (ap (λ (s : Said). s .number) e) (ap (λ (s : Said). s .first) e) (ap (λ (s : Said). s .second) e)
 
 -- ---- when the answer is which
 
@@ -81,7 +74,7 @@ module _ (t s : List ℕ) (room : ℕ) where
   Means (replayed.Refused r) =
       (played t s ≡ stopped r) ⊎ ((p : Progress) × (n : ℕ) × Ended t s n p × (room < n) × (r ≡ record { refusal = NoRoom; place = length s }))
 
-  -- A play that was stopped is answered so, ..
+  -- A play that was stopped is answered with its refusal.
   was-stopped : (r : RefusedAt) → played t s ≡ stopped r → replayOf t s room ≡ replayed.Refused r
   was-stopped r e = rw e
 
@@ -89,15 +82,15 @@ module _ (t s : List ℕ) (room : ℕ) where
     to-its-end : Ended t s (size p) p
     to-its-end = record { came-to-its-end = e; log-length = refl }
 
-    -- .. one whose log is too long, so, ..
+    -- A play whose log is too long is answered with 12.
     too-long : room < size p → replayOf t s room ≡ replayed.Refused (record { refusal = NoRoom; place = length s })
     too-long long = rw (e, lt-leb (size p) room long)
 
-    -- .. one whose log fits, so, with no job late ..
+    -- A play whose log fits, with no job late, is answered with 22.
     fits-in-time : size p ≤ room → late p ≡ 0 → replayOf t s room ≡ replayed.InTime (size p)
     fits-in-time fits none = rw (e, le-leb (size p) room fits, eq-eqb (late p) 0 none)
 
-    -- .. and with some.
+    -- A play whose log fits, with some jobs late, is answered with 23.
     fits-late : size p ≤ room → 1 ≤ late p → replayOf t s room ≡ replayed.Late (record { length = size p; late = late p })
     fits-late fits some = rw (e, le-leb (size p) room fits, ne-eqb (late p) 0 (λ none. omega arith))
 
@@ -113,40 +106,63 @@ module _ (t s : List ℕ) (room : ℕ) where
           (λ some. subst Means (sym (fits-late p e fits some)) (p, to-its-end p e, fits, refl, some))
           (λ least.
           let none : late p ≡ 0 = omega arith in
-          subst Means (sym (fits-in-time p e fits none)) (p, to-its-end p e, fits, all-in-time (p .since .finishes) none)))
+          subst Means (sym (fits-in-time p e fits none)) (p, to-its-end p e, fits, none-late-means (p .since .finishes) .0 none)))
 
   said-means : {v : Replayed} → replayOf t s room ≡ v → Means v
   said-means said = subst Means said answer-means
 
-pub no-room-means : laws.NoRoomMeans
-no-room-means t s room place table script = (
+-- 12, any other refusal, 22 and 23, each exactly where it is answered.
+pub no-room-answered : (t s : List ℕ) (room place : ℕ) → Bytes t → Bytes s
+    → (replayOf t s room ≡ replayed.Refused (record { refusal = NoRoom; place = place }))
+    ↔ ((p : Progress) × (n : ℕ) × Ended t s n p × (room < n) × (place ≡ length s))
+no-room-answered t s room place table script = (
   λ said. ⊎-elim (λ e. absurd (⊎-elim (λ h. omega arith) (λ h. omega arith) (stopped-by t s _ table script e)))
       (λ w. (w .0, w .1, w .2, w .3, ap (λ (r : RefusedAt). r .place) (w .4))) (said-means t s room said),
   λ w. rw (w .4) (too-long t s room (w .0) (w .2 .came-to-its-end) (rw (w .2 .log-length) at (w .3))),
 )
 
-pub refused-means : laws.RefusedMeans
-refused-means t s room r not-room = (
+pub refused-answered : (t s : List ℕ) (room : ℕ) (r : RefusedAt) → r .refusal ≢ NoRoom → (replayOf t s room ≡ replayed.Refused r) ↔ (played t s ≡ stopped r)
+refused-answered t s room r not-room = (
   λ said. ⊎-elim (λ e. e) (λ w. absurd (not-room (ap (λ (q : RefusedAt). q .refusal) (w .4)))) (said-means t s room said),
   was-stopped t s room r,
 )
 
-pub in-time-means : laws.InTimeMeans
-in-time-means t s room n = (
+pub in-time-answered : (t s : List ℕ) (room n : ℕ)
+    → (replayOf t s room ≡ replayed.InTime n) ↔ ((p : Progress) × Ended t s n p × (n ≤ room) × AllInTime (p .since .finishes))
+in-time-answered t s room n = (
   said-means t s room,
   λ w.
       let long = w .1 .log-length in
-      rw long (fits-in-time t s room (w .0) (w .1 .came-to-its-end) (rw (← long) (w .2)) (none-late _ (w .3))),
+      rw long (fits-in-time t s room (w .0) (w .1 .came-to-its-end) (rw (← long) (w .2)) (none-late-means _ .1 (w .3))),
 )
 
-pub late-means : laws.LateMeans
-late-means t s room l = (
+pub late-answered : (t s : List ℕ) (room : ℕ) (l : LateJobs)
+    → (replayOf t s room ≡ replayed.Late l)
+    ↔ ((p : Progress) × Ended t s (l .length) p × (l .length ≤ room) × (l .late ≡ lateFinishes (p .since .finishes)) × (1 ≤ l .late))
+late-answered t s room l = (
   said-means t s room,
   λ w.
       let ended = w .1 in
       fits-late t s room (w .0) (ended .came-to-its-end) (rw (ended .log-length) at (w .2)) (rw (w .3) at (w .4))
       ∙ ap₂ (λ length late. replayed.Late (record { length = length; late = late })) (sym (ended .log-length)) (sym (w .3)),
 )
+
+-- What is said settles what is answered.
+by-said : {G : Type 0} (t s : List ℕ) (room : ℕ) (r : Replayed) → (replayOf t s room ≡ r) ↔ G → (replaySays (replayOf t s room) ≡ replaySays r) ↔ G
+by-said t s room r means = (λ e. means .0 (said-apart (replayOf t s room) r e), λ g. ap replaySays (means .1 g))
+
+pub no-room-means : laws.NoRoomMeans
+no-room-means t s room place table script = by-said t s room (replayed.Refused (record { refusal = NoRoom; place = place })) (no-room-answered t s room place table script)
+
+pub refused-means : laws.RefusedMeans
+refused-means t s room r not-room =
+    by-said t s room (replayed.Refused r) (refused-answered t s room r (λ e. not-room (ap refusalNumber e)))
+
+pub in-time-means : laws.InTimeMeans
+in-time-means t s room n = by-said t s room (replayed.InTime n) (in-time-answered t s room n)
+
+pub late-means : laws.LateMeans
+late-means t s room n late = by-said t s room (replayed.Late (record { length = n; late = late })) (late-answered t s room (record { length = n; late = late }))
 
 -- ---- the log buffer
 
@@ -167,34 +183,48 @@ log-put t s log n p table script e long fits =
     }
 
 pub log-after-in-time : laws.LogAfterInTime
-log-after-in-time t s log n p table script e said =
-    let w = in-time-means t s (length log) n .0 said in
+log-after-in-time t s log n p table script e says =
+    let said = said-apart (replayOf t s (length log)) (replayed.InTime n) says in
+    let w = in-time-answered t s (length log) n .0 said in
     let same = one-end (sym (w .1 .came-to-its-end) ∙ e) in
     rw (said, e) (log-put t s log n p table script e (rw same at (w .1 .log-length)) (w .2))
 
 pub log-after-late : laws.LogAfterLate
-log-after-late t s log l p table script e said =
-    let w = late-means t s (length log) l .0 said in
+log-after-late t s log n late p table script e says =
+    let jobs : LateJobs = record { length = n; late = late } in
+    let said = said-apart (replayOf t s (length log)) (replayed.Late jobs) says in
+    let w = late-answered t s (length log) jobs .0 said in
     let same = one-end (sym (w .1 .came-to-its-end) ∙ e) in
-    rw (said, e) (log-put t s log (l .length) p table script e (rw same at (w .1 .log-length)) (w .2))
+    rw (said, e) (log-put t s log n p table script e (rw same at (w .1 .log-length)) (w .2))
+
+-- After a refusal all is zeros.
+zeros-left : (t s log : List ℕ) (r : RefusedAt) → replayOf t s (length log) ≡ replayed.Refused r
+    → (length (logLeft t s log) ≡ length log) × ((i : ℕ) → i < length log → getD (logLeft t s log) i 0 ≡ 0)
+zeros-left t s log r said = rw said (length-replicate (length log) 0, λ i h. getD-replicate (length log) i 0 0 h)
 
 pub log-after-refusal : laws.LogAfterRefusal
-log-after-refusal t s log r said = rw said (length-replicate (length log) 0, λ i h. getD-replicate (length log) i 0 0 h)
+log-after-refusal t s log not-in-time not-late = by-answer (replayOf t s (length log)) refl
+  where
+    by-answer : (v : Replayed) → replayOf t s (length log) ≡ v
+        → (length (logLeft t s log) ≡ length log) × ((i : ℕ) → i < length log → getD (logLeft t s log) i 0 ≡ 0)
+    by-answer (replayed.InTime n) e = absurd (not-in-time (ap (λ (v : Replayed). replaySays v .number) e))
+    by-answer (replayed.Late l) e = absurd (not-late (ap (λ (v : Replayed). replaySays v .number) e))
+    by-answer (replayed.Refused r) e = zeros-left t s log r e
 
--- With nothing pending no final tick is made, ..
+-- With nothing pending no final tick is made.
 ends-at-once : (end : ℕ) (p : Progress) → p .since .run .pending .count ≡ 0 → finalTicks end p ≡ whole p
 unfolding finalTicks
 ends-at-once end p none =
     rw (no-more (maxTime - p .since .run .clock .0) (p .since) none, eq-eqb (p .since .run .pending .count) 0 none)
 
--- .. as it is with a fresh run.
+-- On a fresh run nothing is pending, so nothing is played.
 nothing-played : (t : List ℕ) (period : ℕ) → tableRead t .answer ≡ answer.Accepted period → played t [] ≡ whole (begun (started t .run))
 unfolding played playedFrom
 nothing-played t period e = rw e (ends-at-once 0 (begun (started t .run)) refl)
 
 pub no-jobs : laws.NoJobs
 unfolding lateFinishes flatten
-no-jobs t log period e = rw (nothing-played t period e, le-leb 0 (length log) (omega arith)) (refl, refl)
+no-jobs t log period e = rw (nothing-played t period (tables-said-apart (tableRead t .answer) (answer.Accepted period) e), le-leb 0 (length log) (omega arith)) (refl, refl)
 
 -- ---- what is said outside
 

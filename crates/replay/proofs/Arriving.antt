@@ -3,11 +3,8 @@ use Prim.Native.Nat.{ℕ, zero, suc, _+_, _-_, _≤_, _<_}
 use mathlib.Core.Path.{_≡_, sym, ap, _∙_}
 use mathlib.Core.List.{List, [], _∷_, _++_, append-nil}
 use native.Mathlib.Nat.{add-zero}
-use native.Mathlib.Numerals.{add-one}
 use native.Mathlib.Omega.{arith}
 use lib.Dec.{eqb}
-use lib.ListN.{length, take, set, length-set}
-use lib.Seq.{take-suc-set}
 use borrow.Author.Tests.{eqb-true, le-ltb}
 use Rattle.theory.proofs.Cases.{by-test}
 use Rattle.kinds.specs.Numbering.{maxTime}
@@ -15,9 +12,11 @@ use Rattle.kinds.specs.declared.Tick.{Tick}
 use Rattle.due.specs.declared.Due.the-variants as due
 use Rattle.due.specs.Kept.{dueOf}
 use Rattle.jobs.specs.declared.Job.{Job}
-use Rattle.jobs.specs.Places.{maxPlaces, jobsOf}
+use Rattle.jobs.specs.Places.{jobsOf}
 use Rattle.jobs.specs.Laws.{WellFormed}
 use Rattle.jobs.proofs.Laws.{put-adds-one}
+use Rattle.columns.specs.Columns.{Columns, putIn}
+use Rattle.columns.proofs.Holding as columns
 use Rattle.run.specs.declared.Released.the-variants as release
 use Rattle.run.specs.declared.ReleaseStep.{ReleaseStep}
 use Rattle.run.specs.Runs.{rowAt, keptOf}
@@ -26,10 +25,9 @@ use Rattle.run.specs.Release.{newJob, withJob, released}
 use Rattle.run.specs.Advance.{Since, oneMore, ticks, ticksWhilePending}
 use Rattle.run.proofs.Release.{Passed, due-settles}
 use Rattle.run.proofs.Ticking.{Good, facts, tick-idle, idle-keeps, tick-keeps-good}
-use Rattle.replay.specs.Inside.{Held, held, AllPlaces, Stands, LeadsTo}
-use Rattle.replay.proofs.Places.{columns-more}
-use Rattle.replay.proofs.SingleTicks.{TicksFrom, tick-clock, ticks-keep}
-use Rattle.replay.proofs.OnItsWay.{on-its-way-ticked, release-adds-one, releasedOn, on-its-way-released}
+use Rattle.replay.specs.Inside.{Held, held, Stands, LeadsTo}
+use Rattle.play.proofs.SingleTicks.{TicksFrom, tick-clock, ticks-keep}
+use Rattle.play.proofs.OnItsWay.{on-its-way-ticked, release-adds-one, releasedOn, on-its-way-released}
 
 -- ---- ticks until a time
 
@@ -37,12 +35,12 @@ use Rattle.replay.proofs.OnItsWay.{on-its-way-ticked, release-adds-one,
 abbrev pub atTime : (time : ℕ) → Since → Since
 atTime time s = record { run = runWith (s .run) time (s .run .pending); late = s .late; finishes = s .finishes }
 
--- Where nothing is pending, a tick takes the clock on by one, and does nothing else ..
+-- Where nothing is pending, a tick takes the clock on by one, and does nothing else.
 idle-tick : (s : Since) → Good (s .run) → s .run .clock .0 < maxTime → s .run .pending .count ≡ 0 → oneMore s ≡ atTime (s .run .clock .0 + 1) s
 idle-tick s good in-time none =
     rw (tick-idle (s .run) (good .0) in-time none, le-ltb 0 (s .run .pending .count) (omega arith), add-zero, append-nil)
 
--- .. and so ticks take it on by as many as they are.
+-- Where nothing is pending, ticks take the clock on by as many as they are.
 idle-ticks : (n : ℕ) (s : Since) → Good (s .run) → s .run .clock .0 + n ≤ maxTime → s .run .pending .count ≡ 0
     → ticks n s ≡ atTime (s .run .clock .0 + n) s
 unfolding ticks
@@ -69,24 +67,14 @@ ticks-in-two (suc n) s good room = by-test (eqb (s .run .pending .count) 0)
 
 -- What arrays hold, at another clock.
 abbrev pub heldAt : (clock : ℕ) → Held → Held
-heldAt clock h = held (h .serials) (h .rows) (h .releases) (h .dues) (h .left) (h .log) (h .count) clock (h .logged)
-
--- (They have the same places.)
-same-places : {h : Held} {clock : ℕ} → AllPlaces h → AllPlaces (heldAt clock h)
-same-places all = record {
-  of-serials = all .of-serials;
-  of-rows = all .of-rows;
-  of-releases = all .of-releases;
-  of-dues = all .of-dues;
-  of-left = all .of-left;
-}
+heldAt clock h = held (h .jobs) (h .log) clock (h .logged)
 
 module _ {s : Since} {log₀ : List ℕ} {h : Held} (w : Stands s log₀ h) {time : ℕ} (later : h .clock ≤ time) (in-time : time ≤ maxTime) where
   -- The ticks until the time.
   abbrev arrived : Since
   arrived = ticks (time - s .run .clock .0) s
 
-  -- They keep what ticks keep ..
+  -- They keep what ticks keep.
   pub arrived-keeps : TicksFrom s arrived
   arrived-keeps = ticks-keep s (time - s .run .clock .0) (w .on-its-way .good) (omega (arith, w .clocks))
 
@@ -97,33 +85,23 @@ module _ {s : Since} {log₀ : List ℕ} {h : Held} (w : Stands s log₀ h) {tim
       (ticks-in-two (time - s .run .clock .0) s (w .on-its-way .good) (omega (arith, w .clocks))
       ∙ ap (λ (t : ℕ). atTime t (ticksWhilePending (time - s .run .clock .0) s)) there)
 
-  -- .. and what arrays hold after the ticks as long as a job is pending, they hold at the time.
+  -- What arrays hold after the ticks as long as a job is pending, they hold at the time.
   pub stands-arrived : {g : Held} → LeadsTo time h g → Stands arrived log₀ (heldAt time g)
   stands-arrived led =
       let last = led s log₀ w in
       record {
         on-its-way = on-its-way-ticked (w .on-its-way) arrived-keeps;
-        all-places = same-places (last .all-places);
         counts = rw arrived-so (last .counts);
         clocks = ap (λ (t : Since). t .run .clock .0) arrived-so;
-        columns = rw arrived-so (last .columns);
+        jobs-held = rw arrived-so (last .jobs-held);
         logs = rw arrived-so (last .logs);
       }
 
 -- ---- a release
 
--- A job more, in the first unused place of each array.
-abbrev pub withMore : Held → (serial row due cost : ℕ) → Held
-withMore h serial row due cost =
-    held (set (h .serials) (h .count) serial) (set (h .rows) (h .count) row) (set (h .releases) (h .count) (h .clock)) (set (h .dues) (h .count) due)
-    (set (h .left) (h .count) cost) (h .log) (h .count + 1) (h .clock) (h .logged)
-
-one-more-place : (l : List ℕ) (n v : ℕ) → n < length l → take (n + 1) (set l n v) ≡ take n l ++ (v ∷ [])
-one-more-place l n v h = rw add-one (take-suc-set l n v h)
-
 module _ {s : Since} {log₀ : List ℕ} {h : Held} (w : Stands s log₀ h) {row cost : ℕ} (p : Passed (s .run) row cost) {t : Tick}
-    (given : dueOf (keptOf (s .run) row) (rowAt (s .run .table) row) (s .run .clock .0) ≡ due.At t) where
-  -- A release that no test refused is accepted with its due time, ..
+    (given : dueOf (keptOf (s .run) row) (rowAt (s .run .table) row) (s .run .clock .0) cost ≡ due.At t) where
+  -- A release that no test refused is accepted with its due time.
   pub release-accepted : released (s .run) row cost
       ≡ record { run = withJob (s .run) row cost t; answer = release.Accepted (record { serial = s .run .next; due = t }) }
   release-accepted = sym (due-settles (s .run) row cost p (due.At t) given)
@@ -131,36 +109,20 @@ module _ {s : Since} {log₀ : List ℕ} {h : Held} (w : Stands s log₀ h) {row
   accepted-so : released (s .run) row cost .answer ≡ release.Accepted (record { serial = s .run .next; due = t })
   accepted-so = ap (λ (x : ReleaseStep). x .answer) release-accepted
 
-  -- .. and the arrays hold its job too.
-  pub stands-released : Stands (releasedOn s row cost) log₀ (withMore h (s .run .next .0) row (t .0) cost)
-  stands-released =
-      let all = w .all-places in
+  -- The arrays hold its job too, where it was put in.
+  pub stands-released : {after : Columns} → after ≡ putIn (h .jobs) (newJob (s .run) row cost t) → after .count ≡ h .jobs .count + 1
+      → Stands (releasedOn s row cost) log₀ (held after (h .log) (h .clock) (h .logged))
+  stands-released {after} put counts =
       let good = w .on-its-way .good in
       let js = jobsOf (s .run .pending) in
       let j : Job = newJob (s .run) row cost t in
-      let room : h .count < maxPlaces = omega (arith, p .room, w .counts) in
       let formed : WellFormed (s .run .pending) = record { all-places = good .1 .all-places; in-places = facts (s .run) good .few-pending } in
       let more : jobsOf (released (s .run) row cost .run .pending) ≡ js ++ (j ∷ []) =
       rw release-accepted (put-adds-one (s .run .pending) j formed (p .room)) in
       record {
         on-its-way = on-its-way-released s row cost _ accepted-so (w .on-its-way);
-        all-places = record {
-          of-serials = length-set (h .serials) (h .count) _ ∙ all .of-serials;
-          of-rows = length-set (h .rows) (h .count) _ ∙ all .of-rows;
-          of-releases = length-set (h .releases) (h .count) _ ∙ all .of-releases;
-          of-dues = length-set (h .dues) (h .count) _ ∙ all .of-dues;
-          of-left = length-set (h .left) (h .count) _ ∙ all .of-left;
-        };
         counts = omega (arith, release-adds-one (s .run) row cost _ accepted-so, w .counts);
         clocks = ap (λ (x : ReleaseStep). x .run .clock .0) release-accepted ∙ w .clocks;
-        columns = rw (
-          more,
-          one-more-place (h .serials) (h .count) _ (omega (arith, all .of-serials)),
-          one-more-place (h .rows) (h .count) _ (omega (arith, all .of-rows)),
-          one-more-place (h .releases) (h .count) _ (omega (arith, all .of-releases)),
-          one-more-place (h .dues) (h .count) _ (omega (arith, all .of-dues)),
-          one-more-place (h .left) (h .count) _ (omega (arith, all .of-left)),
-          ← w .clocks,
-        ) (columns-more (w .columns) j);
+        jobs-held = rw (more, put) (columns.put-adds-one (h .jobs) js j (w .jobs-held) (omega (arith, p .room, w .counts)));
         logs = w .logs;
       }

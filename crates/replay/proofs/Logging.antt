@@ -16,10 +16,11 @@ use Rattle.log.proofs.Records.{answers-no-room, answers-length}
 use Rattle.log.proofs.Laws.{log-grows}
 use Rattle.replay.specs.declared.Logged.{Logged}
 use Rattle.replay.specs.declared.Replayed.the-variants as replayed
-use Rattle.replay.specs.Play.{Progress, whole}
-use Rattle.replay.specs.Outcome.{finishedLate, lateFinishes, answerOf}
+use Rattle.play.specs.Play.{Progress, whole}
+use Rattle.play.specs.Late.{finishedLate, lateFinishes}
+use Rattle.replay.specs.Outcome.{answerOf}
 use Rattle.replay.specs.Inside.{oneLogged, oneWritten, Logs}
-use Rattle.replay.proofs.Lateness.{late-finishes-more}
+use Rattle.play.proofs.Lateness.{late-finishes-more}
 
 -- Before the first.
 pub logs-none : (log : List ℕ) → Logs [] log log (record { length = 0; late = 0; full = false })
@@ -63,7 +64,7 @@ module _ {fs : List Finish} {log₀ log : List ℕ} {l : Logged} (w : Logs fs lo
   })
 
   module _ (not-full : l .full ≡ false) where
-    -- It fits ..
+    -- The record fits.
     logs-fits : length (spelledFinish f) ≤ length log - l .length → Logs (fs ++ (f ∷ [])) log₀ (oneWritten l f log) (oneLogged (length log) l f)
     logs-fits h =
         let fits = answers-length f (length log - l .length) in-range h in
@@ -76,7 +77,7 @@ module _ {fs : List Finish} {log₀ log : List ℕ} {l : Logged} (w : Logs fs lo
           no-room = λ e. impossible cc;
         })
 
-    -- .. or the log is full from now on.
+    -- The record does not fit, and the log is full from now on.
     logs-overflows : length log - l .length < length (spelledFinish f) → Logs (fs ++ (f ∷ [])) log₀ (oneWritten l f log) (oneLogged (length log) l f)
     logs-overflows h =
         let known = w .holds not-full in
@@ -105,21 +106,21 @@ module _ {log₀ log : List ℕ} {l : Logged} (p : Progress) (w : Logs (p .since
   pub answers-full : l .full ≡ true → answerOf (length log₀) end (whole p) ≡ replayed.Refused (record { refusal = NoRoom; place = end })
   answers-full full = rw (lt-leb (length (spelledLog all)) (length log₀) (w .no-room full))
 
-  -- It had room for them ..
+  -- The log had room for them.
   module _ (not-full : l .full ≡ false) where
-    -- (so that the log holds them) ..
+    -- Then the log holds them.
     abbrev held : Holds all log₀ log (l .length)
     held = w .holds not-full
 
     it-fits : length (spelledLog all) ≤ length log₀
     it-fits = omega (arith, held .up-to, held .within, held .same-length)
 
-    -- .. and all were in time ..
+    -- All were in time.
     pub answers-in-time : l .late ≡ 0 → answerOf (length log₀) end (whole p) ≡ replayed.InTime (l .length)
     answers-in-time none =
         rw (le-leb (length (spelledLog all)) (length log₀) it-fits, eq-eqb (lateFinishes all) 0 (sym (w .late) ∙ none), held .up-to)
 
-    -- .. or some were late.
+    -- Some were late.
     pub answers-late : (l .late ≡ 0 → ⊥) → answerOf (length log₀) end (whole p) ≡ replayed.Late (record { length = l .length; late = l .late })
     answers-late some =
         rw (

@@ -1,8 +1,8 @@
 -- What a replay answers, and its log. (docs/RULES.md, sections 8.8 to 8.17 and 9.5.)
 use Prim.Native.Nat.{ℕ, _+_}
-use mathlib.Core.Bool.{Bool, cond}
-use mathlib.Core.List.{List, [], _∷_, _++_}
-use lib.Dec.{leb, ltb, eqb}
+use mathlib.Core.Bool.{cond}
+use mathlib.Core.List.{List, [], _++_}
+use lib.Dec.{leb, eqb}
 use lib.ListN.{length, drop, replicate}
 use Rattle.kinds.specs.Numbering.{Said, refusedSays}
 use Rattle.kinds.specs.declared.Finish.{Finish}
@@ -10,16 +10,8 @@ use Rattle.kinds.specs.declared.Refusal.the-variants.{NoRoom}
 use Rattle.log.specs.Laws.{spelledLog}
 use Rattle.replay.specs.declared.Replayed.{Replayed}
 use Rattle.replay.specs.declared.Replayed.the-variants as replayed
-use Rattle.replay.specs.Play.{Played, whole, stopped, played}
-
--- The job finished after its due time.
-abbrev pub finishedLate : Finish → Bool
-finishedLate f = ltb (f .due .0) (f .finish .0)
-
--- How many of the jobs did.
-unfoldable pub lateFinishes : List Finish → ℕ
-lateFinishes [] = 0
-lateFinishes (f ∷ fs) = cond (finishedLate f) 1 0 + lateFinishes fs
+use Rattle.play.specs.Play.{Played, whole, stopped, played}
+use Rattle.play.specs.Late.{lateFinishes}
 
 -- The jobs that finished, in order; none are told where the replay was stopped.
 abbrev pub finishedIn : Played → List Finish

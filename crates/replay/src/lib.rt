@@ -1,20 +1,16 @@
 // Replay: a script played on a table, into a log. (docs/RULES.md, section 8.)
-mod records;
-mod ring;
+mod steps;
 mod ticks;
 
-use crate::records::numbers_at;
-use crate::records::test_numbers;
-use crate::ring::TIMES;
-use crate::ring::next_due;
+use crate::steps::play_record;
 use crate::ticks::run_until;
-use due::Due;
 use jobs::Pending;
 use kinds::Refusal;
 use kinds::RefusedAt;
-use kinds::RowNumber;
+use kinds::Serial;
 use kinds::Tick;
-use numbers::NumberRead;
+use records::Tested;
+use rings::TIMES;
 use run::StartAnswer;
 use table::Table;
 ghost use mathlib.Core.Path.{_≡_};
@@ -22,35 +18,9 @@ ghost use mathlib.Core.Bool.{true};
 ghost use lib.ListN.{length, replicate};
 ghost use Rattle.run.specs.Runs.{freshRun};
 ghost use Rattle.run.specs.Sound.{soundOf, Whole};
-ghost use Rattle.replay.specs.Play.{played, playedOn};
+ghost use Rattle.play.specs.Play.{played, playedOn};
 ghost use Rattle.replay.specs.Outcome.{finishedIn, replayOf, answerOf, logAfter};
 ghost use Rattle.replay.specs.Inside.{LeftIn};
-
-// A number of a script: where it starts, and what is read there.
-pub struct Placed {
-    pub place: usize,
-    pub read: NumberRead,
-}
-
-// The three numbers of a record.
-pub struct Numbers {
-    pub gap: Placed,
-    pub row: Placed,
-    pub cost: Placed,
-}
-
-// A release that a record asks for: when, of which row, at which cost; and the place after the record.
-pub struct Ready {
-    pub time: Tick,
-    pub row: RowNumber,
-    pub cost: u64,
-    pub next: usize,
-}
-
-pub enum Tested {
-    Ready(Ready),
-    Refused(RefusedAt),
-}
 
 // How long the log is, and how many jobs finished after their due time.
 pub struct LateJobs {
@@ -75,8 +45,22 @@ struct Logged {
 // Where ticks have come to: how many jobs are pending still, the clock, and what is written of the log.
 struct Reached {
     count: usize,
-    clock: u64,
+    clock: Tick,
     logged: Logged,
+}
+
+// How far a play has come: how many jobs are pending, the clock, the next serial, and what is written of the log.
+struct Going {
+    count: usize,
+    clock: Tick,
+    next: Serial,
+    logged: Logged,
+}
+
+// The play goes on after a record, or stops.
+enum RecordStep {
+    Next(Going),
+    Refused(RefusedAt),
 }
 
 // Fills a buffer with zeros.
@@ -97,6 +81,8 @@ fn play(table: Table, script: &[u8], log: &mut [u8]) -> Replayed
     ensures { λ r. ⌜ (r ≡ answerOf (length (now (log .entry))) (length (now (script .entry))) (playedOn (now (script .entry)) (freshRun table)))
         × LeftIn r (finishedIn (playedOn (now (script .entry)) (freshRun table))) (now (log .entry)) (now (log .exit)) ⌝ }
 {
+    let limits = table.cost_limits();
+    let in_use = table.count;
     let mut serials: [u64; Pending::PLACES] = [0; Pending::PLACES];
     let mut rows: [u64; Pending::PLACES] = [0; Pending::PLACES];
     let mut releases: [u64; Pending::PLACES] = [0; Pending::PLACES];
@@ -105,71 +91,52 @@ fn play(table: Table, script: &[u8], log: &mut [u8]) -> Replayed
     let mut times: [u64; TIMES] = [0; TIMES];
     let mut many: [usize; Table::MAX_ROWS] = [0; Table::MAX_ROWS];
     let mut oldest: [usize; Table::MAX_ROWS] = [0; Table::MAX_ROWS];
-    let mut count: usize = 0;
-    let mut clock: u64 = 0;
-    let mut next: u64 = 0;
     let mut at: usize = 0;
-    let mut logged = Logged {
-        length: 0,
-        late: 0,
-        full: false,
+    let mut going = Going {
+        count: 0,
+        clock: Tick(0),
+        next: Serial(0),
+        logged: Logged {
+            length: 0,
+            late: 0,
+            full: false,
+        },
     };
     while at < script.len() {
-        let numbers = numbers_at(script, at);
-        let third = numbers.cost;
-        let tested = test_numbers(numbers, table.count, clock);
+        let clock = going.clock;
+        let numbers = records::numbers_at(script, at);
+        let tested = records::test_numbers(numbers, &limits[..in_use], clock);
         let ready = match tested {
             Tested::Ready(r) => r,
             Tested::Refused(r) => return Replayed::Refused(r),
         };
-        let row = ready.row.0;
-        let number = row as usize;
-        let its = table.rows[number];
-        if its.c < ready.cost {
-            return Replayed::Refused(RefusedAt {
-                refusal: Refusal::CostOutOfRange,
-                place: third.place,
-            });
-        }
-        let time = ready.time.0;
-        let reached = run_until(
+        let number = ready.row.0 as usize;
+        let row = table.rows[number];
+        let step = play_record(
             &mut serials,
             &mut rows,
             &mut releases,
             &mut dues,
             &mut left,
+            &mut times,
+            &mut many,
+            &mut oldest,
             log,
-            count,
-            clock,
-            time,
-            logged,
+            going,
+            ready,
+            row,
+            at,
         );
-        count = reached.count;
-        clock = time;
-        let written = reached.logged;
-        logged = written;
-        if Pending::PLACES <= count {
-            return Replayed::Refused(RefusedAt {
-                refusal: Refusal::PlacesFull,
-                place: at,
-            });
-        }
-        let given = next_due(&mut times, &mut many, &mut oldest, number, its, clock);
-        let due = match given {
-            Due::At(due) => due,
-            Due::Refused(refusal) => {
-                return Replayed::Refused(RefusedAt { refusal, place: at });
-            }
+        going = match step {
+            RecordStep::Next(g) => g,
+            RecordStep::Refused(r) => return Replayed::Refused(r),
         };
-        serials[count] = next;
-        rows[count] = row;
-        releases[count] = clock;
-        dues[count] = due.0;
-        left[count] = ready.cost;
-        count += 1;
-        next += 1;
         at = ready.next;
     }
+    let count = going.count;
+    let clock = going.clock;
+    let logged = going.logged;
+    let last = Tick(Tick::MAX);
     let reached = run_until(
         &mut serials,
         &mut rows,
@@ -179,7 +146,7 @@ fn play(table: Table, script: &[u8], log: &mut [u8]) -> Replayed
         log,
         count,
         clock,
-        Tick::MAX,
+        last,
         logged,
     );
     if 0 < reached.count {

@@ -1,9 +1,9 @@
--- No answer of a run's calls is numbered 0, and different answers say different things.
+-- No answer of a run's calls is numbered 0, different answers say different things, and what each says.
 use Prim.Native.Nat.{ℕ, _≤_}
 use mathlib.Core.Path.{_≡_, refl, sym, ap, ap₂}
 use Rattle.kinds.specs.Numbering.{refusalNumber, NeverNumberedZero, SaysApart}
 use Rattle.kinds.proofs.Apart.{impossible}
-use Rattle.kinds.proofs.Numbering.{numbers-differ, never-zero, refusals-apart, plain-refusals-apart}
+use Rattle.kinds.proofs.Numbering.{numbers-differ, never-zero, refusals-apart}
 use Rattle.jobs.specs.declared.Finished.{Finished}
 use Rattle.jobs.proofs.Answers.{finished-apart}
 use Rattle.run.specs.declared.StartAnswer.the-variants as start
@@ -11,16 +11,12 @@ use Rattle.run.specs.declared.Released.{Released}
 use Rattle.run.specs.declared.Released.the-variants as release
 use Rattle.run.specs.declared.Ticked.{Ticked}
 use Rattle.run.specs.declared.Ticked.the-variants as tick
-use Rattle.run.specs.declared.AdvanceAnswer.the-variants as advance
-use Rattle.run.specs.Answers.{startSays, ReleaseSays, releaseSays, TickSays, tickSays, advanceSays, RunsNeverZero, RunsSaidApart}
+use Rattle.run.specs.Answers.{startSays, ReleaseSays, releaseSays, TickSays, tickSays, RunsNeverZero, RunsSaidApart}
+use Rattle.run.specs.Answers as says
 
 start-never-zero : NeverNumberedZero startSays
 start-never-zero start.Ready = tt
 start-never-zero (start.Refused r) = never-zero (r .refusal)
-
-advance-never-zero : NeverNumberedZero advanceSays
-advance-never-zero advance.Done = tt
-advance-never-zero (advance.Refused r) = never-zero r
 
 release-never-zero : (a : Released) (number place : ℕ) → releaseSays a ≡ ReleaseSays.refused number place → 1 ≤ number
 release-never-zero (release.Accepted a) number place e = impossible cc
@@ -32,7 +28,7 @@ tick-never-zero (tick.Ran r) number place e = impossible cc
 tick-never-zero (tick.Refused r) number place e = let its : refusalNumber r ≡ number = cc in rw (sym its) (never-zero r)
 
 pub runs-never-zero : RunsNeverZero
-runs-never-zero = (start-never-zero, release-never-zero, tick-never-zero, advance-never-zero)
+runs-never-zero = (start-never-zero, release-never-zero, tick-never-zero)
 
 start-apart : SaysApart startSays
 start-apart start.Ready start.Ready e = refl
@@ -62,11 +58,31 @@ tick-apart (tick.Refused q) tick.Idle e = impossible cc
 tick-apart (tick.Refused q) (tick.Ran r) e = impossible cc
 tick-apart (tick.Refused q) (tick.Refused r) e = ap tick.Refused (numbers-differ q r cc)
 
-advance-apart : SaysApart advanceSays
-advance-apart advance.Done advance.Done e = refl
-advance-apart advance.Done (advance.Refused r) e = impossible cc
-advance-apart (advance.Refused q) advance.Done e = impossible cc
-advance-apart (advance.Refused q) (advance.Refused r) e = ap advance.Refused (plain-refusals-apart q r e)
-
 pub runs-said-apart : RunsSaidApart
-runs-said-apart = (start-apart, release-apart, tick-apart, advance-apart)
+runs-said-apart = (start-apart, release-apart, tick-apart)
+
+-- ---- what each answer says
+
+pub ready-says : says.ReadySays
+ready-says = refl
+
+pub start-refused-says : says.StartRefusedSays
+start-refused-says r place = refl
+
+pub accepted-says : says.AcceptedSays
+accepted-says serial due = refl
+
+pub release-refused-says : says.ReleaseRefusedSays
+release-refused-says r = refl
+
+pub idle-tick-says : says.IdleTickSays
+idle-tick-says = refl
+
+pub finished-tick-says : says.FinishedTickSays
+finished-tick-says serial = refl
+
+pub ran-tick-says : says.RanTickSays
+ran-tick-says serial = refl
+
+pub tick-refused-says : says.TickRefusedSays
+tick-refused-says r = refl

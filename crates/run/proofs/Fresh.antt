@@ -24,11 +24,11 @@ use Rattle.run.proofs.Sound.{sound-means}
 -- ---- fresh runs
 
 module _ (t : Table) (in-range : InRange t) where
-  -- A fresh run's arrays have all their places ..
+  -- A fresh run's arrays have all their places.
   fresh-whole : Whole (freshRun t)
   fresh-whole = record { all-rows = in-range .all-places; all-kept = refl; all-places = refl }
 
-  -- .. and it has the facts of a sound run.
+  -- A fresh run has the facts of a sound run.
   fresh-facts : Sound (freshRun t)
   fresh-facts = record {
     few-rows = in-range .few-rows;

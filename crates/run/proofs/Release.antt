@@ -1,30 +1,35 @@
 -- A release: each of its answers by the tests that lead to it, and what the run after it keeps. A refused one changes nothing; an accepted one adds a job that is
 -- sound, with a serial above all others, and keeps a due time that is not too late. (docs/RULES.md, sections 6.6 to 6.9 and 6.25.)
 use Prim.Native.Nat.{ℕ, _+_, _≤_, _<_}
-use mathlib.Core.Path.{_≡_, refl, sym, subst, _∙_}
+use mathlib.Core.Path.{_≡_, refl, sym, ap, subst, _∙_}
 use mathlib.Core.Logic.{_≢_}
 use mathlib.Core.Bool.{true, false}
 use mathlib.Core.List.{List, [], _∷_, _++_}
 use native.Mathlib.Omega.{arith}
-use lib.ListN.{length-set, getD-replicate}
+use lib.ListN.{length, take, length-set, getD-replicate}
 use lib.Seq.{getD-set-same, getD-set-other}
 use borrow.Author.Tests.{leb-true, le-leb, lt-leb, lt-ltb, le-ltb, eq-eqb, ne-eqb}
 use Rattle.kinds.specs.Numbering.{maxTime}
 use Rattle.kinds.specs.declared.Refusal.{Refusal}
-use Rattle.kinds.specs.declared.Refusal.the-variants.{RunNotSound, NoSuchRow, CostOutOfRange, PlacesFull}
+use Rattle.kinds.specs.declared.Refusal.the-variants.{RunNotSound, PlacesFull}
 use Rattle.kinds.specs.declared.Tick.{Tick}
 use Rattle.kinds.proofs.Apart.{impossible}
 use Rattle.theory.proofs.Cases.{by-lt, by-eq, by-test}
 use Rattle.table.specs.declared.Row.{Row}
 use Rattle.table.specs.Limits.{maxRows}
 use Rattle.table.specs.Rows.{rowInRange}
+use Rattle.table.specs.declared.CostAnswer.{CostAnswer}
+use Rattle.table.specs.declared.CostAnswer.the-variants as cost-answer
+use Rattle.table.specs.declared.CostLimit.{CostLimit}
+use Rattle.table.specs.Costs.{csOf, costLimits, limitOf, costAnswer}
+use Rattle.table.proofs.CostLimits.{one-limit-for-each-row, limit-is-its-c}
 use Rattle.table.proofs.Ranges.{both-true}
 use Rattle.due.specs.declared.Due.{Due}
 use Rattle.due.specs.declared.Due.the-variants as due
 use Rattle.due.specs.declared.Kept.{Kept}
 use Rattle.due.specs.Kept.{nothingKept, dueOf, keptWith}
 use Rattle.due.specs.Laws.{SoundKept, GivenDue, KeepsNewest}
-use Rattle.due.proofs.Laws.{given-means, starts-empty, keeps-on-keeping, due-is-the-papers, stays-sound, sound-means as kept-means}
+use Rattle.due.proofs.Laws.{due-given, starts-empty, keeps-on-keeping, due-is-the-papers, stays-sound, sound-means as kept-means}
 use Rattle.jobs.specs.declared.Job.{Job}
 use Rattle.jobs.specs.Places.{maxPlaces, jobsOf, put}
 use Rattle.jobs.specs.Serials.{distinctSerials}
@@ -33,110 +38,12 @@ use Rattle.jobs.proofs.Serials.{one-more}
 use Rattle.jobs.proofs.Laws.{put-adds-one, put-keeps-form, put-keeps-serials, distinct-means}
 use Rattle.run.specs.declared.Run.{Run}
 use Rattle.run.specs.declared.ReleaseStep.{ReleaseStep}
-use Rattle.run.specs.declared.Released.the-variants as answer
 use Rattle.run.specs.Runs.{rowAt, costLimit, keptOf}
-use Rattle.run.specs.Sound.{serialBound, soundOf, SoundJob, Sound, Whole}
+use Rattle.run.specs.Sound.{serialBound, allows, soundOf, SoundJob, Sound, Whole}
 use Rattle.run.specs.Release.{refusedRelease, newJob, withJob, atDue, released}
-use Rattle.run.specs.Laws.{KeepsHistory, GaveDue, ReleaseKeepsSound, SerialsGrow, RefusedReleaseChangesNothing, FreshHasNoHistory, DueByWholeHistory}
-use Rattle.run.proofs.Sound.{sound-means}
-
--- ---- each answer, by the tests that lead to it
-
-module _ (run : Run) (row cost : ℕ) where
-  -- 11: the run is not sound.
-  pub not-sound : soundOf run ≡ false → refusedRelease run RunNotSound ≡ released run row cost
-  unfolding released
-  not-sound e = simp e
-
-  module _ (sound : soundOf run ≡ true) where
-    -- 6: the row number is not in use.
-    pub no-such-row : run .table .count ≤ row → refusedRelease run NoSuchRow ≡ released run row cost
-    unfolding released
-    no-such-row h = simp (sound, le-ltb row (run .table .count) h)
-
-    module _ (in-use : row < run .table .count) where
-      -- 7: the cost is 0 ..
-      pub no-cost : cost < 1 → refusedRelease run CostOutOfRange ≡ released run row cost
-      unfolding released
-      no-cost h = simp (sound, lt-ltb row (run .table .count) in-use, lt-leb 1 cost h)
-
-      -- .. or above what the row allows.
-      pub cost-too-high : costLimit (run .table) row < cost → refusedRelease run CostOutOfRange ≡ released run row cost
-      unfolding released
-      cost-too-high h =
-          simp (sound, lt-ltb row (run .table .count) in-use, le-leb 1 cost (omega arith), lt-leb cost (costLimit (run .table) row) h)
-
-      module _ (some-cost : 1 ≤ cost) (allowed : cost ≤ costLimit (run .table) row) where
-        -- 8: all places are in use.
-        pub places-full : maxPlaces ≤ run .pending .count → refusedRelease run PlacesFull ≡ released run row cost
-        unfolding released
-        places-full h = simp (
-          sound,
-          lt-ltb row (run .table .count) in-use,
-          le-leb 1 cost some-cost,
-          le-leb cost (costLimit (run .table) row) allowed,
-          le-ltb (run .pending .count) maxPlaces h,
-        )
-
--- What holds of a release that no test refused.
-pub record Passed (run : Run) (row cost : ℕ) : Type 0 where
-  pub sound : soundOf run ≡ true
-  pub in-use : row < run .table .count
-  pub some-cost : 1 ≤ cost
-  pub allowed : cost ≤ costLimit (run .table) row
-  pub room : run .pending .count < maxPlaces
-
--- The due time of the row's next job, released now.
-abbrev dueNow : Run → (row : ℕ) → Due
-dueNow run row = dueOf (keptOf run row) (rowAt (run .table) row) (run .clock .0)
-
--- Its due time settles it, or the refusal of that (9).
-pub due-settles : (run : Run) (row cost : ℕ) → Passed run row cost → (d : Due) → dueNow run row ≡ d → atDue run row cost d ≡ released run row cost
-unfolding released
-due-settles run row cost p d e = simp (
-  p .sound,
-  lt-ltb row (run .table .count) (p .in-use),
-  le-leb 1 cost (p .some-cost),
-  le-leb cost (costLimit (run .table) row) (p .allowed),
-  lt-ltb (run .pending .count) maxPlaces (p .room),
-  e,
-)
-
--- What holds of a refused release and of an accepted one holds of every release.
-module _ (run : Run) (row cost : ℕ) (P : ReleaseStep → Type 0)
-    (refused : (r : Refusal) → P (refusedRelease run r))
-    (accepted : (t : Tick) → Passed run row cost → dueNow run row ≡ due.At t → P (atDue run row cost (due.At t))) where
-  -- By what the due time is ..
-  by-due : Passed run row cost → (d : Due) → dueNow run row ≡ d → P (atDue run row cost d)
-  by-due p (due.At t) e = accepted t p e
-  by-due p (due.Refused r) e = refused r
-
-  -- .. it is accepted, or 9 ..
-  tests-passed : Passed run row cost → P (released run row cost)
-  tests-passed p = subst P (due-settles run row cost p _ refl) (by-due p _ refl)
-
-  -- .. or else 8 ..
-  cost-passed : soundOf run ≡ true → row < run .table .count → 1 ≤ cost → cost ≤ costLimit (run .table) row → P (released run row cost)
-  cost-passed sound in-use some-cost allowed =
-      by-lt (run .pending .count) maxPlaces
-      (λ room. tests-passed (record { sound = sound; in-use = in-use; some-cost = some-cost; allowed = allowed; room = room }))
-      (λ full. subst P (places-full run row cost sound in-use some-cost allowed full) (refused PlacesFull))
-
-  -- .. or 7 ..
-  row-passed : soundOf run ≡ true → row < run .table .count → P (released run row cost)
-  row-passed sound in-use =
-      by-lt cost 1
-      (λ none. subst P (no-cost run row cost sound in-use none) (refused CostOutOfRange))
-      (λ some-cost. by-lt (costLimit (run .table) row) cost
-      (λ high. subst P (cost-too-high run row cost sound in-use high) (refused CostOutOfRange))
-      (cost-passed sound in-use some-cost))
-
-  -- .. or 6, or 11.
-  pub each-release : P (released run row cost)
-  each-release =
-      by-test (soundOf run)
-      (λ sound. by-lt row (run .table .count) (row-passed sound) (λ unused. subst P (no-such-row run row cost sound unused) (refused NoSuchRow)))
-      (λ unsound. subst P (not-sound run row cost unsound) (refused RunNotSound))
+use Rattle.run.specs.Answers.{ReleaseSays, accepted, releaseSays}
+use Rattle.run.specs.Laws.{KeepsHistory, GaveDue, OneTestMeans, ReleaseKeepsSound, SerialsGrow, RefusedReleaseChangesNothing, FreshHasNoHistory, DueByWholeHistory}
+use Rattle.run.proofs.Sound.{sound-means, allowed-means, few-limits, limits-lent}
 
 -- ---- the numbers of a sound run
 
@@ -160,6 +67,102 @@ bounded run e =
       serials = leb-true _ _ (serials .1);
     }
 
+-- ---- each answer, by the tests that lead to it
+
+module _ (run : Run) (row cost : ℕ) where
+  -- What the one test of row number and cost answers.
+  abbrev pub tested : CostAnswer
+  tested = costAnswer (limitOf (costLimits (run .table)) row) cost
+
+  -- 11: the run is not sound.
+  pub not-sound : soundOf run ≡ false → refusedRelease run RunNotSound ≡ released run row cost
+  unfolding released
+  not-sound e = simp e
+
+  module _ (sound : soundOf run ≡ true) where
+    -- 6 and 7: the row number is not in use, or the cost is not from 1 to what the row allows.
+    pub not-allowed : (r : Refusal) → tested ≡ cost-answer.Refused r → refusedRelease run r ≡ released run row cost
+    unfolding released
+    not-allowed r e = simp (sound, e)
+
+    -- 8: all places are in use.
+    pub places-full : tested ≡ cost-answer.Allowed → maxPlaces ≤ run .pending .count → refusedRelease run PlacesFull ≡ released run row cost
+    unfolding released
+    places-full e h = simp (sound, e, le-ltb (run .pending .count) maxPlaces h)
+
+-- What holds of a release that no test refused.
+pub record Passed (run : Run) (row cost : ℕ) : Type 0 where
+  pub sound : soundOf run ≡ true
+  pub is-allowed : tested run row cost ≡ cost-answer.Allowed
+  pub in-use : row < run .table .count
+  pub some-cost : 1 ≤ cost
+  pub allowed : cost ≤ costLimit (run .table) row
+  pub room : run .pending .count < maxPlaces
+
+-- A row number and a cost that are allowed, of a sound run with a place unused, pass every test.
+pub passes : (run : Run) (row cost : ℕ) → soundOf run ≡ true → tested run row cost ≡ cost-answer.Allowed → run .pending .count < maxPlaces
+    → Passed run row cost
+passes run row cost sound e room =
+    let ok = allowed-means (costLimits (run .table)) row cost (ap allows e) in
+    let in-use : row < run .table .count = omega (arith, ok .0, few-limits (run .table)) in
+    record {
+      sound = sound;
+      is-allowed = e;
+      in-use = in-use;
+      some-cost = ok .1;
+      allowed = rw (limit-is-its-c (run .table) row in-use) at (ok .2);
+      room = room;
+    }
+
+-- A row number that is allowed is one of all rows.
+pub inside : (run : Run) (row cost : ℕ) → soundOf run ≡ true → tested run row cost ≡ cost-answer.Allowed → row < maxRows
+inside run row cost sound e =
+    let ok = allowed-means (costLimits (run .table)) row cost (ap allows e) in
+    omega (arith, ok .0, few-limits (run .table), bounded run sound .few-rows)
+
+-- The test as the code makes it, with limits that are lent.
+pub tested-as : (run : Run) (row cost : ℕ) (all : List ℕ) → all ≡ csOf (run .table .rows)
+    → (l : CostLimit) → l ≡ limitOf (take (run .table .count) all) row → (a : CostAnswer) → a ≡ costAnswer l cost → tested run row cost ≡ a
+tested-as run row cost all e l h a k =
+    ap (λ limits. costAnswer (limitOf limits row) cost) (sym (limits-lent (run .table) all e)) ∙ ap (λ limit. costAnswer limit cost) (sym h) ∙ sym k
+
+-- The due time of the row's next job of this cost, released now.
+abbrev dueNow : Run → (row cost : ℕ) → Due
+dueNow run row cost = dueOf (keptOf run row) (rowAt (run .table) row) (run .clock .0) cost
+
+-- Its due time settles it, or the refusal of that (9).
+pub due-settles : (run : Run) (row cost : ℕ) → Passed run row cost → (d : Due) → dueNow run row cost ≡ d → atDue run row cost d ≡ released run row cost
+unfolding released
+due-settles run row cost p d e = simp (p .sound, p .is-allowed, lt-ltb (run .pending .count) maxPlaces (p .room), e)
+
+-- What holds of a refused release and of an accepted one holds of every release.
+module _ (run : Run) (row cost : ℕ) (P : ReleaseStep → Type 0)
+    (refused : (r : Refusal) → P (refusedRelease run r))
+    (accepted : (t : Tick) → Passed run row cost → dueNow run row cost ≡ due.At t → P (atDue run row cost (due.At t))) where
+  -- What the due time is settles whether the release is accepted or refused with 9.
+  by-due : Passed run row cost → (d : Due) → dueNow run row cost ≡ d → P (atDue run row cost d)
+  by-due p (due.At t) e = accepted t p e
+  by-due p (due.Refused r) e = refused r
+
+  -- Where all tests are passed, it is accepted or refused with 9.
+  tests-passed : Passed run row cost → P (released run row cost)
+  tests-passed p = subst P (due-settles run row cost p _ refl) (by-due p _ refl)
+
+  -- Where the row number and the cost are allowed, it may also be refused with 8, and else with 6 or 7.
+  by-cost : soundOf run ≡ true → (a : CostAnswer) → tested run row cost ≡ a → P (released run row cost)
+  by-cost sound cost-answer.Allowed e =
+      by-lt (run .pending .count) maxPlaces
+      (λ room. tests-passed (passes run row cost sound e room))
+      (λ full. subst P (places-full run row cost sound e full) (refused PlacesFull))
+  by-cost sound (cost-answer.Refused r) e = subst P (not-allowed run row cost sound r e) (refused r)
+
+  -- Any release may also be refused with 11.
+  pub each-release : P (released run row cost)
+  each-release =
+      by-test (soundOf run)
+      (λ sound. by-cost sound _ refl)
+      (λ unsound. subst P (not-sound run row cost unsound) (refused RunNotSound))
+
 -- ---- an accepted release keeps a run sound
 
 -- Kept due times with one more that is in time: there are at most x still, and each is in time.
@@ -168,7 +171,7 @@ kept-stays-sound k r t fine in-time sound =
     kept-means (keptWith k r t) r .0 (stays-sound k r t fine in-time (kept-means k r .1 sound))
 
 -- A release that is accepted, with the due time that is given.
-module _ {run : Run} {row cost : ℕ} (t : Tick) (whole : Whole run) (p : Passed run row cost) (given : dueNow run row ≡ due.At t) where
+module _ {run : Run} {row cost : ℕ} (t : Tick) (whole : Whole run) (p : Passed run row cost) (given : dueNow run row cost ≡ due.At t) where
   -- Its row, its job, and the run after it.
   abbrev its : Row
   its = rowAt (run .table) row
@@ -183,17 +186,17 @@ module _ {run : Run} {row cost : ℕ} (t : Tick) (whole : Whole run) (p : Passed
   sound-before : Sound run
   sound-before = sound-means run whole .0 (p .sound)
 
-  given-due : GivenDue (keptOf run row) its (run .clock .0) t
-  given-due = given-means (keptOf run row) its (run .clock .0) t .0 given
+  given-due : GivenDue (keptOf run row) its (run .clock .0) (t .0)
+  given-due = due-given (keptOf run row) its (run .clock .0) cost t .0 given
 
-  -- The jobs stand in their places, so the new one comes last ..
+  -- The jobs stand in their places, so the new one comes last.
   well-formed : WellFormed (run .pending)
   well-formed = record { all-places = whole .all-places; in-places = sound-before .few-pending }
 
   jobs-after : jobsOf (next .pending) ≡ jobsOf (run .pending) ++ (job ∷ [])
   jobs-after = put-adds-one (run .pending) job well-formed (p .room)
 
-  -- .. and is counted.
+  -- The new job is counted.
   count-after : next .pending .count ≡ run .pending .count + 1
   unfolding put
   count-after = simp (lt-ltb (run .pending .count) maxPlaces (p .room))
@@ -281,6 +284,13 @@ module _ {run : Run} {row cost : ℕ} (t : Tick) (whole : Whole run) (p : Passed
 
 -- ---- the laws
 
+pub one-test-means : OneTestMeans
+one-test-means t few rows row cost =
+    let many : length (costLimits t) ≡ t .count = one-limit-for-each-row t few rows in
+    by-lt row (t .count)
+    (λ in-use. simp (lt-ltb row (length (costLimits t)) (omega arith), lt-ltb row (t .count) in-use, limit-is-its-c t row in-use))
+    (λ unused. simp (le-ltb row (length (costLimits t)) (omega arith), le-ltb row (t .count) unused))
+
 pub release-keeps-sound : ReleaseKeepsSound
 release-keeps-sound run row cost whole sound =
     each-release run row cost (λ step. (soundOf (step .run) ≡ true) × Whole (step .run))
@@ -291,8 +301,8 @@ pub serials-grow : SerialsGrow
 serials-grow run row cost = each-release run row cost (λ step. run .next .0 ≤ step .run .next .0) (λ r. omega arith) (λ t p given. omega arith)
 
 pub refused-release-changes-nothing : RefusedReleaseChangesNothing
-refused-release-changes-nothing run row cost r =
-    each-release run row cost (λ step. step .answer ≡ answer.Refused r → step .run ≡ run) (λ q e. refl)
+refused-release-changes-nothing run row cost number place =
+    each-release run row cost (λ step. releaseSays (step .answer) ≡ ReleaseSays.refused number place → step .run ≡ run) (λ q e. refl)
     (λ t p given e. impossible cc)
 
 pub fresh-has-no-history : FreshHasNoHistory
@@ -301,9 +311,7 @@ fresh-has-no-history t few = record {
 }
 
 pub due-by-whole-history : DueByWholeHistory
-due-by-whole-history run history row cost a whole keeps =
-    each-release run row cost (λ step. step .answer ≡ answer.Accepted a → GaveDue run history row (a .due .0) (step .run))
+due-by-whole-history run history row cost serial due whole keeps =
+    each-release run row cost (λ step. releaseSays (step .answer) ≡ accepted serial due → GaveDue run history row due (step .run))
     (λ r e. impossible cc)
-    (λ t p given e.
-    let same : record { serial = run .next; due = t } ≡ a = cc in
-    rw (← same) (due-by-history t whole p given history keeps))
+    (λ t p given e. let same : t .0 ≡ due = cc in rw (← same) (due-by-history t whole p given history keeps))

@@ -1,22 +1,29 @@
 -- The test of a run means the facts of `Sound`, and nothing more; and the same test as the code goes, place by place.
 -- (docs/RULES.md, sections 6.20 to 6.24.)
 use Prim.Native.Nat.{ℕ, zero, suc, _+_, _≤_, _<_, suc-le-suc}
-use mathlib.Core.Path.{_≡_, refl, sym, _∙_}
-use mathlib.Core.Bool.{true, false, _&&_, and-false}
+use mathlib.Core.Path.{_≡_, refl, sym, ap, _∙_}
+use mathlib.Core.Bool.{Bool, true, false, _&&_, and-false}
 use mathlib.Core.List.{List, [], _∷_}
 use native.Mathlib.Nat.{not-suc-le-zero, le-of-suc-le-suc}
 use native.Mathlib.Numerals.{add-one}
 use native.Mathlib.Omega.{arith}
 use lib.Dec.{leb}
-use lib.ListN.{length, drop, getD, length-take, drop-of-length-le}
+use lib.ListN.{length, take, drop, getD, length-take, length-map, drop-of-length-le}
 use lib.Seq.{length-take-le, drop-cons, getD-take}
 use borrow.Author.Tests.{leb-true, ltb-true, le-leb, lt-leb, lt-ltb, le-ltb}
 use Rattle.kinds.specs.Numbering.{maxTime}
+use Rattle.kinds.specs.declared.Refusal.{Refusal}
+use Rattle.kinds.proofs.Apart.{impossible}
+use Rattle.kinds.proofs.Lists.{length-mapped}
 use Rattle.table.specs.declared.Row.{Row}
+use Rattle.table.specs.declared.CostAnswer.{CostAnswer}
+use Rattle.table.specs.declared.CostAnswer.the-variants as answer
+use Rattle.table.specs.Costs.{csOf, costLimits, limitOf, costAnswer}
 use Rattle.table.specs.declared.Table.{Table}
 use Rattle.table.specs.Limits.{maxRows}
 use Rattle.table.specs.Rows.{fromOneTo, rowInRange}
 use Rattle.table.specs.Tables.{noRow, rowsOf}
+use Rattle.table.proofs.CostLimits.{CostTested, not-in-use, out-of-range, allowed, cost-tested, limits-are-the-first, one-limit-for-each-row, limit-is-its-c}
 use Rattle.table.proofs.Laws.{in-range-means}
 use Rattle.table.proofs.Ranges.{both-true}
 use Rattle.due.specs.declared.Kept.{Kept}
@@ -30,7 +37,7 @@ use Rattle.jobs.proofs.Places.{rest-cons}
 use Rattle.jobs.proofs.Laws.{distinct-means}
 use Rattle.run.specs.declared.Run.{Run}
 use Rattle.run.specs.Runs.{rowAt, costLimit, keptOf}
-use Rattle.run.specs.Sound.{jobFits, jobSound, jobsSound, rowsSound, serialBound, soundOf, SoundJob, Sound, Whole, SoundMeans}
+use Rattle.run.specs.Sound.{jobFits, allows, jobSound, jobsSound, rowsSound, serialBound, soundOf, SoundJob, Sound, Whole, SoundMeans}
 
 -- ---- what the tests of jobs and rows mean
 
@@ -38,49 +45,77 @@ use Rattle.run.specs.Sound.{jobFits, jobSound, jobsSound, rowsSound, ser
 within : (most n : ℕ) → fromOneTo most n ≡ true → (1 ≤ n) × (n ≤ most)
 within most n e = let both = both-true (leb 1 n) (leb n most) e in (leb-true 1 n (both .0), leb-true n most (both .1))
 
+-- A row number and a cost that are allowed: the number has a limit, and the cost is from 1 to it.
+pub allowed-means : (limits : List ℕ) (number cost : ℕ) → allows (costAnswer (limitOf limits number) cost) ≡ true
+    → (number < length limits) × (1 ≤ cost) × (cost ≤ getD limits number 0)
+allowed-means limits number cost = to _ (cost-tested limits number cost)
+  where
+    to : (a : CostAnswer) → CostTested limits number cost a → allows a ≡ true → (number < length limits) × (1 ≤ cost) × (cost ≤ getD limits number 0)
+    to a (not-in-use h) e = impossible cc
+    to a (out-of-range h o) e = impossible cc
+    to a (allowed h l m) e = (h, l, m)
+
+-- There are no more limits than rows in use.
+pub few-limits : (t : Table) → length (costLimits t) ≤ t .count
+few-limits t =
+    let same = length-mapped (λ (r : Row). r .c) (rowsOf t) (length (costLimits t)) refl in omega (arith, same, length-take (t .count) (t .rows))
+
+-- What is lent of the limits of all rows, as many as there are rows in use, are the table's limits.
+pub limits-lent : (t : Table) (all : List ℕ) → all ≡ csOf (t .rows) → take (t .count) all ≡ costLimits t
+limits-lent t all e = ap (take (t .count)) e ∙ sym (limits-are-the-first t)
+
+-- There are as many to lend.
+pub enough-limits : (run : Run) → Whole run → run .table .count ≤ maxRows → (all : List ℕ) → all ≡ csOf (run .table .rows) → run .table .count ≤ length all
+enough-limits run whole few all e = rw e (omega (arith, length-map (run .table .rows) (λ (r : Row). r .c), whole .all-rows))
+
 module _ (t : Table) (clock next : ℕ) where
-  -- The test of a job gives its facts ..
-  job-facts : (j : Job) → jobSound t clock next j ≡ true → SoundJob t clock next j
+  -- The test of a job gives its facts.
+  job-facts : (j : Job) → jobSound (costLimits t) clock next j ≡ true → SoundJob t clock next j
   unfolding jobSound jobFits
   job-facts j e =
       let row = both-true _ _ e in
       let serial = both-true _ _ (row .1) in
       let due = both-true _ _ (serial .0) in
       let left = both-true _ _ (due .0) in
-      let cost = both-true _ _ (left .0) in
+      let cost = allowed-means (costLimits t) (j .row .0) (j .cost) (row .0) in
+      let in-use : j .row .0 < t .count = omega (arith, cost .0, few-limits t) in
       record {
-        row-in-use = ltb-true _ _ (row .0);
-        released = leb-true _ _ (cost .0);
-        some-cost = within _ _ (cost .1) .0;
-        cost-allowed = within _ _ (cost .1) .1;
+        row-in-use = in-use;
+        released = leb-true _ _ (left .0);
+        some-cost = cost .1;
+        cost-allowed = rw (limit-is-its-c t (j .row .0) in-use) at (cost .2);
         some-left = within _ _ (left .1) .0;
         left-of-cost = within _ _ (left .1) .1;
         due-in-time = leb-true _ _ (due .1);
         serial-given = ltb-true _ _ (serial .1);
       }
 
-  -- .. and they give it.
-  job-tested : (j : Job) → SoundJob t clock next j → jobSound t clock next j ≡ true
+  -- The facts of a job give its test, where the table has all its places.
+  job-tested : length (costLimits t) ≡ t .count → (j : Job) → SoundJob t clock next j → jobSound (costLimits t) clock next j ≡ true
   unfolding jobSound jobFits
-  job-tested j s = simp (
-    lt-ltb _ _ (s .row-in-use),
-    le-leb _ _ (s .released),
-    le-leb _ _ (s .some-cost),
-    le-leb _ _ (s .cost-allowed),
-    le-leb _ _ (s .some-left),
-    le-leb _ _ (s .left-of-cost),
-    le-leb _ _ (s .due-in-time),
-    lt-ltb _ _ (s .serial-given),
-  )
+  job-tested many j s =
+      let limit = limit-is-its-c t (j .row .0) (s .row-in-use) in
+      simp (
+        lt-ltb (j .row .0) (length (costLimits t)) (omega (arith, s .row-in-use, many)),
+        limit,
+        le-leb _ _ (s .released),
+        le-leb _ _ (s .some-cost),
+        le-leb _ _ (s .cost-allowed),
+        le-leb _ _ (s .some-left),
+        le-leb _ _ (s .left-of-cost),
+        le-leb _ _ (s .due-in-time),
+        lt-ltb _ _ (s .serial-given),
+      )
 
-  -- All jobs are sound: so is each ..
-  each-job : (js : List Job) → jobsSound t clock next js ≡ true → (i : ℕ) → i < length js → jobSound t clock next (getD js i noJob) ≡ true
+module _ (limits : List ℕ) (clock next : ℕ) where
+  -- Where all jobs are sound, each is.
+  each-job : (js : List Job) → jobsSound limits clock next js ≡ true → (i : ℕ) → i < length js → jobSound limits clock next (getD js i noJob) ≡ true
   each-job [] e i h = absurd (not-suc-le-zero h)
   each-job (j ∷ js) e zero h = both-true _ _ e .0
-  each-job (j ∷ js) e (suc i) h = each-job js (both-true (jobSound t clock next j) _ e .1) i (le-of-suc-le-suc h)
+  each-job (j ∷ js) e (suc i) h = each-job js (both-true (jobSound limits clock next j) _ e .1) i (le-of-suc-le-suc h)
 
-  -- .. and the other way round.
-  all-jobs : (js : List Job) → ((i : ℕ) → i < length js → jobSound t clock next (getD js i noJob) ≡ true) → jobsSound t clock next js ≡ true
+  -- Where each job is sound, all are.
+  all-jobs : (js : List Job) → ((i : ℕ) → i < length js → jobSound limits clock next (getD js i noJob) ≡ true) → jobsSound limits clock next js ≡ true
   all-jobs [] f = refl
   all-jobs (j ∷ js) f = rw (f 0 (omega arith)) (all-jobs js (λ i h. f (suc i) (suc-le-suc h)))
 
@@ -88,7 +123,7 @@ module _ (t : Table) (clock next : ℕ) where
 abbrev RowSound : Row → Kept → Type 0
 RowSound r k = (rowInRange r ≡ true) × (keptSound k r ≡ true)
 
--- All rows are sound: so is each, with what is kept of it ..
+-- Where all rows are sound, each is, with what is kept of it.
 each-row : (rs : List Row) (ks : List Kept) → length rs ≤ length ks → rowsSound rs ks ≡ true
     → (i : ℕ) → i < length rs → RowSound (getD rs i noRow) (getD ks i noKept)
 each-row [] ks l e i h = absurd (not-suc-le-zero h)
@@ -97,7 +132,7 @@ each-row (r ∷ rs) (k ∷ ks) l e zero h = both-true _ _ (both-true _ (rowsSoun
 each-row (r ∷ rs) (k ∷ ks) l e (suc i) h =
     each-row rs ks (le-of-suc-le-suc l) (both-true (rowInRange r && keptSound k r) _ e .1) i (le-of-suc-le-suc h)
 
--- .. and the other way round.
+-- Where each row is sound, with what is kept of it, all are.
 all-rows : (rs : List Row) (ks : List Kept) → ((i : ℕ) → i < length rs → RowSound (getD rs i noRow) (getD ks i noKept)) → rowsSound rs ks ≡ true
 all-rows [] ks f = refl
 all-rows (r ∷ rs) [] f = refl
@@ -123,7 +158,7 @@ module _ (run : Run) where
   unfolding soundOf
   rows-unsound h = simp (h, and-false)
 
-  pub jobs-unsound : jobsSound (run .table) (run .clock .0) (run .next .0) (jobsOf (run .pending)) ≡ false → false ≡ soundOf run
+  pub jobs-unsound : jobsSound (costLimits (run .table)) (run .clock .0) (run .next .0) (jobsOf (run .pending)) ≡ false → false ≡ soundOf run
   unfolding soundOf
   jobs-unsound h = simp (h, and-false)
 
@@ -131,13 +166,20 @@ module _ (run : Run) where
   unfolding soundOf
   serials-alike h = simp (h, and-false)
 
+-- What is answered for the lent limits is what the test of the run's jobs says.
+pub jobs-tested : (run : Run) (all : List ℕ) → all ≡ csOf (run .table .rows) → (r : Bool)
+    → r ≡ jobsSound (take (run .table .count) all) (run .clock .0) (run .next .0) (jobsOf (run .pending))
+    → jobsSound (costLimits (run .table)) (run .clock .0) (run .next .0) (jobsOf (run .pending)) ≡ r
+jobs-tested run all e r h =
+    ap (λ l. jobsSound l (run .clock .0) (run .next .0) (jobsOf (run .pending))) (sym (limits-lent (run .table) all e)) ∙ sym h
+
 -- All of these hold.
 pub record AllBefore (run : Run) : Type 0 where
   pub few-rows : run .table .count ≤ maxRows
   pub clock-in-time : run .clock .0 ≤ maxTime
   pub few-pending : run .pending .count ≤ maxPlaces
   pub rows : rowsSound (rowsOf (run .table)) (run .kept) ≡ true
-  pub jobs : jobsSound (run .table) (run .clock .0) (run .next .0) (jobsOf (run .pending)) ≡ true
+  pub jobs : jobsSound (costLimits (run .table)) (run .clock .0) (run .next .0) (jobsOf (run .pending)) ≡ true
   pub apart : distinctSerials (jobsOf (run .pending)) ≡ true
 
 -- Then the bound of the next serial settles it.
@@ -170,18 +212,18 @@ module _ (run : Run) (whole : Whole run) where
     at-number : (i : ℕ) → i < table .count → getD (rowsOf table) i noRow ≡ rowAt table i
     at-number i h = getD-take (table .count) (table .rows) i noRow h
 
-    -- All rows are sound: so is each by its number ..
+    -- Where all rows are sound, each is by its number.
     each-numbered : rowsSound (rowsOf table) (run .kept) ≡ true → (i : ℕ) → i < table .count → RowSound (rowAt table i) (keptOf run i)
     each-numbered e i h =
         let enough : length (rowsOf table) ≤ length (run .kept) = omega (arith, counted, whole .all-kept) in
         (rw (at-number i h) at (each-row (rowsOf table) (run .kept) enough e i (omega (arith, counted))))
 
-    -- .. and the other way round.
+    -- Where each row is sound by its number, all are.
     all-numbered : ((i : ℕ) → i < table .count → RowSound (rowAt table i) (keptOf run i)) → rowsSound (rowsOf table) (run .kept) ≡ true
     all-numbered f =
         all-rows (rowsOf table) (run .kept) (λ i h. let k : i < table .count = omega (arith, counted) in rw (at-number i k) (f i k))
 
-  -- The test of a run gives its facts ..
+  -- The test of a run gives its facts.
   sound-facts : soundOf run ≡ true → Sound run
   unfolding soundOf
   sound-facts e =
@@ -203,7 +245,7 @@ module _ (run : Run) (whole : Whole run) where
         serials = leb-true _ _ (serials .1);
       }
 
-  -- .. and they give it.
+  -- The facts of a run give its test.
   sound-tested : Sound run → soundOf run ≡ true
   sound-tested s =
       let row : (i : ℕ) → i < table .count → RowSound (rowAt table i) (keptOf run i) =
@@ -213,7 +255,7 @@ module _ (run : Run) (whole : Whole run) where
         clock-in-time = s .clock-in-time;
         few-pending = s .few-pending;
         rows = all-numbered (s .few-rows) row;
-        jobs = all-jobs _ _ _ pending (λ i h. job-tested _ _ _ (getD pending i noJob) (s .jobs i h));
+        jobs = all-jobs _ _ _ pending (λ i h. job-tested _ _ _ (one-limit-for-each-row table (s .few-rows) (whole .all-rows)) (getD pending i noJob) (s .jobs i h));
         apart = distinct-means pending .1 (s .apart);
       } in
       sym (bound-settles run before) ∙ le-leb (run .next .0) (serialBound run) (s .serials)
@@ -223,56 +265,50 @@ sound-means run whole = (sound-facts run whole, sound-tested run whole)
 
 -- ---- the pending jobs, one place after another
 
-module _ (t : Table) (clock next : ℕ) (j : Job) where
-  -- A job whose row is not in use is not sound ..
-  row-unused : t .count ≤ j .row .0 → jobSound t clock next j ≡ false
-  unfolding jobSound
-  row-unused h = simp (le-ltb (j .row .0) (t .count) h)
-
-  -- .. and one whose row is in use is sound where it fits.
-  row-used : j .row .0 < t .count → jobSound t clock next j ≡ jobFits (costLimit t (j .row .0)) clock next j
-  unfolding jobSound
-  row-used h = simp (lt-ltb (j .row .0) (t .count) h)
-
 -- The job at a place.
 abbrev jobAt : Pending → (i : ℕ) → Job
 jobAt p i = getD (p .places) i noJob
 
 -- Whether all jobs are sound is settled by those from a place on.
-pub record JobsFrom (t : Table) (clock next : ℕ) (p : Pending) (i : ℕ) : Type 0 where
+pub record JobsFrom (limits : List ℕ) (clock next : ℕ) (p : Pending) (i : ℕ) : Type 0 where
   pub all-places : length (p .places) ≡ maxPlaces
   pub few-pending : p .count ≤ maxPlaces
-  pub settled : jobsSound t clock next (drop i (jobsOf p)) ≡ jobsSound t clock next (jobsOf p)
+  pub settled : jobsSound limits clock next (drop i (jobsOf p)) ≡ jobsSound limits clock next (jobsOf p)
 
-module _ {t : Table} {clock next : ℕ} {p : Pending} {i : ℕ} (from : JobsFrom t clock next p i) where
+module _ {limits : List ℕ} {clock next : ℕ} {p : Pending} {i : ℕ} (from : JobsFrom limits clock next p i) where
   -- Where no job is left, they are.
-  pub no-job-left : p .count ≤ i → true ≡ jobsSound t clock next (jobsOf p)
+  pub no-job-left : p .count ≤ i → true ≡ jobsSound limits clock next (jobsOf p)
   no-job-left h =
       let past : length (jobsOf p) ≤ i = omega (arith, length-take (p .count) (p .places)) in
       (rw (drop-of-length-le (jobsOf p) past) at (from .settled))
 
   module _ (here : i < p .count) where
     -- Else it is settled by the job at the place and those after it.
-    job-and-later : (jobSound t clock next (jobAt p i) && jobsSound t clock next (drop (i + 1) (jobsOf p))) ≡ jobsSound t clock next (jobsOf p)
+    job-and-later : (jobSound limits clock next (jobAt p i) && jobsSound limits clock next (drop (i + 1) (jobsOf p)))
+        ≡ jobsSound limits clock next (jobsOf p)
     job-and-later =
         let inside : i < length (jobsOf p) = omega (arith, length-take (p .count) (p .places)) in
         (rw (rest-cons (p .count) (p .places) i noJob inside) at (from .settled))
 
-    -- If its row is not in use, not all are sound; ..
-    pub no-such-row : t .count ≤ jobAt p i .row .0 → false ≡ jobsSound t clock next (jobsOf p)
-    no-such-row h = rw (row-unused t clock next (jobAt p i) h) at job-and-later
+    -- If its row number or its cost is refused, not all are sound.
+    pub job-not-allowed : (r : Refusal) → costAnswer (limitOf limits (jobAt p i .row .0)) (jobAt p i .cost) ≡ answer.Refused r
+        → false ≡ jobsSound limits clock next (jobsOf p)
+    unfolding jobSound
+    job-not-allowed r h = rw h at job-and-later
 
-    module _ (in-use : jobAt p i .row .0 < t .count) where
-      -- .. nor are they if it does not fit; ..
-      pub job-does-not-fit : jobFits (costLimit t (jobAt p i .row .0)) clock next (jobAt p i) ≡ false → false ≡ jobsSound t clock next (jobsOf p)
-      job-does-not-fit h = rw (row-used t clock next (jobAt p i) in-use ∙ h) at job-and-later
+    module _ (ok : costAnswer (limitOf limits (jobAt p i .row .0)) (jobAt p i .cost) ≡ answer.Allowed) where
+      -- If it does not fit, not all are sound.
+      pub job-does-not-fit : jobFits clock next (jobAt p i) ≡ false → false ≡ jobsSound limits clock next (jobsOf p)
+      unfolding jobSound
+      job-does-not-fit h = rw (ok, h) at job-and-later
 
-      -- .. and if it fits, it is settled by those after it.
-      pub job-fits : jobFits (costLimit t (jobAt p i .row .0)) clock next (jobAt p i) ≡ true → JobsFrom t clock next p (i + 1)
+      -- If it fits, it is settled by those after it.
+      pub job-fits : jobFits clock next (jobAt p i) ≡ true → JobsFrom limits clock next p (i + 1)
+      unfolding jobSound
       job-fits h = record {
         all-places = from .all-places;
         few-pending = from .few-pending;
-        settled = rw (row-used t clock next (jobAt p i) in-use ∙ h) at job-and-later;
+        settled = rw (ok, h) at job-and-later;
       }
 
 -- ---- the rows with their kept due times, one after another
@@ -299,16 +335,16 @@ module _ {t : Table} {ks : List Kept} {i : ℕ} (from : RowsFrom t ks i) where
         let inside : i < length (rowsOf t) = omega (arith, length-take (t .count) (t .rows)) in
         (rw (rest-cons (t .count) (t .rows) i noRow inside, drop-cons ks i noKept (omega arith), ← add-one i) at (from .settled))
 
-    -- If the row is out of range, not all are sound; ..
+    -- If the row is out of range, not all are sound.
     pub row-out-of-range : rowInRange (rowAt t i) ≡ false → false ≡ rowsSound (rowsOf t) ks
     row-out-of-range r = simp r at row-and-later
 
     module _ (r : rowInRange (rowAt t i) ≡ true) where
-      -- .. nor are they if what is kept cannot be its; ..
+      -- If what is kept cannot be its, not all are sound.
       pub kept-unsound : keptSound (getD ks i noKept) (rowAt t i) ≡ false → false ≡ rowsSound (rowsOf t) ks
       kept-unsound k = simp (r, k) at row-and-later
 
-      -- .. and if it can, it is settled by those after it.
+      -- If what is kept can be its, it is settled by those after it.
       pub row-sound : keptSound (getD ks i noKept) (rowAt t i) ≡ true → RowsFrom t ks (i + 1)
       row-sound k = record {
         all-rows = from .all-rows;

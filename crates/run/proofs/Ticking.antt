@@ -3,7 +3,7 @@ use Prim.Native.Nat.{ℕ, zero, suc, _+_, _-_, _≤_, _<_, suc-le-suc}
 use mathlib.Core.Path.{_≡_, refl}
 use mathlib.Core.Bool.{Bool, true, false}
 use mathlib.Core.List.{List, [], _∷_}
-use native.Mathlib.Nat.{zero-add, not-suc-le-zero, le-of-suc-le-suc}
+use native.Mathlib.Nat.{not-suc-le-zero, le-of-suc-le-suc}
 use native.Mathlib.Decide.{decLe, decLt}
 use native.Mathlib.Omega.{arith}
 use lib.ListN.{length, set, getD, length-set}
@@ -15,14 +15,14 @@ use Rattle.jobs.specs.declared.Job.{Job}
 use Rattle.jobs.specs.declared.Pending.{Pending}
 use Rattle.jobs.specs.declared.Turn.{Turn}
 use Rattle.jobs.specs.declared.Turn.the-variants as turn
-use Rattle.jobs.specs.declared.Ticks.{Ticks}
+use Rattle.jobs.specs.declared.Turned.{Turned}
 use Rattle.jobs.specs.Places.{noJob, jobsOf, used, without}
 use Rattle.jobs.specs.Choice.{firstPlace}
 use Rattle.jobs.specs.Units.{worked, after}
-use Rattle.jobs.specs.Turns.{oneTick, turnsFrom, ticksFrom}
+use Rattle.jobs.specs.Turns.{oneTick, turned}
 use Rattle.jobs.specs.Serials.{distinctSerials}
 use Rattle.jobs.specs.Laws.{WellFormed, unitAt}
-use Rattle.jobs.proofs.Turns.{turns-idle, turns-busy}
+use Rattle.jobs.proofs.Turns.{turned-idle, turned-busy}
 use Rattle.jobs.proofs.Laws.{first-is-there, after-a-unit, after-keeps-form, after-keeps-serials, distinct-means, without-is-one-less}
 use Rattle.run.specs.declared.Run.{Run}
 use Rattle.run.specs.declared.Ticked.{Ticked}
@@ -96,7 +96,7 @@ module _ (run : Run) (good : Good run) where
   abbrev SoundNow : Job → Type 0
   SoundNow = SoundJob (run .table) (run .clock .0) (run .next .0)
 
-  -- .. and at the next clock.
+  -- A job that is sound at the next clock.
   abbrev SoundNext : Job → Type 0
   SoundNext = SoundJob (run .table) (run .clock .0 + 1) (run .next .0)
 
@@ -144,7 +144,7 @@ module _ (run : Run) (good : Good run) where
         whole,
       )
 
-  -- So are those that were, where a tick is idle ..
+  -- The jobs that were pending have it where a tick is idle.
   later-same : Later (run .pending)
   later-same = record {
     form = formed;
@@ -153,7 +153,7 @@ module _ (run : Run) (good : Good run) where
     one-less = omega arith;
   }
 
-  -- .. and where one of them got a unit.
+  -- The jobs have it where one of them got a unit.
   module _ (at : ℕ) (h : at < used (run .pending)) where
     abbrev js : List Job
     js = jobsOf (run .pending)
@@ -235,17 +235,13 @@ answerOf turn.Idle = answer.Idle
 answerOf (turn.Ran r) = answer.Ran r
 
 -- What a tick makes of one turn of the pending jobs.
-abbrev pub stepOf : Run → Ticks → TickStep
+abbrev pub stepOf : Run → Turned → TickStep
 stepOf run t = record { run = runWith run (run .clock .0 + 1) (t .pending); answer = answerOf (t .turn); late = t .late }
 
-pub tick-is-a-turn : (run : Run) → Good run → run .clock .0 < maxTime
-    → stepOf run (ticksFrom (run .pending) (run .clock .0) (run .clock .0 + 1)) ≡ ticked run
-unfolding turnsFrom
+pub tick-is-a-turn : (run : Run) → Good run → run .clock .0 < maxTime → stepOf run (turned (run .pending) (run .clock .0 + 1)) ≡ ticked run
 tick-is-a-turn run good in-time =
-    let one : run .clock .0 + 1 - run .clock .0 ≡ 1 = omega arith in
     let p = run .pending in
-    let n = counted run good in
     elim (decLe 1 (p .count)) [
-      | yes h ↦ rw (n, one, turns-busy 0 (run .clock .0) p turn.Idle 0 [] (omega arith), tick-busy run (good .0) in-time h, zero-add)
-      | no h ↦ rw (n, one, turns-idle 1 (run .clock .0) p turn.Idle 0 [] (omega arith), tick-idle run (good .0) in-time (omega arith))
+      | yes h ↦ rw (turned-busy p (run .clock .0 + 1) (omega (arith, counted run good)), tick-busy run (good .0) in-time h)
+      | no h ↦ rw (turned-idle p (run .clock .0 + 1) (omega (arith, counted run good)), tick-idle run (good .0) in-time (omega arith))
     ]

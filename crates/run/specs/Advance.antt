@@ -1,18 +1,12 @@
--- Many ticks in one call: the tick's own definition, again and again. (docs/RULES.md, sections 6.10 to 6.17, 8.2 and 8.3.)
-use Prim.Native.Nat.{ℕ, zero, suc, _+_, _-_}
+-- Many ticks: the tick's own definition, again and again, with the jobs that finish. A replay is said by these. (docs/RULES.md, sections 6.10 to 6.17, 8.2 and 8.3.)
+use Prim.Native.Nat.{ℕ, zero, suc, _+_}
 use mathlib.Core.Bool.{cond, _&&_}
 use mathlib.Core.List.{List, [], _∷_, _++_}
-use lib.Dec.{leb, ltb, eqb}
-use Rattle.kinds.specs.Numbering.{maxTime}
+use lib.Dec.{ltb, eqb}
 use Rattle.kinds.specs.declared.Finish.{Finish}
-use Rattle.kinds.specs.declared.Refusal.{Refusal}
-use Rattle.kinds.specs.declared.Refusal.the-variants.{RunNotSound, TimeTooLate}
 use Rattle.jobs.specs.Units.{lastUnit}
-use Rattle.jobs.specs.Turns.{firstJob, finishAt, finishesOf}
+use Rattle.jobs.specs.Turns.{firstJob, finishAt}
 use Rattle.run.specs.declared.Run.{Run}
-use Rattle.run.specs.declared.Advanced.{Advanced}
-use Rattle.run.specs.declared.AdvanceAnswer.the-variants as answer
-use Rattle.run.specs.Sound.{soundOf}
 use Rattle.run.specs.Ticking.{ticked}
 
 -- What the next tick of a sound run finishes, if its clock can go on: the job that goes first, if that is its last unit, at the new clock. (No definition below ticks on at
@@ -44,27 +38,3 @@ ticksWhilePending (suc n) s = cond (eqb (s .run .pending .count) 0) s (ticksWhil
 -- Nothing has happened since.
 abbrev pub sinceNow : Run → Since
 sinceNow run = record { run = run; late = 0; finishes = [] }
-
--- What is handed out after ticks that are done, ..
-abbrev pub done : Since → Advanced
-done s = record { run = s .run; answer = answer.Done; late = s .late; finishes = finishesOf (s .finishes) }
-
--- .. and where they are refused.
-abbrev pub refused : Since → Refusal → Advanced
-refused s r = record { run = s .run; answer = answer.Refused r; late = s .late; finishes = finishesOf (s .finishes) }
-
--- Ticks until a time, and none where it is not later than the clock: 11, then 10 for a time later than any may be.
-unfoldable pub advanced : Run → (until : ℕ) → Advanced
-advanced run until =
-    cond (soundOf run)
-    (cond (leb until maxTime) (done (ticks (until - run .clock .0) (sinceNow run))) (refused (sinceNow run) TimeTooLate))
-    (refused (sinceNow run) RunNotSound)
-
--- The end of a drain: 10 where the clock stopped it with jobs still pending.
-abbrev pub drainedTo : Since → Advanced
-drainedTo s = cond (eqb (s .run .pending .count) 0) (done s) (refused s TimeTooLate)
-
--- Ticks until nothing is pending: 11; 10, beside the run and the jobs finished so far, where the clock stops it.
-unfoldable pub drained : Run → Advanced
-drained run =
-    cond (soundOf run) (drainedTo (ticksWhilePending (maxTime - run .clock .0) (sinceNow run))) (refused (sinceNow run) RunNotSound)

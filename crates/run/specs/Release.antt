@@ -4,9 +4,11 @@ use mathlib.Core.Bool.{cond}
 use lib.Dec.{ltb}
 use lib.ListN.{set}
 use Rattle.kinds.specs.declared.Refusal.{Refusal}
-use Rattle.kinds.specs.declared.Refusal.the-variants.{RunNotSound, NoSuchRow, CostOutOfRange, PlacesFull}
+use Rattle.kinds.specs.declared.Refusal.the-variants.{RunNotSound, PlacesFull}
 use Rattle.kinds.specs.declared.Tick.{Tick}
-use Rattle.table.specs.Rows.{fromOneTo}
+use Rattle.table.specs.declared.CostAnswer.{CostAnswer}
+use Rattle.table.specs.declared.CostAnswer.the-variants as cost-answer
+use Rattle.table.specs.Costs.{costLimits, limitOf, costAnswer}
 use Rattle.due.specs.declared.Due.{Due}
 use Rattle.due.specs.declared.Due.the-variants as due
 use Rattle.due.specs.Kept.{dueOf, keptWith}
@@ -15,7 +17,7 @@ use Rattle.jobs.specs.Places.{maxPlaces, put}
 use Rattle.run.specs.declared.Run.{Run}
 use Rattle.run.specs.declared.ReleaseStep.{ReleaseStep}
 use Rattle.run.specs.declared.Released.the-variants as answer
-use Rattle.run.specs.Runs.{rowInUse, rowAt, costLimit, keptOf}
+use Rattle.run.specs.Runs.{rowAt, keptOf}
 use Rattle.run.specs.Sound.{soundOf}
 
 -- A refused release leaves the run as it was.
@@ -41,15 +43,15 @@ abbrev pub atDue : Run → (row cost : ℕ) → Due → ReleaseStep
 atDue run row cost (due.At t) = record { run = withJob run row cost t; answer = answer.Accepted (record { serial = run .next; due = t }) }
 atDue run row cost (due.Refused r) = refusedRelease run r
 
--- The tests in their order: 11, 6, 7, 8, 9.
+-- A release whose row number and cost are allowed, or refused (6, 7): 8 where all places are in use, and then its due time settles it. (6.8)
+abbrev pub atCost : Run → (row cost : ℕ) → CostAnswer → ReleaseStep
+atCost run row cost cost-answer.Allowed =
+    cond (ltb (run .pending .count) maxPlaces)
+    (atDue run row cost (dueOf (keptOf run row) (rowAt (run .table) row) (run .clock .0) cost))
+    (refusedRelease run PlacesFull)
+atCost run row cost (cost-answer.Refused r) = refusedRelease run r
+
+-- The tests in their order: 11, 6, 7, 8, 9. (6.8)
 unfoldable pub released : Run → (row cost : ℕ) → ReleaseStep
 released run row cost =
-    cond (soundOf run)
-    (cond (rowInUse (run .table) row)
-    (cond (fromOneTo (costLimit (run .table) row) cost)
-    (cond (ltb (run .pending .count) maxPlaces)
-    (atDue run row cost (dueOf (keptOf run row) (rowAt (run .table) row) (run .clock .0)))
-    (refusedRelease run PlacesFull))
-    (refusedRelease run CostOutOfRange))
-    (refusedRelease run NoSuchRow))
-    (refusedRelease run RunNotSound)
+    cond (soundOf run) (atCost run row cost (costAnswer (limitOf (costLimits (run .table)) row) cost)) (refusedRelease run RunNotSound)

@@ -2,7 +2,7 @@
 use Prim.Native.Nat.{ℕ, _+_, _≤_, _<_}
 use mathlib.Core.Path.{_≡_}
 use mathlib.Core.Logic.{_↔_}
-use mathlib.Core.Bool.{Bool, true, _&&_}
+use mathlib.Core.Bool.{Bool, true, false, _&&_}
 use mathlib.Core.List.{List, [], _∷_}
 use lib.Dec.{leb, ltb}
 use lib.ListN.{length, getD}
@@ -10,6 +10,9 @@ use Rattle.kinds.specs.Numbering.{maxTime}
 use Rattle.table.specs.declared.Row.{Row}
 use Rattle.table.specs.declared.Table.{Table}
 use Rattle.table.specs.Limits.{maxRows}
+use Rattle.table.specs.declared.CostAnswer.{CostAnswer}
+use Rattle.table.specs.declared.CostAnswer.the-variants as answer
+use Rattle.table.specs.Costs.{costLimits, limitOf, costAnswer}
 use Rattle.table.specs.Rows.{fromOneTo, rowInRange}
 use Rattle.table.specs.Tables.{rowsOf}
 use Rattle.table.specs.Laws.{WithinLimits}
@@ -20,26 +23,29 @@ use Rattle.jobs.specs.declared.Job.{Job}
 use Rattle.jobs.specs.Places.{maxPlaces, noJob, jobsOf}
 use Rattle.jobs.specs.Serials.{distinctSerials}
 use Rattle.run.specs.declared.Run.{Run}
-use Rattle.run.specs.Runs.{rowInUse, rowAt, costLimit, keptOf}
+use Rattle.run.specs.Runs.{rowAt, costLimit, keptOf}
 
--- A job can be pending under a limit of its cost: it was released by the clock, has a cost within the limit and some of it left, is due in time and has a serial that was
--- given out.
-unfoldable pub jobFits : (most clock next : ℕ) → Job → Bool
-jobFits most clock next j =
+-- A job can be pending at a clock, whatever its row is: it was released by the clock, has some of its cost left, is due in time and has a serial that was given out. (6.22)
+unfoldable pub jobFits : (clock next : ℕ) → Job → Bool
+jobFits clock next j =
     leb (j .release .0) clock
-    && fromOneTo most (j .cost)
     && fromOneTo (j .cost) (j .left)
     && leb (j .due .0) maxTime
     && ltb (j .serial .0) next
 
--- A pending job can be one of a run's: it names a row in use, and fits its cost.
-unfoldable pub jobSound : (t : Table) (clock next : ℕ) → Job → Bool
-jobSound t clock next j = rowInUse t (j .row .0) && jobFits (costLimit t (j .row .0)) clock next j
+-- The one test of a row number and a cost allows a job.
+abbrev pub allows : CostAnswer → Bool
+allows answer.Allowed = true
+allows (answer.Refused r) = false
+
+-- A pending job can be one of a run's: its row number and cost are allowed, by the test that a release goes by, and it fits. (6.22)
+unfoldable pub jobSound : (limits : List ℕ) (clock next : ℕ) → Job → Bool
+jobSound limits clock next j = allows (costAnswer (limitOf limits (j .row .0)) (j .cost)) && jobFits clock next j
 
 -- Each of the jobs can.
-abbrev pub jobsSound : (t : Table) (clock next : ℕ) → List Job → Bool
-jobsSound t clock next [] = true
-jobsSound t clock next (j ∷ js) = jobSound t clock next j && jobsSound t clock next js
+abbrev pub jobsSound : (limits : List ℕ) (clock next : ℕ) → List Job → Bool
+jobsSound limits clock next [] = true
+jobsSound limits clock next (j ∷ js) = jobSound limits clock next j && jobsSound limits clock next js
 
 -- Each row is in range, and what is kept of its due times can be its.
 abbrev pub rowsSound : List Row → List Kept → Bool
@@ -58,7 +64,7 @@ soundOf run =
     && leb (run .clock .0) maxTime
     && leb (run .pending .count) maxPlaces
     && rowsSound (rowsOf (run .table)) (run .kept)
-    && jobsSound (run .table) (run .clock .0) (run .next .0) (jobsOf (run .pending))
+    && jobsSound (costLimits (run .table)) (run .clock .0) (run .next .0) (jobsOf (run .pending))
     && distinctSerials (jobsOf (run .pending))
     && leb (run .next .0) (serialBound run)
 
@@ -85,7 +91,8 @@ pub record Sound (run : Run) : Type 0 where
       → getD (jobsOf (run .pending)) i noJob .serial .0 ≡ getD (jobsOf (run .pending)) k noJob .serial .0 → ⊥
   pub serials : run .next .0 ≤ run .clock .0 + run .pending .count
 
--- The arrays of a run have all their places: every run that a program can hold does.
+-- The arrays of a run have all their places. Every run that a program can hold does: `Run::sound` takes any run at all and ensures it, whatever it answers, so this premise of
+-- the laws holds for every run that a call is handed.
 pub record Whole (run : Run) : Type 0 where
   pub all-rows : length (run .table .rows) ≡ maxRows
   pub all-kept : length (run .kept) ≡ maxRows

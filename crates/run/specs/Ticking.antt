@@ -23,11 +23,11 @@ refusedTick run r = record { run = run; answer = answer.Refused r; late = 0 }
 abbrev pub runWith : Run → (clock : ℕ) → Pending → Run
 runWith run clock p = record { table = run .table; clock = record { 0 = clock }; pending = p; next = run .next; kept = run .kept }
 
--- A tick with nothing pending ..
+-- A tick with nothing pending: the clock goes up by one, and nothing else changes. (6.12)
 abbrev pub idleTick : Run → TickStep
 idleTick run = record { run = runWith run (run .clock .0 + 1) (run .pending); answer = answer.Idle; late = 0 }
 
--- .. and one that gives a unit to the job that goes first.
+-- A tick that gives a unit to the job that goes first. (6.10, 6.12 to 6.14)
 abbrev pub busyTick : Run → TickStep
 busyTick run = record {
   run = runWith run (run .clock .0 + 1) (oneTick (run .pending));

@@ -6,7 +6,6 @@ use crate::soundness::jobs_sound;
 use crate::soundness::rows_sound;
 use due::Due;
 use due::Kept;
-use jobs::Finishes;
 use jobs::Job;
 use jobs::Pending;
 use jobs::Ran;
@@ -16,14 +15,14 @@ use kinds::RefusedAt;
 use kinds::RowNumber;
 use kinds::Serial;
 use kinds::Tick;
+use table::CostAnswer;
 use table::Table;
 use table::TableAnswer;
 ghost use mathlib.Core.Path.{_≡_};
 ghost use Rattle.run.specs.Runs.{freshRun, started};
-ghost use Rattle.run.specs.Sound.{soundOf};
+ghost use Rattle.run.specs.Sound.{soundOf, Whole};
 ghost use Rattle.run.specs.Release.{refusedRelease, released};
 ghost use Rattle.run.specs.Ticking.{ticked};
-ghost use Rattle.run.specs.Advance.{sinceNow, refused, advanced, drained};
 
 pub struct Run {
     pub table: Table,
@@ -74,19 +73,6 @@ pub struct TickStep {
     pub late: u64,
 }
 
-pub enum AdvanceAnswer {
-    Done,
-    Refused(Refusal),
-}
-
-// Many ticks: how many jobs became late, and which finished, in order.
-pub struct Advanced {
-    pub run: Run,
-    pub answer: AdvanceAnswer,
-    pub late: u64,
-    pub finishes: Finishes,
-}
-
 // The fresh run of the table that the bytes spell, also where it is overloaded; or its refusal, with the fresh run of the empty table.
 pub fn start(bytes: &[u8]) -> Started
     ensures { λ r. ⌜ r ≡ started (now (bytes .entry)) ⌝ }
@@ -126,9 +112,10 @@ impl Run {
         }
     }
 
-    // Whether the run can be trusted: the conditions of the rules, and no other.
+    // Whether the run can be trusted: the conditions of the rules, and no other. Whatever the answer, the run's arrays have all their places.
     pub fn sound(self) -> bool
         ensures { λ r. ⌜ r ≡ soundOf self ⌝ }
+        ensures whole { λ r. ⌜ Whole self ⌝ }
     {
         let table = self.table;
         let pending = self.pending;
@@ -147,7 +134,9 @@ impl Run {
         if !rows_sound(table, kept) {
             return false;
         }
-        if !jobs_sound(table, clock, next, pending) {
+        let limits = table.cost_limits();
+        let used = table.count;
+        if !jobs_sound(&limits[..used], clock, next, pending) {
             return false;
         }
         if !pending.distinct() {
@@ -165,18 +154,15 @@ impl Run {
         }
         let mut run = self;
         let table = run.table;
-        let number = row.0;
-        if number >= table.count as u64 {
-            return refused_release(run, Refusal::NoSuchRow);
+        let limits = table.cost_limits();
+        let used = table.count;
+        let limit = table::limit_of(&limits[..used], row);
+        match limit.answer(cost) {
+            CostAnswer::Refused(r) => return refused_release(run, r),
+            CostAnswer::Allowed => {}
         }
-        let at = number as usize;
+        let at = row.0 as usize;
         let its = table.rows[at];
-        if cost < 1 {
-            return refused_release(run, Refusal::CostOutOfRange);
-        }
-        if its.c < cost {
-            return refused_release(run, Refusal::CostOutOfRange);
-        }
         let pending = run.pending;
         if Run::MAX_PENDING <= pending.count {
             return refused_release(run, Refusal::PlacesFull);
@@ -184,9 +170,11 @@ impl Run {
         let kept = run.kept[at];
         let clock = run.clock;
         let serial = run.next;
-        match kept.due(its, clock) {
+        match kept.due(its, clock, cost) {
+            Due::Refused(r) => refused_release(run, r),
+            // A place is unused and the row is in range, so the job is put in and its due time is kept.
             Due::At(due) => {
-                let more = pending.put(Job {
+                let put = pending.put(Job {
                     serial,
                     row,
                     release: clock,
@@ -194,8 +182,10 @@ impl Run {
                     cost,
                     left: cost,
                 });
+                let more = put.pending;
                 run.pending = more;
-                let newest = kept.keep(its, due);
+                let keep = kept.keep(its, due);
+                let newest = keep.kept;
                 run.kept[at] = newest;
                 let following = Serial(serial.0 + 1);
                 run.next = following;
@@ -204,7 +194,6 @@ impl Run {
                     answer: Released::Accepted(Accepted { serial, due }),
                 }
             }
-            Due::Refused(r) => refused_release(run, r),
         }
     }
 
@@ -230,10 +219,10 @@ impl Run {
         }
         let later = Tick(clock.0 + 1);
         let pending = run.pending;
-        let ticks = pending.ticks(clock, later);
-        let left = ticks.pending;
-        let turn = ticks.turn;
-        let late = ticks.late;
+        let turned = pending.tick(later);
+        let left = turned.pending;
+        let turn = turned.turn;
+        let late = turned.late;
         run.pending = left;
         run.clock = later;
         match turn {
@@ -249,66 +238,6 @@ impl Run {
             },
         }
     }
-
-    // Ticks until a time, idle time crossed in one go: 11; 10 for a time later than any may be; none where it is not later than the clock.
-    pub fn advance(self, until: Tick) -> Advanced
-        ensures { λ r. ⌜ r ≡ advanced self (until .0) ⌝ }
-    {
-        if !self.sound() {
-            return refused_advance(self, Refusal::RunNotSound);
-        }
-        if Run::MAX_CLOCK < until.0 {
-            return refused_advance(self, Refusal::TimeTooLate);
-        }
-        let mut run = self;
-        let clock = run.clock;
-        let pending = run.pending;
-        let ticks = pending.ticks(clock, until);
-        let left = ticks.pending;
-        let finishes = ticks.finishes;
-        run.pending = left;
-        if clock.0 < until.0 {
-            run.clock = until;
-        }
-        Advanced {
-            run,
-            answer: AdvanceAnswer::Done,
-            late: ticks.late,
-            finishes,
-        }
-    }
-
-    // Ticks until nothing is pending: 11; 10, beside the run and the jobs finished so far, where the clock stops it.
-    pub fn drain(self) -> Advanced
-        ensures { λ r. ⌜ r ≡ drained self ⌝ }
-    {
-        if !self.sound() {
-            return refused_advance(self, Refusal::RunNotSound);
-        }
-        let mut run = self;
-        let clock = run.clock;
-        let pending = run.pending;
-        let ticks = pending.ticks(clock, Tick(Run::MAX_CLOCK));
-        let left = ticks.pending;
-        let reached = ticks.clock;
-        let finishes = ticks.finishes;
-        run.pending = left;
-        run.clock = reached;
-        if 0 < left.count {
-            return Advanced {
-                run,
-                answer: AdvanceAnswer::Refused(Refusal::TimeTooLate),
-                late: ticks.late,
-                finishes,
-            };
-        }
-        Advanced {
-            run,
-            answer: AdvanceAnswer::Done,
-            late: ticks.late,
-            finishes,
-        }
-    }
 }
 
 fn refused_release(run: Run, refusal: Refusal) -> ReleaseStep
@@ -317,16 +246,5 @@ fn refused_release(run: Run, refusal: Refusal) -> ReleaseStep
     ReleaseStep {
         run,
         answer: Released::Refused(refusal),
-    }
-}
-
-fn refused_advance(run: Run, refusal: Refusal) -> Advanced
-    ensures { λ r. ⌜ r ≡ refused (sinceNow run) refusal ⌝ }
-{
-    Advanced {
-        run,
-        answer: AdvanceAnswer::Refused(refusal),
-        late: 0,
-        finishes: Finishes::none(),
     }
 }

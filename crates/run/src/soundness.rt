@@ -4,6 +4,7 @@ use jobs::Job;
 use jobs::Pending;
 use kinds::Serial;
 use kinds::Tick;
+use table::CostAnswer;
 use table::Table;
 ghost use mathlib.Core.Path.{_≡_};
 ghost use Prim.Native.Nat.{_≤_};
@@ -12,20 +13,21 @@ ghost use Rattle.table.specs.Tables.{rowsOf};
 ghost use Rattle.jobs.specs.Places.{maxPlaces, jobsOf};
 ghost use Rattle.run.specs.Sound.{jobFits, jobsSound, rowsSound};
 
-// Each pending job can be one of the run's.
-pub(crate) fn jobs_sound(table: Table, clock: Tick, next: Serial, pending: Pending) -> bool
-    requires { ⌜ (table .count ≤ maxRows) × (pending .count ≤ maxPlaces) ⌝ }
-    ensures { λ r. ⌜ r ≡ jobsSound table (clock .0) (next .0) (jobsOf pending) ⌝ }
+// Each pending job can be one of the run's. The limits are what a job of each row in use may cost.
+pub(crate) fn jobs_sound(limits: &[u64], clock: Tick, next: Serial, pending: Pending) -> bool
+    requires { ⌜ pending .count ≤ maxPlaces ⌝ }
+    ensures { λ r. ⌜ r ≡ jobsSound (now (limits .entry)) (clock .0) (next .0) (jobsOf pending) ⌝ }
 {
     let mut i: usize = 0;
     while i < pending.count {
         let job = pending.places[i];
-        let number = job.row.0;
-        if number >= table.count as u64 {
-            return false;
+        let limit = table::limit_of(limits, job.row);
+        let answer = limit.answer(job.cost);
+        match answer {
+            CostAnswer::Refused(_) => return false,
+            CostAnswer::Allowed => {}
         }
-        let row = table.rows[number as usize];
-        if !job_fits(job, row.c, clock, next) {
+        if !job_fits(job, clock, next) {
             return false;
         }
         i += 1;
@@ -33,12 +35,11 @@ pub(crate) fn jobs_sound(table: Table, clock: Tick, next: Serial, pending: Pendi
     true
 }
 
-// What is left to test of a job whose row is in use and allows a cost of at most `most`.
-fn job_fits(job: Job, most: u64, clock: Tick, next: Serial) -> bool
-    ensures { λ r. ⌜ r ≡ jobFits most (clock .0) (next .0) job ⌝ }
+// What is left to test of a job whose row number and cost are allowed.
+fn job_fits(job: Job, clock: Tick, next: Serial) -> bool
+    ensures { λ r. ⌜ r ≡ jobFits (clock .0) (next .0) job ⌝ }
 {
     (job.release.0 <= clock.0)
-        & ((1 <= job.cost) & (job.cost <= most))
         & ((1 <= job.left) & (job.left <= job.cost))
         & (job.due.0 <= Tick::MAX)
         & (job.serial.0 < next.0)

@@ -1,17 +1,59 @@
--- No answer of the record reader and the chooser is numbered 0, and different answers say different things.
+-- What the readers of a script and the chooser say: each case is settled, no answer is numbered 0, different answers say different things, and what is said
+-- tells what stands there. (docs/RULES.md, section 7.)
 use Prim.Native.Nat.{ℕ}
-use mathlib.Core.Path.{_≡_, refl, ap, ap₂}
+use mathlib.Core.Path.{_≡_, refl, sym, ap, ap₂, _∙_}
 use native.Mathlib.Omega.{arith}
-use Rattle.kinds.specs.Numbering.{NeverNumberedZero, SaysApart}
+use Rattle.kinds.specs.Numbering.{Said, numbered, refusedSays, NeverNumberedZero, SaysApart}
+use Rattle.kinds.specs.declared.RefusedAt.{RefusedAt}
 use Rattle.kinds.proofs.Apart.{impossible}
 use Rattle.kinds.proofs.Numbering.{never-zero, numbers-differ, saidIn, refusals-apart}
+use Rattle.numbers.specs.declared.Number.{Number}
+use Rattle.numbers.specs.declared.NumberRead.{NumberRead}
+use Rattle.numbers.specs.declared.NumberRead.the-variants as number
+use Rattle.numbers.specs.Reading.{readAt}
+use Rattle.numbers.specs.Answers.{numberSays, refusalAt}
+use Rattle.numbers.proofs.Laws.{refused-at-its-start}
+use Rattle.numbers.proofs.Answers.{numbers-said-apart}
 use Rattle.script.specs.declared.RecordAt.{RecordAt}
+use Rattle.script.specs.declared.RecordRead.{RecordRead}
 use Rattle.script.specs.declared.RecordRead.the-variants as read
 use Rattle.script.specs.declared.Which.{Which}
 use Rattle.script.specs.declared.Which.the-variants as which
 use Rattle.script.specs.declared.RefusedIn.{RefusedIn}
 use Rattle.script.specs.declared.Chosen.the-variants as answer
+use Rattle.script.specs.Records.{asScripts, scriptNumber, recordAt}
 use Rattle.script.specs.Answers.{recordSays, whichNumber, chosenSays, ScriptsNeverZero, ScriptsSaidApart}
+use Rattle.script.specs.Answers.{RecordReadSays, EndSays, RefusedRecordSays, FirstNextSays, SecondNextSays, EndedSays, RefusedInFirstSays, RefusedInSecondSays}
+use Rattle.script.specs.Laws.{EndIsTheLength, PastTheEnd, RefusedAtANumber, NumberIsRead, NumberRefused, NumberPastTheEnd}
+use Rattle.script.proofs.Records.{number-past-end, number-inside, number-stands, number-read, record-past-end, record-end, end-is-length, no-number-of}
+
+-- ---- what each answer says
+
+pub record-read-says : RecordReadSays
+record-read-says gap row cost next = refl
+
+pub end-says : EndSays
+end-says = refl
+
+pub refused-record-says : RefusedRecordSays
+refused-record-says r place = refl
+
+pub first-next-says : FirstNextSays
+first-next-says length = refl
+
+pub second-next-says : SecondNextSays
+second-next-says length = refl
+
+pub ended-says : EndedSays
+ended-says = refl
+
+pub refused-in-first-says : RefusedInFirstSays
+refused-in-first-says r place = refl
+
+pub refused-in-second-says : RefusedInSecondSays
+refused-in-second-says r place = refl
+
+-- ---- no answer is numbered 0, and different answers say different things
 
 record-never-zero : NeverNumberedZero recordSays
 record-never-zero (read.Record r) = tt
@@ -76,3 +118,42 @@ chosen-apart (answer.Refused q) (answer.Refused r) e = ap answer.Refused (refuse
 
 pub scripts-said-apart : ScriptsSaidApart
 scripts-said-apart = (record-apart, chosen-apart)
+
+-- ---- what is known of a place, by what was said
+
+-- What is numbered is a refusal, which says that.
+pub refused-record : {G : Type 0} (v : RecordRead) (said : Said) → recordSays v ≡ numbered said
+    → ((r : RefusedAt) → v ≡ read.Refused r → said ≡ refusedSays r → G) → G
+refused-record (read.Record a) said e then = impossible cc
+refused-record read.End said e then = impossible cc
+refused-record (read.Refused r) said e then = then r refl (sym (ap saidIn e))
+
+pub end-is-the-length : EndIsTheLength
+end-is-the-length s at = (λ e. end-is-length s at (record-apart (recordAt s at) read.End e), λ e. ap recordSays (record-end s at e))
+
+pub past-the-end : PastTheEnd
+past-the-end s at h = ap recordSays (record-past-end s at h)
+
+pub refused-at-a-number : RefusedAtANumber
+refused-at-a-number s at said b inside e =
+    refused-record (recordAt s at) said e λ r is says.
+    let none = no-number-of s at r b inside is in
+    rw says (ap (λ k. refusedSays (record { refusal = k; place = r .place })) (none .0), none .1)
+
+pub number-is-read : NumberIsRead
+number-is-read s at n next =
+    let k : Number = record { value = n; next = next } in
+    let apart = numbers-said-apart .0 in (
+      λ e. ap numberSays (number-read s at k (apart (scriptNumber s at) (number.Number k) e)),
+      λ e. ap numberSays (number-stands s at (apart (readAt s at) (number.Number k) e)),
+    )
+
+pub number-refused : NumberRefused
+number-refused s at said h e = by-answer (readAt s at) refl (rw (number-inside s at h) at e)
+  where
+    by-answer : (v : NumberRead) → readAt s at ≡ v → numberSays (asScripts v) ≡ numbered said → said ≡ refusalAt 14 at
+    by-answer (number.Number n) p q = impossible cc
+    by-answer (number.Refused r) p q = sym (ap saidIn q) ∙ ap (λ (k : RefusedAt). refusalAt 14 (k .place)) (refused-at-its-start s at r p)
+
+pub number-past-the-end : NumberPastTheEnd
+number-past-the-end s at h = ap numberSays (number-past-end s at h)

@@ -18,31 +18,61 @@ use Rattle.numbers.specs.declared.NumberRead.the-variants as number
 use Rattle.numbers.specs.Spelling.{maxNumber, spelling}
 use Rattle.numbers.specs.Reading.{readAt}
 use Rattle.numbers.specs.Laws.{Bytes, Spelled, NoNumber}
-use Rattle.numbers.proofs.Laws.{read-here, one-spelling, spelling-length, refused-at-its-start, refused-none}
+use Rattle.numbers.proofs.Laws.{read-here, read-within, one-spelling, spelling-length, refused-at-its-start, refused-none}
 use Rattle.script.specs.declared.Record.{Record}
 use Rattle.script.specs.declared.RecordAt.{RecordAt}
 use Rattle.script.specs.declared.RecordRead.{RecordRead}
 use Rattle.script.specs.declared.RecordRead.the-variants as read
-use Rattle.script.specs.Records.{asScripts, scriptNumber, afterNumber, recordAt}
+use Rattle.script.specs.Records.{asScripts, refusedAtLength, scriptNumber, afterNumber, recordAt}
 use Rattle.script.specs.Laws.{spelledRecord, CanBeSpelled, SpelledHere, NoNumberOf, no-gap, no-row, no-cost}
 
 -- ---- the answers of the reader
 
--- A number of a script that can be read is the number there ..
-pub number-stands : {v : NumberRead} {n : Number} → v ≡ number.Number n → asScripts v ≡ number.Number n
-number-stands e = rw e
+-- A number at a place past the end is refused at the script's length.
+pub number-past-end : (s : List ℕ) (at : ℕ) → length s < at → scriptNumber s at ≡ number.Refused (refusedAtLength (length s))
+unfolding scriptNumber
+number-past-end s at h = rw (lt-ltb (length s) at h)
 
--- .. and one that can't be is refused with 14, at the same place.
-pub number-misspelled : {v : NumberRead} {r : RefusedAt} → v ≡ number.Refused r
-    → asScripts v ≡ number.Refused (record { refusal = ScriptMisspelled; place = r .place })
-number-misspelled e = rw e
+-- A number at a place up to the end goes by the number reader.
+pub number-inside : (s : List ℕ) (at : ℕ) → at ≤ length s → scriptNumber s at ≡ asScripts (readAt s at)
+unfolding scriptNumber
+number-inside s at h = rw (le-ltb (length s) at h)
 
--- A place past the end is refused at the script's length ..
+-- A number that can be read is the number there.
+pub number-stands : (s : List ℕ) (at : ℕ) {n : Number} → readAt s at ≡ number.Number n → scriptNumber s at ≡ number.Number n
+number-stands s at {n} e = number-inside s at (omega (arith, read-within s at n e)) ∙ rw e
+
+-- A number that can't be read is refused with 14, at the place where the number reader refuses it.
+pub number-misspelled : (s : List ℕ) (at : ℕ) {r : RefusedAt} → at ≤ length s → readAt s at ≡ number.Refused r
+    → scriptNumber s at ≡ number.Refused (record { refusal = ScriptMisspelled; place = r .place })
+number-misspelled s at h e = number-inside s at h ∙ rw e
+
+-- What holds of every number and of every refusal with 14 holds of a script's number.
+pub number-or-14 : (P : NumberRead → Type 0) (s : List ℕ) (at : ℕ) → ((n : Number) → P (number.Number n))
+    → ((place : ℕ) → P (number.Refused (record { refusal = ScriptMisspelled; place = place }))) → P (scriptNumber s at)
+unfolding scriptNumber
+number-or-14 P s at reads refuses = by-test (ltb (length s) at) (readAt s at)
+  where
+    by-test : (past : Bool) (v : NumberRead) → P (cond past (number.Refused (refusedAtLength (length s))) (asScripts v))
+    by-test true v = refuses (length s)
+    by-test false (number.Number n) = reads n
+    by-test false (number.Refused r) = refuses (r .place)
+
+-- Where no number can be read, the place is refused with 14.
+pub number-unreadable : (s : List ℕ) (at : ℕ) → at ≤ length s → ((n : Number) → readAt s at ≡ number.Number n → ⊥)
+    → scriptNumber s at ≡ number.Refused (record { refusal = ScriptMisspelled; place = at })
+number-unreadable s at h none = by-answer (readAt s at) refl
+  where
+    by-answer : (v : NumberRead) → readAt s at ≡ v → scriptNumber s at ≡ number.Refused (record { refusal = ScriptMisspelled; place = at })
+    by-answer (number.Number n) e = absurd (none n e)
+    by-answer (number.Refused r) e = number-misspelled s at h e ∙ rw (refused-at-its-start s at r e)
+
+-- A record at a place past the end is refused at the script's length.
 pub record-past-end : (s : List ℕ) (at : ℕ) → length s < at
-    → recordAt s at ≡ read.Refused (record { refusal = ScriptMisspelled; place = length s })
+    → recordAt s at ≡ read.Refused (refusedAtLength (length s))
 record-past-end s at h = rw (lt-ltb (length s) at h)
 
--- .. and at its length the script has ended.
+-- At its length the script has ended.
 pub record-end : (s : List ℕ) (at : ℕ) → at ≡ length s → recordAt s at ≡ read.End
 record-end s at e = rw (le-ltb (length s) at (omega arith), eq-eqb at (length s) e)
 
@@ -51,21 +81,21 @@ module _ (s : List ℕ) (at : ℕ) (inside : at < length s) where
   before-end : (past then : RecordRead) → cond (ltb (length s) at) past (cond (eqb at (length s)) read.End then) ≡ then
   before-end past then = rw (le-ltb (length s) at (omega arith), ne-eqb at (length s) (λ z. omega arith))
 
-  -- The gap can't be read, ..
+  -- Where the gap can't be read, the record is refused as it is.
   pub gap-refused : (r : RefusedAt) → scriptNumber s at ≡ number.Refused r → recordAt s at ≡ read.Refused r
   gap-refused r e = before-end _ _ ∙ rw e
 
   module _ (gap : Number) (g : scriptNumber s at ≡ number.Number gap) where
-    -- .. or the row number after it, ..
+    -- Where the row number after the gap can't be read, the record is refused as it is.
     pub row-refused : (r : RefusedAt) → scriptNumber s (gap .next) ≡ number.Refused r → recordAt s at ≡ read.Refused r
     row-refused r e = before-end _ _ ∙ rw (g, e)
 
     module _ (row : Number) (n : scriptNumber s (gap .next) ≡ number.Number row) where
-      -- .. or the cost after that, ..
+      -- Where the cost after the row number can't be read, the record is refused as it is.
       pub cost-refused : (r : RefusedAt) → scriptNumber s (row .next) ≡ number.Refused r → recordAt s at ≡ read.Refused r
       cost-refused r e = before-end _ _ ∙ rw (g, n, e)
 
-      -- .. or else the three are the record.
+      -- Three numbers that are read are the record.
       pub record-read : (cost : Number) → scriptNumber s (row .next) ≡ number.Number cost
           → recordAt s at
           ≡ read.Record (record { release = record { gap = gap .value; row = record { 0 = row .value }; cost = cost .value }; next = cost .next })
@@ -74,9 +104,15 @@ module _ (s : List ℕ) (at : ℕ) (inside : at < length s) where
 -- ---- where a record was read
 
 -- A number of a script that was read is the number at its place.
-number-read : (v : NumberRead) (n : Number) → asScripts v ≡ number.Number n → v ≡ number.Number n
-number-read (number.Number m) n e = e
-number-read (number.Refused r) n e = impossible cc
+pub number-read : (s : List ℕ) (at : ℕ) (n : Number) → scriptNumber s at ≡ number.Number n → readAt s at ≡ number.Number n
+unfolding scriptNumber
+number-read s at n e = by-test (ltb (length s) at) (readAt s at) e
+  where
+    by-test : (past : Bool) (v : NumberRead) → cond past (number.Refused (refusedAtLength (length s))) (asScripts v) ≡ number.Number n → v ≡ number.Number n
+    by-test false (number.Number m) q = q
+    by-test false (number.Refused r) q = impossible cc
+    by-test true (number.Number m) q = impossible cc
+    by-test true (number.Refused r) q = impossible cc
 
 -- Where a record was read, the number before it was.
 number-before : (v : NumberRead) (k : Number → RecordRead) (found : RecordAt) → afterNumber v k ≡ read.Record found
@@ -111,9 +147,9 @@ three-numbers s at found e =
       gap = gap .0;
       row = row .0;
       cost = cost .0;
-      gap-read = number-read _ _ (gap .1);
-      row-read = number-read _ _ (row .1);
-      cost-read = number-read _ _ (cost .1);
+      gap-read = number-read s at (gap .0) (gap .1);
+      row-read = number-read s (gap .0 .next) (row .0) (row .1);
+      cost-read = number-read s (row .0 .next) (cost .0) (cost .1);
       make-record = cc;
     }
 
@@ -135,41 +171,42 @@ record-stands s at found b e =
 -- ---- where a record was refused
 
 -- Where what begins with a number was refused, the number was read and what comes after it refused, or no number is there and its place was refused with 14.
-refused-there : {G : Type 0} (s : List ℕ) (at : ℕ) (k : Number → RecordRead) (r : RefusedAt) → Bytes s → afterNumber (scriptNumber s at) k ≡ read.Refused r
+refused-there : {G : Type 0} (s : List ℕ) (at : ℕ) (k : Number → RecordRead) (r : RefusedAt) → Bytes s → at ≤ length s
+    → afterNumber (scriptNumber s at) k ≡ read.Refused r
     → (NoNumber s at → r ≡ record { refusal = ScriptMisspelled; place = at } → G) → ((n : Number) → Spelled s at n → k n ≡ read.Refused r → G) → G
-refused-there {G} s at k r b e none later = go (readAt s at) refl e
+refused-there {G} s at k r b inside e none later = go (readAt s at) refl (rw (number-inside s at inside) at e)
   where
     go : (v : NumberRead) → readAt s at ≡ v → afterNumber (asScripts v) k ≡ read.Refused r → G
     go (number.Number n) f g = later n (one-spelling s at n b f) g
     go (number.Refused q) f g = let start = refused-at-its-start s at q f in none (refused-none f) cc
 
--- So where a record was refused, it is the first of its three numbers that is not there.
+-- Where a record was refused, it is the first of its three numbers that is not there.
 pub no-number-of : (s : List ℕ) (at : ℕ) (r : RefusedAt) → Bytes s → at < length s → recordAt s at ≡ read.Refused r
     → (r .refusal ≡ ScriptMisspelled) × NoNumberOf s at (r .place)
 no-number-of s at r b inside e =
-    refused-there s at _ r b (sym (before-end s at inside _ _) ∙ e) (λ none is. rw is (refl, no-gap none)) λ gap g f.
-    refused-there s (gap .next) _ r b f (λ none is. rw is (refl, no-row gap g none)) λ row n h.
-    refused-there s (row .next) _ r b h (λ none is. rw is (refl, no-cost gap row g n none)) λ cost c made. impossible cc
+    refused-there s at _ r b (omega arith) (sym (before-end s at inside _ _) ∙ e) (λ none is. rw is (refl, no-gap none)) λ gap g f.
+    refused-there s (gap .next) _ r b (g .within) f (λ none is. rw is (refl, no-row gap g none)) λ row n h.
+    refused-there s (row .next) _ r b (n .within) h (λ none is. rw is (refl, no-cost gap row g n none)) λ cost c made. impossible cc
 
 -- ---- where a script has ended
 
--- A record is no end, ..
+-- A record is no end.
 no-end : (found : RecordAt) → read.Record found ≡ read.End → ⊥
 no-end found e = impossible cc
 
--- .. and neither is one with a number before it.
+-- What has a number before it is no end either.
 no-end-after : (v : NumberRead) (k : Number → RecordRead) → ((n : Number) → k n ≡ read.End → ⊥) → afterNumber v k ≡ read.End → ⊥
 no-end-after (number.Number n) k h e = h n e
 no-end-after (number.Refused r) k h e = impossible cc
 
--- So where the end is answered, it is the test of the length that holds, ..
+-- Where the end is answered, it is the test of the length that holds.
 length-passed : (t u : Bool) (past : RefusedAt) (then : RecordRead) → (then ≡ read.End → ⊥)
     → cond t (read.Refused past) (cond u read.End then) ≡ read.End → u ≡ true
 length-passed true u past then h e = impossible cc
 length-passed false true past then h e = refl
 length-passed false false past then h e = absurd (h e)
 
--- .. and the place is the script's length.
+-- Where the end is answered, the place is the script's length.
 pub end-is-length : (s : List ℕ) (at : ℕ) → recordAt s at ≡ read.End → at ≡ length s
 end-is-length s at e =
     let three-numbers-are-none =
@@ -190,20 +227,20 @@ pub from-behind : (front rest : List ℕ) → From (front ++ rest) (length front
 from-behind front rest = record { stands-here = drop-append-seam front rest; within = omega (arith, length-append front rest) }
 
 module _ {s : List ℕ} {at : ℕ} (part rest : List ℕ) (p : From s at (part ++ rest)) where
-  -- So long is what stands there ..
+  -- The script is as long as the place, the part and the rest together.
   how-long : length s ≡ at + length part + length rest
   how-long = omega (arith, p .within, simp (length-drop, length-append) at (ap length (p .stands-here)))
 
-  -- .. and behind a part of it stands the rest.
+  -- Behind the part stands the rest.
   pub from-later : From s (at + length part) rest
   from-later = record { stands-here = rw (← drop-drop, p .stands-here, drop-append-seam); within = omega (arith, how-long) }
 
--- A number is read where its spelling stands ..
+-- A number is read where its spelling stands.
 number-here : {s : List ℕ} {at : ℕ} (v : ℕ) (rest : List ℕ) → v ≤ maxNumber → From s at (spelling v ++ rest)
     → scriptNumber s at ≡ number.Number (record { value = v; next = at + length (spelling v) })
-number-here {s} {at} v rest h p = number-stands (read-here s at v rest h (p .stands-here))
+number-here {s} {at} v rest h p = number-stands s at (read-here s at v rest h (p .stands-here))
 
--- .. and so is a record.
+-- A record is read where its spelling stands.
 pub record-here : {s : List ℕ} {at : ℕ} (r : Record) (rest : List ℕ) → CanBeSpelled r → From s at (spelledRecord r ++ rest)
     → recordAt s at ≡ read.Record (record { release = r; next = at + length (spelledRecord r) })
 record-here {s} {at} r rest can p =

@@ -1,7 +1,10 @@
 -- What the record reader and the chooser say. (docs/RULES.md, sections 7 and 10.)
 use Prim.Native.Nat.{ℕ}
+use mathlib.Core.Path.{_≡_}
 use mathlib.Core.List.{[], _∷_}
-use Rattle.kinds.specs.Numbering.{Says, numbered, values, refusalNumber, refusedSays, NeverNumberedZero, SaysApart}
+use Rattle.kinds.specs.Numbering.{Said, Says, numbered, values, refusalNumber, refusedSays, NeverNumberedZero, SaysApart}
+use Rattle.kinds.specs.declared.Refusal.{Refusal}
+use Rattle.numbers.specs.Answers.{refusalAt}
 use Rattle.script.specs.declared.RecordRead.{RecordRead}
 use Rattle.script.specs.declared.RecordRead.the-variants as read
 use Rattle.script.specs.declared.Which.{Which}
@@ -27,12 +30,52 @@ chosenSays answer.Ended = values []
 chosenSays (answer.Refused r) =
     numbered (record { number = refusalNumber (r .at .refusal); first = r .at .place; second = whichNumber (r .script) })
 
+-- What is said of a refusal in one of two scripts: its number, its place and which script.
+abbrev pub refusalIn : (script number place : ℕ) → Said
+refusalIn script number place = record { number = number; first = place; second = script }
+
 -- ---- what is proved (proofs/Answers.antt)
 
--- No answer is numbered 0 ..
+-- A record that was read says its gap, its row number, its cost and the place after it, in this order. (7.4)
+abbrev pub RecordReadSays : Type 0
+RecordReadSays = (gap row cost next : ℕ)
+    → recordSays (read.Record (record { release = record { gap = gap; row = record { 0 = row }; cost = cost }; next = next }))
+    ≡ values (gap ∷ row ∷ cost ∷ next ∷ [])
+
+-- The end of a script is no refusal, and says no value. (7.5)
+abbrev pub EndSays : Type 0
+EndSays = recordSays read.End ≡ values []
+
+-- A refusal of the record reader says its number, its place and 0. (9.5)
+abbrev pub RefusedRecordSays : Type 0
+RefusedRecordSays = (r : Refusal) (place : ℕ) → recordSays (read.Refused (record { refusal = r; place = place })) ≡ numbered (refusalAt (refusalNumber r) place)
+
+-- Where the first script's record comes next, the chooser says 1 and the record's length. (7.8)
+abbrev pub FirstNextSays : Type 0
+FirstNextSays = (length : ℕ) → chosenSays (answer.Next (record { script = which.First; length = length })) ≡ values (1 ∷ length ∷ [])
+
+-- Where the second script's record comes next, the chooser says 2 and the record's length. (7.8)
+abbrev pub SecondNextSays : Type 0
+SecondNextSays = (length : ℕ) → chosenSays (answer.Next (record { script = which.Second; length = length })) ≡ values (2 ∷ length ∷ [])
+
+-- Where both scripts have ended, the chooser says no value. (7.10)
+abbrev pub EndedSays : Type 0
+EndedSays = chosenSays answer.Ended ≡ values []
+
+-- A refusal in the first script says its number, its place and 1. (7.11, 7.12)
+abbrev pub RefusedInFirstSays : Type 0
+RefusedInFirstSays = (r : Refusal) (place : ℕ)
+    → chosenSays (answer.Refused (record { script = which.First; at = record { refusal = r; place = place } })) ≡ numbered (refusalIn 1 (refusalNumber r) place)
+
+-- A refusal in the second script says its number, its place and 2. (7.11, 7.12)
+abbrev pub RefusedInSecondSays : Type 0
+RefusedInSecondSays = (r : Refusal) (place : ℕ)
+    → chosenSays (answer.Refused (record { script = which.Second; at = record { refusal = r; place = place } })) ≡ numbered (refusalIn 2 (refusalNumber r) place)
+
+-- No answer is numbered 0. (1.16)
 abbrev pub ScriptsNeverZero : Type 0
 ScriptsNeverZero = NeverNumberedZero recordSays × NeverNumberedZero chosenSays
 
--- .. and different answers say different things.
+-- Different answers say different things.
 abbrev pub ScriptsSaidApart : Type 0
 ScriptsSaidApart = SaysApart recordSays × SaysApart chosenSays

@@ -4,12 +4,12 @@ use mathlib.Core.Path.{_≡_}
 use mathlib.Core.Logic.{_↔_}
 use mathlib.Core.List.{List, [], _∷_, _++_, flatten, map, List·Memᴰ}
 use lib.ListN.{length, drop}
-use Rattle.kinds.specs.Numbering.{maxTime}
-use Rattle.kinds.specs.declared.Refusal.the-variants.{TimeTooLate, ScriptMisspelled}
-use Rattle.kinds.specs.declared.RefusedAt.{RefusedAt}
+use Rattle.kinds.specs.Numbering.{maxTime, Said, numbered, values}
 use Rattle.numbers.specs.declared.Number.{Number}
 use Rattle.numbers.specs.Laws.{Bytes, Spelled, NoNumber}
 use Rattle.numbers.specs.Spelling.{maxNumber, spelling}
+use Rattle.numbers.specs.Reading.{readAt}
+use Rattle.numbers.specs.Answers.{numberSays, refusalAt}
 use Rattle.script.specs.declared.Record.{Record}
 use Rattle.script.specs.declared.RecordAt.{RecordAt}
 use Rattle.script.specs.declared.RecordRead.the-variants as read
@@ -18,8 +18,9 @@ use Rattle.script.specs.declared.Which.the-variants as which
 use Rattle.script.specs.declared.Next.{Next}
 use Rattle.script.specs.declared.Chosen.{Chosen}
 use Rattle.script.specs.declared.Chosen.the-variants as answer
-use Rattle.script.specs.Records.{recordAt}
-use Rattle.script.specs.Chooser.{nextOf, chosen, partOf}
+use Rattle.script.specs.Records.{scriptNumber, recordAt}
+use Rattle.script.specs.Chooser.{chosen, partOf}
+use Rattle.script.specs.Answers.{recordSays, chosenSays, refusalIn}
 
 -- The spelling of a record: its three numbers.
 abbrev pub spelledRecord : Record → List ℕ
@@ -77,14 +78,26 @@ pub record FirstOfItsScript (s₁ s₂ : List ℕ) (n : Next) (found : RecordAt)
   pub within : n .length ≤ length (scriptNamed (n .script) s₁ s₂)
   pub spelled : partOf (answer.Next n) s₁ s₂ ≡ spelledRecord (found .release)
 
+-- A script begins with this record.
+abbrev pub BeginsWith : List ℕ → RecordAt → Type 0
+BeginsWith s a = recordSays (recordAt s 0) ≡ values (a .release .gap ∷ a .release .row .0 ∷ a .release .cost ∷ a .next ∷ [])
+
+-- A script has no record at all: it has ended at its start.
+abbrev pub HasEnded : List ℕ → Type 0
+HasEnded s = recordSays (recordAt s 0) ≡ values []
+
+-- A script's first record is refused, and this is said.
+abbrev pub RefusedFirst : List ℕ → Said → Type 0
+RefusedFirst s said = recordSays (recordAt s 0) ≡ numbered said
+
 -- Two scripts, neither of which has reached a time too late, have a record each to begin with.
 pub record TwoRecords (s₁ s₂ : List ℕ) (time₁ time₂ : ℕ) (a b : RecordAt) : Type 0 where
   pub first-time : time₁ ≤ maxTime
   pub second-time : time₂ ≤ maxTime
-  pub first : recordAt s₁ 0 ≡ read.Record a
-  pub second : recordAt s₂ 0 ≡ read.Record b
+  pub first : BeginsWith s₁ a
+  pub second : BeginsWith s₂ b
 
--- ---- what is proved of a record (proofs/Laws.antt)
+-- ---- what is proved of a record (proofs/Laws.antt, proofs/Answers.antt)
 
 -- A record reads back from its spelling, with anything before and after it.
 abbrev pub RecordReadsBack : Type 0
@@ -96,37 +109,53 @@ RecordReadsBack = (front : List ℕ) (r : Record) (rest : List ℕ) → CanBeSpe
 abbrev pub RecordIsSpelled : Type 0
 RecordIsSpelled = (s : List ℕ) (at : ℕ) (found : RecordAt) → Bytes s → recordAt s at ≡ read.Record found → SpelledHere s at found
 
--- A script ends at its length and nowhere else.
+-- A script ends at its length and nowhere else. (7.5)
 abbrev pub EndIsTheLength : Type 0
-EndIsTheLength = (s : List ℕ) (at : ℕ) → (recordAt s at ≡ read.End) ↔ (at ≡ length s)
+EndIsTheLength = (s : List ℕ) (at : ℕ) → (recordSays (recordAt s at) ≡ values []) ↔ (at ≡ length s)
 
--- A place past the end is refused with 14, at the script's length. (7.5)
+-- A record at a place past the end is refused with 14, at the script's length. (7.5)
 abbrev pub PastTheEnd : Type 0
-PastTheEnd = (s : List ℕ) (at : ℕ) → length s < at → recordAt s at ≡ read.Refused (record { refusal = ScriptMisspelled; place = length s })
+PastTheEnd = (s : List ℕ) (at : ℕ) → length s < at → recordSays (recordAt s at) ≡ numbered (refusalAt 14 (length s))
 
 -- Inside, a record is refused with 14 at the start of the first of its three numbers that can't be read. (7.6)
 abbrev pub RefusedAtANumber : Type 0
-RefusedAtANumber = (s : List ℕ) (at : ℕ) (r : RefusedAt) → Bytes s → at < length s → recordAt s at ≡ read.Refused r
-    → (r .refusal ≡ ScriptMisspelled) × NoNumberOf s at (r .place)
+RefusedAtANumber = (s : List ℕ) (at : ℕ) (said : Said) → Bytes s → at < length s → recordSays (recordAt s at) ≡ numbered said
+    → (said ≡ refusalAt 14 (said .first)) × NoNumberOf s at (said .first)
 
--- ---- .. of a script
+-- ---- what is proved of a number of a script (proofs/Answers.antt)
+
+-- A script's number is read exactly where the number reader reads it, as the same number. (2.10)
+abbrev pub NumberIsRead : Type 0
+NumberIsRead = (s : List ℕ) (at n next : ℕ)
+    → (numberSays (scriptNumber s at) ≡ values (n ∷ next ∷ [])) ↔ (numberSays (readAt s at) ≡ values (n ∷ next ∷ []))
+
+-- Up to the end, a number that can't be read is refused with 14, at its start. (2.10, 7.6)
+abbrev pub NumberRefused : Type 0
+NumberRefused = (s : List ℕ) (at : ℕ) (said : Said) → at ≤ length s → numberSays (scriptNumber s at) ≡ numbered said → said ≡ refusalAt 14 at
+
+-- A number at a place past the end is refused with 14, at the script's length, as a record is. (7.5)
+abbrev pub NumberPastTheEnd : Type 0
+NumberPastTheEnd = (s : List ℕ) (at : ℕ) → length s < at → numberSays (scriptNumber s at) ≡ numbered (refusalAt 14 (length s))
+
+-- ---- what is proved of a script (proofs/Laws.antt)
 
 -- Bytes are read from a place on as some records exactly when these have spellings that stand there, one after another to the end.
 abbrev pub ScriptIsRead : Type 0
 ScriptIsRead = (s : List ℕ) (at : ℕ) (rs : List Record) → Bytes s → Reads s at rs ↔ SpelledToTheEnd s at rs
 
--- So a script reads back from its spelling, with anything before it ..
+-- A script reads back from its spelling, with anything before it.
 abbrev pub ScriptReadsBack : Type 0
 ScriptReadsBack = (front : List ℕ) (rs : List Record) → AllCanBeSpelled rs → Reads (front ++ spelledScript rs) (length front) rs
 
--- .. and is read in one way at most: different scripts have different spellings.
+-- A script is read in one way at most.
 abbrev pub ReadInOneWay : Type 0
 ReadInOneWay = (s : List ℕ) (at : ℕ) (rs others : List Record) → Reads s at rs → Reads s at others → rs ≡ others
 
+-- Different scripts have different spellings.
 abbrev pub SpellingsOfScriptsDiffer : Type 0
 SpellingsOfScriptsDiffer = (rs others : List Record) → AllCanBeSpelled rs → AllCanBeSpelled others → spelledScript rs ≡ spelledScript others → rs ≡ others
 
--- ---- .. and of the chooser
+-- ---- what is proved of the chooser (proofs/Laws.antt, proofs/Choices.antt)
 
 -- The part that comes next is the spelling of one record, the first of its script.
 abbrev pub PartIsOneRecord : Type 0
@@ -137,49 +166,52 @@ PartIsOneRecord = (s₁ s₂ : List ℕ) (time₁ time₂ : ℕ) (n : Next) → 
 abbrev pub PartIsEmpty : Type 0
 PartIsEmpty = (c : Chosen) (s₁ s₂ : List ℕ) → ((n : Next) → c ≡ answer.Next n → ⊥) → partOf c s₁ s₂ ≡ []
 
--- Of two records the first script's comes next unless it is later ..
+-- Of two records the first script's comes next unless it is later. (7.9)
 abbrev pub FirstUnlessLater : Type 0
 FirstUnlessLater = (s₁ s₂ : List ℕ) (time₁ time₂ : ℕ) (a b : RecordAt) → TwoRecords s₁ s₂ time₁ time₂ a b
-    → time₁ + a .release .gap ≤ time₂ + b .release .gap → chosen s₁ s₂ time₁ time₂ ≡ nextOf which.First (a .next)
+    → time₁ + a .release .gap ≤ time₂ + b .release .gap → chosenSays (chosen s₁ s₂ time₁ time₂) ≡ values (1 ∷ a .next ∷ [])
 
--- .. so that it goes first at equal times ..
+-- At equal times the first script's record comes next. (7.9)
 abbrev pub FirstAtEqualTimes : Type 0
 FirstAtEqualTimes = (s₁ s₂ : List ℕ) (time₁ time₂ : ℕ) (a b : RecordAt) → TwoRecords s₁ s₂ time₁ time₂ a b
-    → time₁ + a .release .gap ≡ time₂ + b .release .gap → chosen s₁ s₂ time₁ time₂ ≡ nextOf which.First (a .next)
+    → time₁ + a .release .gap ≡ time₂ + b .release .gap → chosenSays (chosen s₁ s₂ time₁ time₂) ≡ values (1 ∷ a .next ∷ [])
 
--- .. and else the second's.
+-- Where the second script's record is earlier, it comes next. (7.9)
 abbrev pub SecondIfEarlier : Type 0
 SecondIfEarlier = (s₁ s₂ : List ℕ) (time₁ time₂ : ℕ) (a b : RecordAt) → TwoRecords s₁ s₂ time₁ time₂ a b
-    → time₂ + b .release .gap < time₁ + a .release .gap → chosen s₁ s₂ time₁ time₂ ≡ nextOf which.Second (b .next)
+    → time₂ + b .release .gap < time₁ + a .release .gap → chosenSays (chosen s₁ s₂ time₁ time₂) ≡ values (2 ∷ b .next ∷ [])
 
--- Where one script has ended, the other's record comes next, and where both have, none does. (7.10)
+-- Where the second script has ended, the first script's record comes next. (7.10)
 abbrev pub FirstAlone : Type 0
 FirstAlone = (s₁ s₂ : List ℕ) (time₁ time₂ : ℕ) (a : RecordAt) → time₁ ≤ maxTime → time₂ ≤ maxTime
-    → recordAt s₁ 0 ≡ read.Record a → recordAt s₂ 0 ≡ read.End → chosen s₁ s₂ time₁ time₂ ≡ nextOf which.First (a .next)
+    → BeginsWith s₁ a → HasEnded s₂ → chosenSays (chosen s₁ s₂ time₁ time₂) ≡ values (1 ∷ a .next ∷ [])
 
+-- Where the first script has ended, the second script's record comes next. (7.10)
 abbrev pub SecondAlone : Type 0
 SecondAlone = (s₁ s₂ : List ℕ) (time₁ time₂ : ℕ) (b : RecordAt) → time₁ ≤ maxTime → time₂ ≤ maxTime
-    → recordAt s₁ 0 ≡ read.End → recordAt s₂ 0 ≡ read.Record b → chosen s₁ s₂ time₁ time₂ ≡ nextOf which.Second (b .next)
+    → HasEnded s₁ → BeginsWith s₂ b → chosenSays (chosen s₁ s₂ time₁ time₂) ≡ values (2 ∷ b .next ∷ [])
 
+-- Where both scripts have ended, no record comes next. (7.10)
 abbrev pub BothEnded : Type 0
 BothEnded = (s₁ s₂ : List ℕ) (time₁ time₂ : ℕ) → time₁ ≤ maxTime → time₂ ≤ maxTime
-    → recordAt s₁ 0 ≡ read.End → recordAt s₂ 0 ≡ read.End → chosen s₁ s₂ time₁ time₂ ≡ answer.Ended
+    → HasEnded s₁ → HasEnded s₂ → chosenSays (chosen s₁ s₂ time₁ time₂) ≡ values []
 
--- A time reached that is later than any may be is refused with 10, at place 0, whatever the scripts hold: the first script's before the second's. (7.11)
+-- A time reached by the first script that is later than any may be is refused with 10, at place 0, whatever the scripts hold. (7.11)
 abbrev pub TooLateInFirst : Type 0
-TooLateInFirst = (s₁ s₂ : List ℕ) (time₁ time₂ : ℕ) → maxTime < time₁
-    → chosen s₁ s₂ time₁ time₂ ≡ answer.Refused (record { script = which.First; at = record { refusal = TimeTooLate; place = 0 } })
+TooLateInFirst = (s₁ s₂ : List ℕ) (time₁ time₂ : ℕ) → maxTime < time₁ → chosenSays (chosen s₁ s₂ time₁ time₂) ≡ numbered (refusalIn 1 10 0)
 
+-- After the first script's time, the second's is refused likewise. (7.11)
 abbrev pub TooLateInSecond : Type 0
 TooLateInSecond = (s₁ s₂ : List ℕ) (time₁ time₂ : ℕ) → time₁ ≤ maxTime → maxTime < time₂
-    → chosen s₁ s₂ time₁ time₂ ≡ answer.Refused (record { script = which.Second; at = record { refusal = TimeTooLate; place = 0 } })
+    → chosenSays (chosen s₁ s₂ time₁ time₂) ≡ numbered (refusalIn 2 10 0)
 
--- After that, a record that can't be read is refused as it is read: the first script's before the second's. (7.12)
+-- After the times, a record of the first script that can't be read is refused as it is read. (7.12)
 abbrev pub RefusedInFirst : Type 0
-RefusedInFirst = (s₁ s₂ : List ℕ) (time₁ time₂ : ℕ) (r : RefusedAt) → time₁ ≤ maxTime → time₂ ≤ maxTime → recordAt s₁ 0 ≡ read.Refused r
-    → chosen s₁ s₂ time₁ time₂ ≡ answer.Refused (record { script = which.First; at = r })
+RefusedInFirst = (s₁ s₂ : List ℕ) (time₁ time₂ : ℕ) (said : Said) → time₁ ≤ maxTime → time₂ ≤ maxTime → RefusedFirst s₁ said
+    → chosenSays (chosen s₁ s₂ time₁ time₂) ≡ numbered (refusalIn 1 (said .number) (said .first))
 
+-- Where the first script's record is not refused, one of the second script that can't be read is refused as it is read. (7.12)
 abbrev pub RefusedInSecond : Type 0
-RefusedInSecond = (s₁ s₂ : List ℕ) (time₁ time₂ : ℕ) (r : RefusedAt) → time₁ ≤ maxTime → time₂ ≤ maxTime
-    → ((q : RefusedAt) → recordAt s₁ 0 ≡ read.Refused q → ⊥) → recordAt s₂ 0 ≡ read.Refused r
-    → chosen s₁ s₂ time₁ time₂ ≡ answer.Refused (record { script = which.Second; at = r })
+RefusedInSecond = (s₁ s₂ : List ℕ) (time₁ time₂ : ℕ) (said : Said) → time₁ ≤ maxTime → time₂ ≤ maxTime
+    → ((other : Said) → RefusedFirst s₁ other → ⊥) → RefusedFirst s₂ said
+    → chosenSays (chosen s₁ s₂ time₁ time₂) ≡ numbered (refusalIn 2 (said .number) (said .first))

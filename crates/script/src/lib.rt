@@ -55,10 +55,16 @@ pub enum Chosen {
     Refused(RefusedIn),
 }
 
-// A number of a script: refusal 14 where it can't be read.
+// A number of a script: refusal 14 where it can't be read; a place past the end is refused at the script's length.
 pub fn number_at(script: &[u8], at: usize) -> NumberRead
     ensures { λ r. ⌜ r ≡ scriptNumber (now (script .entry)) at ⌝ }
 {
+    if script.len() < at {
+        return NumberRead::Refused(RefusedAt {
+            refusal: Refusal::ScriptMisspelled,
+            place: script.len(),
+        });
+    }
     match numbers::read(script, at) {
         NumberRead::Number(n) => NumberRead::Number(n),
         NumberRead::Refused(r) => NumberRead::Refused(RefusedAt {

@@ -8,7 +8,9 @@ use mathlib.Core.Logic.{_⊎_, inl, inr, ⊎-elim}
 use mathlib.Core.List.{List, [], _∷_, flatten, map}
 use lib.ListN.{length, getD}
 use borrow.Author.Tests.{le-leb, lt-leb}
+use Rattle.kinds.specs.Numbering.{refusalNumber}
 use Rattle.kinds.specs.declared.Refusal.{Refusal}
+use Rattle.kinds.specs.declared.Refusal.the-variants.{Misspelled, ValueOutOfRange}
 use Rattle.kinds.specs.declared.RefusedAt.{RefusedAt}
 use Rattle.kinds.proofs.Apart.{impossible}
 use Rattle.numbers.specs.declared.Number.{Number}
@@ -16,7 +18,7 @@ use Rattle.numbers.specs.declared.NumberRead.{NumberRead}
 use Rattle.numbers.specs.declared.NumberRead.the-variants as number
 use Rattle.numbers.specs.Spelling.{maxNumber, spelling}
 use Rattle.numbers.specs.Reading.{readAt}
-use Rattle.numbers.specs.Laws.{Bytes, Spelled}
+use Rattle.numbers.specs.Laws.{Bytes, Spelled, NoNumber}
 use Rattle.numbers.proofs.Laws.{one-spelling, spelled-read, none-read, refused-none}
 use Rattle.table.specs.declared.Row.{Row}
 use Rattle.table.specs.declared.RowRead.{RowRead}
@@ -24,26 +26,31 @@ use Rattle.table.specs.declared.RowRead.the-variants as row
 use Rattle.table.specs.Rows.{withinLimit, readValue, afterValue, readRow}
 use Rattle.table.specs.Tables.{Rows, rows, refused, inFront, afterRow, readRows}
 use Rattle.table.specs.Laws.{spelledRow}
-use Rattle.table.specs.Refusals.{valueLimits, FirstValues, BadValue, misspelled, out-of-range}
+use Rattle.table.specs.Refusals.{Stands, valueLimits, FirstValues, BadValue, misspelled, out-of-range}
 use Rattle.table.proofs.Each.{each-none, each-cons, each-head, each-tail}
-use Rattle.table.proofs.Spelling.{Stands, parted, joined, spelled-stands, value-read, RowStands, row-read, row-stands, RowsStand}
+use Rattle.table.proofs.Spelling.{parted, joined, spelled-stands, value-read, RowStands, row-read, row-stands, RowsStand}
 
 -- ---- a value
 
 -- What a value is answered with: itself, from 1 to its limit, or a refusal at its start for what is wrong with it.
 data ValueAnswer (s : List ℕ) (at most : ℕ) : NumberRead → Type 0 where
   good : {n : Number} → Spelled s at n → 1 ≤ n .value → n .value ≤ most → ValueAnswer s at most (number.Number n)
-  bad : {r : Refusal} → BadValue s at most r → ValueAnswer s at most (number.Refused (record { refusal = r; place = at }))
+  bad : (r : Refusal) → BadValue s at most (refusalNumber r) → ValueAnswer s at most (number.Refused (record { refusal = r; place = at }))
+
+-- A value that can't be read is refused with 1.
+misspelled-refused : {s : List ℕ} {at : ℕ} (most : ℕ) → Bytes s → NoNumber s at
+    → readValue (withinLimit most) s at ≡ number.Refused (record { refusal = Misspelled; place = at })
+misspelled-refused most b none = simp (none-read b none)
 
 module _ {s : List ℕ} {at most : ℕ} where
-  -- A value in its range is answered ..
+  -- A value in its range is answered.
   good-value : {n : Number} → Spelled s at n → 1 ≤ n .value → n .value ≤ most → readValue (withinLimit most) s at ≡ number.Number n
   good-value {n} p l h = simp (spelled-read p, le-leb 1 (n .value) l, le-leb (n .value) most h)
 
-  -- .. and a bad one is refused.
-  bad-refused : {r : Refusal} → Bytes s → BadValue s at most r → readValue (withinLimit most) s at ≡ number.Refused (record { refusal = r; place = at })
-  bad-refused b (misspelled none) = simp (none-read b none)
-  bad-refused b (out-of-range n p o) = ⊎-elim
+  -- A value out of its range is refused with 3.
+  outside-refused : (n : Number) → Spelled s at n → (n .value ≡ 0) ⊎ (most < n .value)
+      → readValue (withinLimit most) s at ≡ number.Refused (record { refusal = ValueOutOfRange; place = at })
+  outside-refused n p o = ⊎-elim
       (λ z. simp (spelled-read p, lt-leb 1 (n .value) (omega arith)))
       (λ l. elim (decLe 1 (n .value)) [
         | yes k ↦ simp (spelled-read p, le-leb 1 (n .value) k, lt-leb (n .value) most l)
@@ -56,7 +63,7 @@ module _ {s : List ℕ} {at most : ℕ} where
   value-answer b = go (readAt s at) refl
     where
       outside : (n : Number) → readAt s at ≡ number.Number n → (n .value ≡ 0) ⊎ (most < n .value) → ValueAnswer s at most (readValue (withinLimit most) s at)
-      outside n e o = let w = out-of-range n (one-spelling s at n b e) o in rw (bad-refused b w) (bad w)
+      outside n e o = let p = one-spelling s at n b e in rw (outside-refused n p o) (bad ValueOutOfRange (out-of-range n p o))
 
       go : (v : NumberRead) → readAt s at ≡ v → ValueAnswer s at most (readValue (withinLimit most) s at)
       go (number.Number n) e = elim (decLe 1 (n .value)) [
@@ -66,7 +73,18 @@ module _ {s : List ℕ} {at most : ℕ} where
         ]
         | no l ↦ outside n e (inl (omega arith))
       ]
-      go (number.Refused r) e = let w = misspelled (refused-none e) in rw (bad-refused b w) (bad w)
+      go (number.Refused r) e = let none : NoNumber s at = refused-none e in rw (misspelled-refused most b none) (bad Misspelled (misspelled none))
+
+-- A value that begins at a place is refused there, with a refusal of that number.
+pub record ValueRefused (s : List ℕ) (at most n : ℕ) : Type 0 where
+  pub kind : Refusal
+  pub its-number : refusalNumber kind ≡ n
+  pub answer : readValue (withinLimit most) s at ≡ number.Refused (record { refusal = kind; place = at })
+
+-- A bad value is refused so.
+pub bad-refused : {s : List ℕ} {at most n : ℕ} → Bytes s → BadValue s at most n → ValueRefused s at most n
+bad-refused {most = most} b (misspelled none) = record { kind = Misspelled; its-number = refl; answer = misspelled-refused most b none }
+bad-refused b (out-of-range n p o) = record { kind = ValueOutOfRange; its-number = refl; answer = outside-refused n p o }
 
 -- ---- a row
 
@@ -88,7 +106,7 @@ row-from-values : (s : List ℕ) (at : ℕ) → readRow s at ≡ fromValues valu
 unfolding fromValues ofFour
 row-from-values s at = refl
 
--- With one more in front, from 1 to its limit, values are still the first of a row ..
+-- With one more in front, from 1 to its limit, values are still the first of a row.
 first-more : {most v : ℕ} {limits values : List ℕ} → 1 ≤ v → v ≤ most → FirstValues limits values → FirstValues (most ∷ limits) (v ∷ values)
 first-more {most} {v} {limits} {values} l h first = record { fewer = omega (arith, first .fewer); within = each }
   where
@@ -96,7 +114,7 @@ first-more {most} {v} {limits} {values} l h first = record { fewer = omega (arit
     each zero k = (l, h)
     each (suc i) k = first .within i (omega arith)
 
--- .. and so they are without the one in front.
+-- Without the one in front, values are still the first of a row.
 first-less : {most v : ℕ} {limits values : List ℕ} → FirstValues (most ∷ limits) (v ∷ values) → FirstValues limits values
 first-less first = record { fewer = omega (arith, first .fewer); within = λ i h. first .within (suc i) (omega arith) }
 
@@ -107,14 +125,14 @@ pub record EndsBadly (limits s : List ℕ) (at : ℕ) (r : RefusedAt) : Type 0 w
   pub kind : Refusal
   pub first : FirstValues limits values
   pub stand : Stands s at (flatten (map spelling values)) next
-  pub wrong : BadValue s next (getD limits (length values) 0) kind
+  pub wrong : BadValue s next (getD limits (length values) 0) (refusalNumber kind)
   pub is : r ≡ record { refusal = kind; place = next }
 
--- The first value may be the bad one ..
-bad-first : {most : ℕ} {limits s : List ℕ} {at : ℕ} {r : RefusedAt} {kind : Refusal} → BadValue s at most kind
+-- Values end badly where the first is bad.
+bad-first : {most : ℕ} {limits s : List ℕ} {at : ℕ} {r : RefusedAt} (kind : Refusal) → BadValue s at most (refusalNumber kind)
     → r ≡ record { refusal = kind; place = at } → EndsBadly (most ∷ limits) s at r
 unfolding flatten
-bad-first {at} {kind} w e = record {
+bad-first {at} kind w e = record {
   values = [];
   next = at;
   kind = kind;
@@ -124,7 +142,7 @@ bad-first {at} {kind} w e = record {
   is = e;
 }
 
--- .. or a good one comes before the others.
+-- Values end badly where the first is good and the others end badly.
 good-first : {most : ℕ} {limits s : List ℕ} {at : ℕ} {r : RefusedAt} {n : Number} → Spelled s at n → 1 ≤ n .value → n .value ≤ most
     → EndsBadly limits s (n .next) r → EndsBadly (most ∷ limits) s at r
 unfolding flatten
@@ -138,7 +156,7 @@ good-first {n} p l h e = record {
   is = e .is;
 }
 
--- Values that end in a refusal end badly ..
+-- Values that end in a refusal end badly.
 ends-badly : (limits : List ℕ) {s : List ℕ} (at : ℕ) (k : List ℕ → ℕ → RowRead) {r : RefusedAt} → Bytes s
     → ((values : List ℕ) (next : ℕ) → k values next ≡ row.Refused r → ⊥) → fromValues limits s at k ≡ row.Refused r → EndsBadly limits s at r
 unfolding fromValues
@@ -152,22 +170,22 @@ ends-badly (most ∷ limits) {s} at k {r} b made e =
         → ((n : Number) → fromValues limits s (n .next) (λ values next. k (n .value ∷ values) next) ≡ row.Refused r → EndsBadly limits s (n .next) r)
         → EndsBadly (most ∷ limits) s at r
     go (number.Number n) (good p l h) f more = good-first p l h (more n f)
-    go (number.Refused q) (bad w) f more = bad-first w cc
+    go (number.Refused q) (bad kind w) f more = bad-first kind w cc
 
--- .. and values that end badly, all limits of which can be spelled, end in the refusal.
-badly-refused : (limits values : List ℕ) {s : List ℕ} (at : ℕ) (k : List ℕ → ℕ → RowRead) {next : ℕ} {kind : Refusal} → Bytes s
-    → ((i : ℕ) → getD limits i 0 ≤ maxNumber) → FirstValues limits values → Stands s at (flatten (map spelling values)) next
-    → BadValue s next (getD limits (length values) 0) kind → fromValues limits s at k ≡ row.Refused (record { refusal = kind; place = next })
+-- Values that stand up to one that is refused, all limits of which can be spelled, end in that refusal.
+badly-refused : (limits values : List ℕ) {s : List ℕ} (at : ℕ) (k : List ℕ → ℕ → RowRead) {next number : ℕ} → ((i : ℕ) → getD limits i 0 ≤ maxNumber)
+    → FirstValues limits values → Stands s at (flatten (map spelling values)) next → (wrong : ValueRefused s next (getD limits (length values) 0) number)
+    → fromValues limits s at k ≡ row.Refused (record { refusal = wrong .kind; place = next })
 unfolding fromValues flatten
-badly-refused [] values at k b small first stand wrong = absurd (omega (arith, first .fewer))
-badly-refused (most ∷ limits) [] {s} at k {next} {kind} b small first stand wrong =
-    let same : next ≡ at = omega (arith, stand .ends) in
-    rw same (rw (bad-refused b (rw same at wrong)))
-badly-refused (most ∷ limits) (v ∷ values) {s} at k {next} {kind} b small first stand wrong =
+badly-refused [] values at k small first stand wrong = absurd (omega (arith, first .fewer))
+badly-refused (most ∷ limits) [] {s} at k {next} small first stand wrong =
+    let same : at ≡ next = omega (arith, stand .ends) in
+    rw (same, wrong .answer)
+badly-refused (most ∷ limits) (v ∷ values) {s} at k small first stand wrong =
     let t = parted (spelling v) (flatten (map spelling values)) stand in
     let w = first .within 0 (omega arith) in
     rw (value-read most v (small 0) (w .0) (w .1) (t .1))
-    (badly-refused limits values (t .0) (λ others after. k (v ∷ others) after) b (λ i. small (suc i)) (first-less first) (t .2) wrong)
+    (badly-refused limits values (t .0) (λ others after. k (v ∷ others) after) (λ i. small (suc i)) (first-less first) (t .2) wrong)
 
 -- The limits of a row's values can be spelled.
 limits-small : (i : ℕ) → getD valueLimits i 0 ≤ maxNumber
@@ -177,13 +195,12 @@ limits-small (suc (suc zero)) = omega arith
 limits-small (suc (suc (suc zero))) = omega arith
 limits-small (suc (suc (suc (suc i)))) = omega arith
 
--- So a row is refused where its values end badly ..
-row-refused : {s : List ℕ} {at next : ℕ} {kind : Refusal} (values : List ℕ) → Bytes s → FirstValues valueLimits values
-    → Stands s at (flatten (map spelling values)) next → BadValue s next (getD valueLimits (length values) 0) kind
-    → readRow s at ≡ row.Refused (record { refusal = kind; place = next })
-row-refused {s} {at} values b first stand wrong = row-from-values s at ∙ badly-refused valueLimits values at ofFour b limits-small first stand wrong
+-- A row is refused where a value of it is.
+row-refused : {s : List ℕ} {at next number : ℕ} (values : List ℕ) → FirstValues valueLimits values → Stands s at (flatten (map spelling values)) next
+    → (wrong : ValueRefused s next (getD valueLimits (length values) 0) number) → readRow s at ≡ row.Refused (record { refusal = wrong .kind; place = next })
+row-refused {s} {at} values first stand wrong = row-from-values s at ∙ badly-refused valueLimits values at ofFour limits-small first stand wrong
 
--- .. and nowhere else.
+-- A row is refused nowhere else.
 row-ends-badly : {s : List ℕ} {at : ℕ} {r : RefusedAt} → Bytes s → readRow s at ≡ row.Refused r → EndsBadly valueLimits s at r
 unfolding ofFour
 row-ends-badly {s} {at} b e =
@@ -199,7 +216,7 @@ pub record RowsEndBadly (n : ℕ) (s : List ℕ) (at : ℕ) (r : RefusedAt) : Ty
   pub stand : RowsStand s at before next
   pub then : EndsBadly valueLimits s next r
 
--- The first row may be the one ..
+-- Rows end badly where the values of the first do.
 first-ends-badly : {n : ℕ} {s : List ℕ} {at : ℕ} {r : RefusedAt} → EndsBadly valueLimits s at r → RowsEndBadly (suc n) s at r
 unfolding flatten
 first-ends-badly {at} e = record {
@@ -210,7 +227,7 @@ first-ends-badly {at} e = record {
   then = e;
 }
 
--- .. or it stands before the others.
+-- Rows end badly where the first stands and the others end badly.
 later-ends-badly : {n : ℕ} {s : List ℕ} {at after : ℕ} {r : RefusedAt} {q : Row} → RowStands s at q after → RowsEndBadly n s after r
     → RowsEndBadly (suc n) s at r
 unfolding flatten
@@ -227,7 +244,7 @@ behind-front : (q : Row) (v : Rows) {r : RefusedAt} → inFront q v ≡ refused 
 behind-front q (rows rs next) e = impossible cc
 behind-front q (refused at) e = e
 
--- Rows that are refused end badly ..
+-- Rows that are refused end badly.
 pub rows-end-badly : (n : ℕ) {s : List ℕ} (at : ℕ) {r : RefusedAt} → Bytes s → readRows n s at ≡ refused r → RowsEndBadly n s at r
 unfolding readRows
 rows-end-badly zero at b e = impossible cc
@@ -238,17 +255,17 @@ rows-end-badly (suc n) {s} at {r} b e = go (readRow s at) refl e (λ next f. row
     go (row.Row q) f g more = later-ends-badly (row-stands at q b f) (more (q .next) (behind-front (q .row) (readRows n s (q .next)) g))
     go (row.Refused q) f g more = let same : q ≡ r = cc in first-ends-badly (row-ends-badly b (f ∙ ap row.Refused same))
 
--- .. and rows that end badly are refused.
-pub rows-refused : (n : ℕ) {s : List ℕ} (at : ℕ) (before : List Row) {mid next : ℕ} {kind : Refusal} (values : List ℕ) → Bytes s → length before < n
+-- Rows are refused where a value of the next one is.
+pub rows-refused : (n : ℕ) {s : List ℕ} (at : ℕ) (before : List Row) {mid next number : ℕ} (values : List ℕ) → length before < n
     → RowsStand s at before mid → FirstValues valueLimits values → Stands s mid (flatten (map spelling values)) next
-    → BadValue s next (getD valueLimits (length values) 0) kind → readRows n s at ≡ refused (record { refusal = kind; place = next })
+    → (wrong : ValueRefused s next (getD valueLimits (length values) 0) number) → readRows n s at ≡ refused (record { refusal = wrong .kind; place = next })
 unfolding readRows flatten
-rows-refused zero at before values b fewer p first stand wrong = absurd (omega arith)
-rows-refused (suc n) {s} at [] {mid} values b fewer p first stand wrong =
+rows-refused zero at before values fewer p first stand wrong = absurd (omega arith)
+rows-refused (suc n) {s} at [] {mid} values fewer p first stand wrong =
     let same : mid ≡ at = omega (arith, p .stand .ends) in
-    rw (row-refused values b first (rw same at stand) wrong)
-rows-refused (suc n) {s} at (q ∷ before) values b fewer p first stand wrong =
+    rw (row-refused values first (rw same at stand) wrong)
+rows-refused (suc n) {s} at (q ∷ before) values fewer p first stand wrong =
     let t = parted (spelledRow q) (flatten (map spelledRow before)) (p .stand) in
     let one = row-read (record { limits = each-head (p .limits); stands = t .1 }) in
-    let others = rows-refused n (t .0) before values b (omega arith) (record { limits = each-tail (p .limits); stand = t .2 }) first stand wrong in
+    let others = rows-refused n (t .0) before values (omega arith) (record { limits = each-tail (p .limits); stand = t .2 }) first stand wrong in
     simp (one, others)

@@ -1,55 +1,50 @@
--- The laws of a table are proved: what the test of a row means, and that bytes are accepted exactly when they are the spelling of acceptable rows.
+-- The laws of a table by its answers' cases, for proofs to cite: bytes are accepted exactly when they are the spelling of an acceptable content.
 -- (docs/RULES.md, section 3.)
 use Prim.Native.Nat.{ℕ, _≤_}
 use native.Mathlib.Omega.{arith}
 use mathlib.Core.Path.{_≡_, refl, sym, ap, _∙_}
-use mathlib.Core.List.{List, flatten, map, append-nil, Memᴰ·map}
+use mathlib.Core.List.{List, append-nil}
 use mathlib.Core.Bool.{Bool, true, false, cond}
+use lib.Dec.{ltb, leb}
 use lib.ListN.{length, drop-of-length-le}
 use lib.Seq.{take-append-seam}
-use lib.Dec.{ltb, leb}
 use borrow.Author.Tests.{le-leb, le-ltb, leb-true, ltb-false}
 use Rattle.kinds.specs.declared.RefusedAt.{RefusedAt}
 use Rattle.kinds.proofs.Apart.{impossible}
-use Rattle.numbers.specs.declared.Number.{Number}
-use Rattle.numbers.specs.declared.NumberRead.{NumberRead}
-use Rattle.numbers.specs.declared.NumberRead.the-variants as number
-use Rattle.numbers.specs.Spelling.{spelling}
-use Rattle.numbers.specs.Reading.{readAt}
+use Rattle.periods.proofs.Multiples.{period-is-least}
+use Rattle.numbers.specs.Laws.{Bytes}
 use Rattle.table.specs.declared.Row.{Row}
 use Rattle.table.specs.declared.TableRead.{TableRead}
 use Rattle.table.specs.declared.TableAnswer.the-variants.{Accepted}
-use Rattle.table.specs.Limits.{maxRows, maxPeriod}
-use Rattle.table.specs.Period.{ysOf, periodOf}
-use Rattle.table.specs.Tables.{Rows, rows, refused, rowsOf, tableOf, readRows, refusedTable, afterRows, afterCount, tableRead}
-use Rattle.table.specs.Laws.{spelledRow, spelledTable, WithinLimits, AcceptedAs, UsableRows}
-use Rattle.table.specs.Laws.{InRangeMeans, RowsOfTable, SpelledIsAccepted, AcceptedIsSpelled, SpellingsOfTablesDiffer, AcceptedRowsAreUsable}
-use Rattle.table.proofs.Each.{Each}
+use Rattle.table.specs.Limits.{maxPeriod}
+use Rattle.table.specs.Content.{Content, rowsAlone}
+use Rattle.table.specs.Period.{periodsOf, periodOf}
+use Rattle.table.specs.Tables.{Rows, rows, refused, contentOf, tableOf, rowsFrom, refusedTable, afterRows, tableRead}
+use Rattle.table.specs.Laws.{spelledTable, Acceptable, AcceptedAs, UsableContent, InRangeMeans, ContentOfTable, SpellingsOfTablesDiffer}
+use Rattle.table.specs.Refusals.{RowsEnd}
 use Rattle.table.proofs.Ranges.{limits-of, in-range-of}
-use Rattle.table.proofs.Periods.{some-ys, period-is-least}
-use Rattle.table.proofs.Spelling.{stands-whole, parted, joined, number-read, number-stands, rows-read, rows-stand}
+use Rattle.table.proofs.ReadTables.{some-ys}
+use Rattle.table.proofs.Spelling.{stands-whole, rows-then, rows-end}
 
 pub in-range-means : InRangeMeans
 in-range-means r = (limits-of r, in-range-of r)
 
-pub rows-of-table : RowsOfTable
-rows-of-table rs = take-append-seam rs _
+pub content-of-table : ContentOfTable
+content-of-table content = ap rowsAlone (take-append-seam (content .rows) _)
 
 -- ---- the spelling of a table
 
-pub spelled-is-accepted : SpelledIsAccepted
-spelled-is-accepted rs a =
-    let s = spelledTable rs in
-    let t = parted (spelling (length rs)) (flatten (map spelledRow rs)) (stands-whole s) in
-    let count = number-read (length rs) (omega (arith, a .few-rows)) (t .1) in
-    let body = rows-read rs (record { limits = λ r m. limits-of r (a .in-range r m); stand = t .2 }) in
-    simp (
-      count,
-      le-leb (length rs) maxRows (a .few-rows),
-      body,
-      le-ltb (length s) (length s) (omega arith),
-      le-leb (periodOf rs) maxPeriod (a .period-within),
-    )
+-- The spelling of an acceptable content is read as its table.
+pub spelled-is-read : (content : Content) → Acceptable content
+    → tableRead (spelledTable content) ≡ record { table = tableOf content; answer = Accepted (periodOf content) }
+spelled-is-read content a =
+    let s = spelledTable content in
+    let ended : RowsEnd s 0 (length s) (content .rows) = record {
+      few-rows = a .good-rows .few-rows;
+      rows-within = λ r m. limits-of r (a .good-rows .in-range r m);
+      before = stands-whole s;
+    } in
+    ap (afterRows s) (rows-then ended) ∙ simp (le-ltb (length s) (length s) (omega arith), le-leb (periodOf content) maxPeriod (a .period-within))
 
 -- A table that a test refuses where it holds, and that is accepted: the test does not hold.
 refused-if : (t : Bool) (at : RefusedAt) (then : TableRead) {h : ℕ} → cond t (refusedTable at) then .answer ≡ Accepted h
@@ -69,53 +64,38 @@ record RowsAccepted (s : List ℕ) (v : Rows) (h : ℕ) : Type 0 where
   next : ℕ
   were-read : v ≡ rows all next
   nothing-after : length s ≤ next
-  period-within : periodOf all ≤ maxPeriod
-  period : h ≡ periodOf all
-  table : afterRows s v .table ≡ tableOf all
+  period-within : periodOf (rowsAlone all) ≤ maxPeriod
+  period : h ≡ periodOf (rowsAlone all)
+  table : afterRows s v .table ≡ tableOf (rowsAlone all)
 
 rows-accepted : (s : List ℕ) (v : Rows) (h : ℕ) → afterRows s v .answer ≡ Accepted h → RowsAccepted s v h
 rows-accepted s (rows rs next) h e =
     let last = refused-if (ltb next (length s)) _ _ e in
-    let short = refused-unless (leb (periodOf rs) maxPeriod) _ _ (last .1) in
+    let short = refused-unless (leb (periodOf (rowsAlone rs)) maxPeriod) _ _ (last .1) in
     record {
       all = rs;
       next = next;
       were-read = refl;
       nothing-after = ltb-false next (length s) (last .0);
-      period-within = leb-true (periodOf rs) maxPeriod (short .0);
+      period-within = leb-true (periodOf (rowsAlone rs)) maxPeriod (short .0);
       period = cc (short .1);
       table = simp (last .0, short .0);
     }
 rows-accepted s (refused at) h e = impossible cc
 
--- A count after which a table is accepted was read, is not too large, and the rows came after it.
-record CountAccepted (s : List ℕ) (v : NumberRead) (h : ℕ) : Type 0 where
-  count : Number
-  was-read : v ≡ number.Number count
-  few-rows : count .value ≤ maxRows
-  then : afterCount s v ≡ afterRows s (readRows (count .value) s (count .next))
-
-count-accepted : (s : List ℕ) (v : NumberRead) (h : ℕ) → afterCount s v .answer ≡ Accepted h → CountAccepted s v h
-count-accepted s (number.Number n) h e =
-    let few = refused-unless (leb (n .value) maxRows) _ _ e in
-    record { count = n; was-read = refl; few-rows = leb-true (n .value) maxRows (few .0); then = simp (few .0) }
-count-accepted s (number.Refused at) h e = impossible cc
-
-pub accepted-is-spelled : AcceptedIsSpelled
+-- Whatever is accepted is the spelling of an acceptable content.
+pub accepted-is-spelled : (s : List ℕ) (h : ℕ) → Bytes s → tableRead s .answer ≡ Accepted h → (content : Content) × AcceptedAs s h content
 accepted-is-spelled s h b e =
-    let c = count-accepted s (readAt s 0) h e in
-    let r = rows-accepted s (readRows (c .count .value) s (c .count .next)) h (rw (c .then) at e) in
-    let t = rows-stand (c .count .value) (c .count .next) (r .all) (r .next) b (r .were-read) in
-    let whole = joined (number-stands 0 (c .count) b (c .was-read)) (t .1 .stand) in (
-      r .all,
+    let r = rows-accepted s (rowsFrom s 0) h e in
+    let ended = rows-end 0 b (r .were-read) in (
+      rowsAlone (r .all),
       record {
         acceptable = record {
-          few-rows = omega (arith, t .0, c .few-rows);
-          in-range = λ q m. in-range-of q (t .1 .limits q m);
+          good-rows = record { few-rows = ended .few-rows; in-range = λ q m. in-range-of q (ended .rows-within q m) };
           period-within = r .period-within;
         };
-        spelled = whole .here ∙ rw (drop-of-length-le s (r .nothing-after), append-nil, t .0);
-        read-as = rw (c .then) (r .table);
+        spelled = ended .before .here ∙ rw (drop-of-length-le s (r .nothing-after), append-nil);
+        read-as = r .table;
         period = r .period;
       },
     )
@@ -123,24 +103,27 @@ accepted-is-spelled s h b e =
 -- ---- what follows
 
 pub spellings-of-tables-differ : SpellingsOfTablesDiffer
-spellings-of-tables-differ rs qs a b e =
-    let same = sym (spelled-is-accepted rs a) ∙ ap tableRead e ∙ spelled-is-accepted qs b in
-    sym (rows-of-table rs) ∙ ap (λ (t : TableRead). rowsOf (t .table)) same ∙ rows-of-table qs
+spellings-of-tables-differ content other a b e =
+    let same = sym (spelled-is-read content a) ∙ ap tableRead e ∙ spelled-is-read other b in
+    sym (content-of-table content) ∙ ap (λ (t : TableRead). contentOf (t .table)) same ∙ content-of-table other
 
--- What was accepted as some rows is usable as these.
-usable-rows : (s : List ℕ) (h : ℕ) (rs : List Row) → AcceptedAs s h rs → UsableRows s h rs
-usable-rows s h rs a =
-    let limits : Each WithinLimits rs = λ r m. limits-of r (a .acceptable .in-range r m) in
-    let least = period-is-least (ysOf rs) (some-ys rs limits) in
+-- What was accepted as some content is what the table says that was read.
+pub accepted-as-read : (s : List ℕ) (h : ℕ) → Bytes s → tableRead s .answer ≡ Accepted h → AcceptedAs s h (contentOf (tableRead s .table))
+accepted-as-read s h b e = let a = accepted-is-spelled s h b e in rw (a .1 .read-as, content-of-table) (a .1)
+
+-- What was accepted as some content is usable as this.
+usable-content : (s : List ℕ) (h : ℕ) (content : Content) → AcceptedAs s h content → UsableContent s h content
+usable-content s h content a =
+    let good = a .acceptable .good-rows .in-range in
+    let least = period-is-least (periodsOf content) (some-ys (content .rows) good) in
     record {
       accepted-as = a;
-      within-limits = limits;
+      within-limits = λ r m. limits-of r (good r m);
       some-period = rw (a .period) (least .positive);
       most-period = rw (a .period) (a .acceptable .period-within);
-      divides-period = λ r m. rw (a .period) (least .multiple (r .y) (Memᴰ·map (λ (q : Row). q .y) m));
+      divides-period = λ y m. rw (a .period) (least .multiple y m);
     }
 
-pub accepted-rows-are-usable : AcceptedRowsAreUsable
-accepted-rows-are-usable s h b e =
-    let a = accepted-is-spelled s h b e in
-    rw (a .1 .read-as, rows-of-table) (usable-rows s h (a .0) (a .1))
+-- The content of an accepted table is usable.
+pub accepted-is-usable : (s : List ℕ) (h : ℕ) → Bytes s → tableRead s .answer ≡ Accepted h → UsableContent s h (contentOf (tableRead s .table))
+accepted-is-usable s h b e = usable-content s h (contentOf (tableRead s .table)) (accepted-as-read s h b e)

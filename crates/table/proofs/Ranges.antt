@@ -7,15 +7,11 @@ use lib.Dec.{leb}
 use borrow.Author.Tests.{leb-true, le-leb}
 use Rattle.kinds.specs.declared.Refusal.{Refusal}
 use Rattle.kinds.specs.declared.Refusal.the-variants.{ValueOutOfRange}
+pub use Rattle.periods.proofs.Multiples.{both-true}
 use Rattle.table.specs.declared.Row.{Row}
 use Rattle.table.specs.Limits.{maxX, maxY, maxD, maxC}
 use Rattle.table.specs.Rows.{withinLimit, fine, ruleOfX, ruleOfY, ruleOfD, ruleOfC, rowInRange}
 use Rattle.table.specs.Laws.{WithinLimits}
-
--- Two tests that hold together hold each.
-pub both-true : (a b : Bool) → (a && b) ≡ true → (a ≡ true) × (b ≡ true)
-both-true true b e = (refl, e)
-both-true false b e = (cc, cc)
 
 -- ---- a value
 
@@ -24,37 +20,37 @@ pub nothing-wrong : (o : Option Refusal) → fine o ≡ true → o ≡ none
 nothing-wrong none e = refl
 nothing-wrong (some r) e = cc
 
--- A rule that refuses where a test fails is fine where the test holds ..
+-- A rule that refuses where a test fails is fine where the test holds.
 fine-where : (t : Bool) (r : Refusal) → fine (cond t none (some r)) ≡ t
 fine-where true r = refl
 fine-where false r = refl
 
--- .. and where it is not fine, it refuses.
+-- Such a rule refuses where it is not fine.
 refused-where : (t : Bool) (r : Refusal) → fine (cond t none (some r)) ≡ false → cond t none (some r) ≡ some r
 refused-where true r e = cc
 refused-where false r e = refl
 
--- Nothing is wrong with a value exactly where both tests of its range hold: ..
+-- Nothing is wrong with a value exactly where both tests of its range hold.
 pub fine-within : (most v : ℕ) → fine (withinLimit most v) ≡ (leb 1 v && leb v most)
 fine-within most v = fine-where (leb 1 v && leb v most) ValueOutOfRange
 
--- .. then it is from 1 to its limit, ..
+-- A value with which nothing is wrong is from 1 to its limit.
 fine-limits : (most v : ℕ) → fine (withinLimit most v) ≡ true → (1 ≤ v) × (v ≤ most)
 fine-limits most v e =
     let t = both-true (leb 1 v) (leb v most) (sym (fine-within most v) ∙ e) in
     (leb-true 1 v (t .0), leb-true v most (t .1))
 
--- .. there it is fine, ..
+-- Nothing is wrong with a value from 1 to its limit.
 pub within-fine : (most v : ℕ) → 1 ≤ v → v ≤ most → fine (withinLimit most v) ≡ true
 within-fine most v l h = simp (le-leb 1 v l, le-leb v most h)
 
--- .. and else it is out of range.
+-- A value with which something is wrong is out of range.
 pub out-of-range : (most v : ℕ) → fine (withinLimit most v) ≡ false → withinLimit most v ≡ some ValueOutOfRange
 out-of-range most v e = refused-where (leb 1 v && leb v most) ValueOutOfRange e
 
 -- ---- a row
 
--- A row in range is within its limits, ..
+-- A row in range is within its limits.
 pub limits-of : (r : Row) → rowInRange r ≡ true → WithinLimits r
 limits-of r e =
     let c = both-true (fine (ruleOfX (r .x)) && fine (ruleOfY (r .y)) && fine (ruleOfD (r .d))) (fine (ruleOfC (r .c))) e in
@@ -75,7 +71,7 @@ limits-of r e =
       most-c = c-within .1;
     }
 
--- .. and a row within its limits is in range.
+-- A row within its limits is in range.
 pub in-range-of : (r : Row) → WithinLimits r → rowInRange r ≡ true
 in-range-of r w = simp (
   within-fine maxX (r .x) (w .some-x) (w .most-x),

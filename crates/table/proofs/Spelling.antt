@@ -6,6 +6,7 @@ use mathlib.Core.Path.{_≡_, refl, sym, ap, _∙_}
 use mathlib.Core.List.{List, [], _∷_, _++_, flatten, map, append-assoc, append-nil}
 use lib.ListN.{length, drop, length-append}
 use lib.Seq.{drop-drop, drop-length, drop-append-seam}
+use borrow.Author.Tests.{le-leb}
 use Rattle.kinds.proofs.Apart.{impossible}
 use Rattle.numbers.specs.declared.Number.{Number}
 use Rattle.numbers.specs.declared.NumberRead.the-variants as number
@@ -15,33 +16,29 @@ use Rattle.numbers.specs.Laws.{Bytes, Spelled}
 use Rattle.numbers.proofs.Laws.{read-here, one-spelling}
 use Rattle.table.specs.declared.Row.{Row}
 use Rattle.table.specs.declared.RowAt.{RowAt}
-use Rattle.table.specs.declared.RowRead.{RowRead}
 use Rattle.table.specs.declared.RowRead.the-variants as row
-use Rattle.table.specs.Limits.{maxX, maxY, maxD, maxC}
+use Rattle.table.specs.Limits.{maxRows, maxX, maxY, maxD, maxC}
 use Rattle.table.specs.Rows.{withinLimit, readValue, readRow}
-use Rattle.table.specs.Tables.{Rows, rows, refused, inFront, afterRow, readRows}
+use Rattle.table.specs.Tables.{rows, readRows, rowsFrom}
 use Rattle.table.specs.Laws.{spelledRow, WithinLimits}
+use Rattle.table.specs.Refusals.{Stands, RowsEnd}
 use Rattle.table.proofs.Each.{Each, each-none, each-cons, each-head, each-tail}
 use Rattle.table.proofs.Ranges.{within-fine, limits-of}
 use Rattle.table.proofs.Reading.{value-stands, four-values, row-in-range}
+use Rattle.table.proofs.ReadTables.{first-row, other-rows, count-read}
 
 -- ---- parts of the bytes
-
--- From a place on stands a part of the bytes, up to the next place.
-pub record Stands (s : List ℕ) (at : ℕ) (part : List ℕ) (next : ℕ) : Type 0 where
-  pub here : drop at s ≡ part ++ drop next s
-  pub ends : next ≡ at + length part
 
 -- The whole stands at the start.
 pub stands-whole : (s : List ℕ) → Stands s 0 s (length s)
 stands-whole s = record { here = rw (drop-length, append-nil); ends = omega arith }
 
 module _ {s : List ℕ} {at next : ℕ} where
-  -- Two parts, one after the other, are one part, ..
+  -- Two parts, one after the other, are one part.
   pub joined : {a b : List ℕ} {mid : ℕ} → Stands s at a mid → Stands s mid b next → Stands s at (a ++ b) next
   joined {a} {b} p q = record { here = p .here ∙ rw (q .here, append-assoc); ends = omega (arith, length-append a b) }
 
-  -- .. and one part that is made of two is the two.
+  -- One part that is made of two is the two, one after the other.
   pub parted : (a b : List ℕ) → Stands s at (a ++ b) next → (mid : ℕ) × Stands s at a mid × Stands s mid b next
   parted a b p =
       let later : drop (at + length a) s ≡ b ++ drop next s = rw (← drop-drop, p .here, append-assoc, drop-append-seam) in (
@@ -56,13 +53,13 @@ module _ {s : List ℕ} {at next : ℕ} where
 pub spelled-stands : {s : List ℕ} {at : ℕ} {n : Number} → Spelled s at n → Stands s at (spelling (n .value)) (n .next)
 spelled-stands p = record { here = p .stands-here; ends = p .ends }
 
--- A number is read where its spelling stands, ..
+-- A number is read where its spelling stands.
 pub number-read : {s : List ℕ} {at next : ℕ} (v : ℕ) → v ≤ maxNumber → Stands s at (spelling v) next
     → readAt s at ≡ number.Number (record { value = v; next = next })
 number-read {s} {at} {next} v h p =
     read-here s at v (drop next s) h (p .here) ∙ ap (λ (n : ℕ). number.Number (record { value = v; next = n })) (sym (p .ends))
 
--- .. and where a number is read, its spelling stands.
+-- Where a number is read, its spelling stands.
 pub number-stands : {s : List ℕ} (at : ℕ) (n : Number) → Bytes s → readAt s at ≡ number.Number n → Stands s at (spelling (n .value)) (n .next)
 number-stands {s} at n b e = spelled-stands (one-spelling s at n b e)
 
@@ -119,17 +116,6 @@ rows-read (r ∷ rs) p =
     let more = rows-read rs (record { limits = each-tail (p .limits); stand = t .2 }) in
     simp (one, more)
 
--- Rows that are read have a row to begin with, ..
-first-row : (n : ℕ) (s : List ℕ) (v : RowRead) {rs : List Row} {next : ℕ} → afterRow v (λ r after. inFront r (readRows n s after)) ≡ rows rs next
-    → (r : RowAt) × (v ≡ row.Row r) × (inFront (r .row) (readRows n s (r .next)) ≡ rows rs next)
-first-row n s (row.Row r) e = (r, refl, e)
-first-row n s (row.Refused at) e = impossible cc
-
--- .. and the others after it.
-other-rows : (r : Row) (v : Rows) {rs : List Row} {next : ℕ} → inFront r v ≡ rows rs next → (qs : List Row) × (v ≡ rows qs next) × (r ∷ qs ≡ rs)
-other-rows r (rows qs next) e = (qs, cc, cc)
-other-rows r (refused at) e = impossible cc
-
 -- Where so many rows are read, their spellings stand, within their limits.
 pub rows-stand : {s : List ℕ} (n at : ℕ) (rs : List Row) (next : ℕ) → Bytes s → readRows n s at ≡ rows rs next
     → (length rs ≡ n) × RowsStand s at rs next
@@ -150,3 +136,23 @@ rows-stand {s} (suc n) at rs next b e =
         stand = joined (one .stands) (more .1 .stand);
       },
     )
+
+-- ---- rows behind their count
+
+-- Where the count of some rows stands that is not too large, the bytes behind it are read as rows.
+pub count-then : {s : List ℕ} {at next : ℕ} (n : ℕ) → n ≤ maxRows → Stands s at (spelling n) next → rowsFrom s at ≡ readRows n s next
+count-then n few p = simp (number-read n (omega arith) p, le-leb n maxRows few)
+
+-- Rows are read where they end behind their count.
+pub rows-then : {s : List ℕ} {from at : ℕ} {rs : List Row} → RowsEnd s from at rs → rowsFrom s from ≡ rows rs at
+rows-then {s} {from} {at} {rs} p =
+    let t = parted (spelling (length rs)) (flatten (map spelledRow rs)) (p .before) in
+    count-then (length rs) (p .few-rows) (t .1) ∙ rows-read rs (record { limits = p .rows-within; stand = t .2 })
+
+-- Where rows are read behind their count, they end.
+pub rows-end : {s : List ℕ} (from : ℕ) {at : ℕ} {rs : List Row} → Bytes s → rowsFrom s from ≡ rows rs at → RowsEnd s from at rs
+rows-end {s} from {at} {rs} b e =
+    let c = count-read s from (readAt s from) e in
+    let t = rows-stand (c .count .value) (c .count .next) rs at b (c .then) in
+    let counted : Stands s from (spelling (length rs)) (c .count .next) = rw (t .0) (number-stands from (c .count) b (c .was-read)) in
+    record { few-rows = omega (arith, t .0, c .few-rows); rows-within = t .1 .limits; before = joined counted (t .1 .stand) }

@@ -1,7 +1,9 @@
 pub mod Limits
+pub mod Content
 pub mod Period
 pub mod Rows
 pub mod Tables
+pub mod Costs
+pub mod Answers
 pub mod Laws
 pub mod Refusals
-pub mod Answers

@@ -6,23 +6,26 @@ use Rattle.table.specs.declared.Limits.{Limits}
 abbrev pub maxRows : ℕ
 maxRows = 16
 
--- A row's x, y, d and c are at least 1, and at most: (3.2)
+-- A row's x is at most so much. (3.2)
 abbrev pub maxX : ℕ
 maxX = 64
 
+-- A row's y is at most so much. (3.2)
 abbrev pub maxY : ℕ
 maxY = 4096
 
+-- A row's d is at most so much. (3.2)
 abbrev pub maxD : ℕ
 maxD = 16384
 
+-- A row's c is at most so much. (3.2)
 abbrev pub maxC : ℕ
 maxC = 4096
 
--- H is at most so much. (3.4)
+-- H is at most so many ticks. (3.4)
 abbrev pub maxPeriod : ℕ
 maxPeriod = 1048576
 
--- All of them, as the code hands them out.
+-- The limits together, as the code hands them out. (3.1, 3.2, 3.4)
 abbrev pub limits : Limits
 limits = record { rows = maxRows; x = maxX; y = maxY; d = maxD; c = maxC; period = maxPeriod }

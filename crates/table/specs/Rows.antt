@@ -15,7 +15,7 @@ use Rattle.table.specs.declared.RowRead.{RowRead}
 use Rattle.table.specs.declared.RowRead.the-variants as row
 use Rattle.table.specs.Limits.{maxX, maxY, maxD, maxC}
 
--- A number from 1 to a limit.
+-- Whether a number is from 1 to a limit.
 abbrev pub fromOneTo : (most n : ℕ) → Bool
 fromOneTo most n = leb 1 n && leb n most
 
@@ -23,25 +23,28 @@ fromOneTo most n = leb 1 n && leb n most
 abbrev pub withinLimit : (most v : ℕ) → Option Refusal
 withinLimit most v = cond (fromOneTo most v) none (some ValueOutOfRange)
 
--- A row's rule, value by value: what is wrong with it, if anything. No range depends on another value. (3.3)
+-- What is wrong with an x, if anything. No range depends on another value. (3.2, 3.3)
 abbrev pub ruleOfX : ℕ → Option Refusal
 ruleOfX x = withinLimit maxX x
 
+-- What is wrong with a y, if anything. (3.2)
 abbrev pub ruleOfY : ℕ → Option Refusal
 ruleOfY y = withinLimit maxY y
 
+-- What is wrong with a d, if anything. (3.2)
 abbrev pub ruleOfD : ℕ → Option Refusal
 ruleOfD d = withinLimit maxD d
 
+-- What is wrong with a c, if anything. (3.2)
 abbrev pub ruleOfC : ℕ → Option Refusal
 ruleOfC c = withinLimit maxC c
 
--- Nothing is wrong.
+-- Whether nothing is wrong.
 abbrev pub fine : Option Refusal → Bool
 fine none = true
 fine (some r) = false
 
--- A row is in range: nothing is wrong with any of its values.
+-- A row is in range where nothing is wrong with any of its values. (3.2)
 abbrev pub rowInRange : Row → Bool
 rowInRange r = fine (ruleOfX (r .x)) && fine (ruleOfY (r .y)) && fine (ruleOfD (r .d)) && fine (ruleOfC (r .c))
 

@@ -1,12 +1,17 @@
 // Tables: the rows that a rig is to serve, and the reader that turns any bytes into a table or its exact refusal. (docs/RULES.md, section 3.)
+mod costs;
+mod rows;
+
+use crate::rows::read_rows;
+pub use costs::limit_of;
 use kinds::Refusal;
 use kinds::RefusedAt;
-use numbers::NumberRead;
+use periods::Period;
 ghost use mathlib.Core.Path.{_≡_};
-ghost use Rattle.table.specs.Limits.{limits, maxPeriod};
-ghost use Rattle.table.specs.Rows.{withinLimit, fine, rowInRange, readValue, readRow};
-ghost use Rattle.table.specs.Tables.{emptyTable, refusedTable, rowsOf, tableRead, InRange};
-ghost use Rattle.table.specs.Period.{IsGreatestDivisor, periodWithin};
+ghost use Rattle.table.specs.Limits.{limits};
+ghost use Rattle.table.specs.Period.{ysOf};
+ghost use Rattle.table.specs.Rows.{withinLimit, fine, rowInRange};
+ghost use Rattle.table.specs.Tables.{emptyTable, refusedTable, tableRead};
 
 // A row expects x jobs in any y ticks, each due d ticks after its release and costing at most c units.
 pub struct Row {
@@ -44,6 +49,18 @@ pub struct Limits {
     pub period: u64,
 }
 
+// The most that a job of a row may cost, where there is such a row.
+pub enum CostLimit {
+    Units(u64),
+    NoSuchRow,
+}
+
+// Whether a job may have a cost.
+pub enum CostAnswer {
+    Allowed,
+    Refused(Refusal),
+}
+
 // A row that was read, and the place after it.
 struct RowAt {
     row: Row,
@@ -56,10 +73,17 @@ enum RowRead {
     Refused(RefusedAt),
 }
 
-// H, where it is within the limit.
-enum Period {
-    Ticks(u64),
-    TooLong,
+// Whether rows were read: up to a place, or the refusal that ended them.
+enum RowsAnswer {
+    Until(usize),
+    Refused(RefusedAt),
+}
+
+// The rows that were read, beside the answer; refused, none.
+struct RowsRead {
+    rows: [Row; Table::MAX_ROWS],
+    count: usize,
+    answer: RowsAnswer,
 }
 
 impl Row {
@@ -111,6 +135,20 @@ impl Table {
         }
     }
 
+    // The y of each row; those of the rows in use are the first `count`.
+    fn ys(self) -> [u64; Table::MAX_ROWS]
+        ensures { λ r. ⌜ r ≡ ysOf (self .rows) ⌝ }
+    {
+        let mut ys: [u64; Table::MAX_ROWS] = [0; Table::MAX_ROWS];
+        let mut i: usize = 0;
+        while i < Table::MAX_ROWS {
+            let row = self.rows[i];
+            ys[i] = row.y;
+            i += 1;
+        }
+        ys
+    }
+
     // The limits of the code are those of the rules.
     pub fn limits() -> Limits
         ensures { λ r. ⌜ r ≡ limits ⌝ }
@@ -124,88 +162,6 @@ impl Table {
             period: Table::MAX_PERIOD,
         }
     }
-}
-
-// One value of a row, tested as it is read.
-fn read_value(bytes: &[u8], at: usize, most: u64) -> NumberRead
-    ensures { λ r. ⌜ r ≡ readValue (withinLimit most) (now (bytes .entry)) at ⌝ }
-{
-    match numbers::read(bytes, at) {
-        NumberRead::Number(n) => {
-            let value = n.value;
-            if within_limit(most, value) {
-                return NumberRead::Number(n);
-            }
-            NumberRead::Refused(RefusedAt {
-                refusal: Refusal::ValueOutOfRange,
-                place: at,
-            })
-        }
-        NumberRead::Refused(r) => NumberRead::Refused(r),
-    }
-}
-
-// Four values, left to right.
-fn read_row(bytes: &[u8], at: usize) -> RowRead
-    ensures { λ r. ⌜ r ≡ readRow (now (bytes .entry)) at ⌝ }
-{
-    let x = match read_value(bytes, at, Row::MAX_X) {
-        NumberRead::Number(n) => n,
-        NumberRead::Refused(r) => return RowRead::Refused(r),
-    };
-    let y = match read_value(bytes, x.next, Row::MAX_Y) {
-        NumberRead::Number(n) => n,
-        NumberRead::Refused(r) => return RowRead::Refused(r),
-    };
-    let d = match read_value(bytes, y.next, Row::MAX_D) {
-        NumberRead::Number(n) => n,
-        NumberRead::Refused(r) => return RowRead::Refused(r),
-    };
-    let c = match read_value(bytes, d.next, Row::MAX_C) {
-        NumberRead::Number(n) => n,
-        NumberRead::Refused(r) => return RowRead::Refused(r),
-    };
-    RowRead::Row(RowAt {
-        row: Row {
-            x: x.value,
-            y: y.value,
-            d: d.value,
-            c: c.value,
-        },
-        next: c.next,
-    })
-}
-
-// The greatest common divisor, by Euclid's rule.
-fn greatest_divisor(a: u64, b: u64) -> u64
-    ensures { λ r. ⌜ IsGreatestDivisor a b r ⌝ }
-{
-    let mut m = a;
-    let mut n = b;
-    while 0 < m {
-        let rest = n % m;
-        n = m;
-        m = rest;
-    }
-    n
-}
-
-// H grows row by row, and no further once it is above the limit, so that nothing overflows.
-fn period_of(table: Table) -> Period
-    requires { ⌜ InRange table ⌝ }
-    ensures { λ r. ⌜ r ≡ periodWithin maxPeriod (rowsOf table) ⌝ }
-{
-    let mut h: u64 = 1;
-    let mut i: usize = 0;
-    while i < table.count {
-        let row = table.rows[i];
-        h = h / greatest_divisor(h, row.y) * row.y;
-        if Table::MAX_PERIOD < h {
-            return Period::TooLong;
-        }
-        i += 1;
-    }
-    Period::Ticks(h)
 }
 
 // The empty table, with the refusal.
@@ -222,44 +178,29 @@ fn refused(at: RefusedAt) -> TableRead
 pub fn read_table(bytes: &[u8]) -> TableRead
     ensures { λ r. ⌜ r ≡ tableRead (now (bytes .entry)) ⌝ }
 {
-    let count = match numbers::read(bytes, 0) {
-        NumberRead::Number(n) => n,
-        NumberRead::Refused(r) => return refused(r),
+    let read = read_rows(bytes, 0);
+    let answer = read.answer;
+    let next = match answer {
+        RowsAnswer::Until(next) => next,
+        RowsAnswer::Refused(r) => return refused(r),
     };
-    if count.value > Table::MAX_ROWS as u64 {
-        return refused(RefusedAt {
-            refusal: Refusal::TooManyRows,
-            place: 0,
-        });
-    }
-    let mut table = Table::empty();
-    let mut at = count.next;
-    let mut i: usize = 0;
-    while i < count.value as usize {
-        match read_row(bytes, at) {
-            RowRead::Row(r) => {
-                let row = r.row;
-                table.rows[i] = row;
-                at = r.next;
-            }
-            RowRead::Refused(r) => return refused(r),
-        }
-        i += 1;
-    }
-    table.count = i;
-    if at < bytes.len() {
+    if next < bytes.len() {
         return refused(RefusedAt {
             refusal: Refusal::ExtraBytes,
-            place: at,
+            place: next,
         });
     }
-    match period_of(table) {
+    let rows = read.rows;
+    let count = read.count;
+    let table = Table { rows, count };
+    let ys = table.ys();
+    match periods::period_within(&ys[..count], Table::MAX_PERIOD) {
         Period::Ticks(h) => TableRead {
             table,
             answer: TableAnswer::Accepted(h),
         },
-        Period::TooLong => refused(RefusedAt {
-            refusal: Refusal::PeriodTooLong,
+        Period::Refused(r) => refused(RefusedAt {
+            refusal: r,
             place: bytes.len(),
         }),
     }

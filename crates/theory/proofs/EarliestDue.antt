@@ -11,10 +11,10 @@ use native.Mathlib.Omega.{arith}
 use borrow.Author.Tests.{le-leb, lt-leb}
 use Rattle.theory.specs.Lists.{All, total, weightIf}
 use Rattle.theory.specs.Curves.{EveryLengthFits}
-use Rattle.theory.specs.Jobs.{Job, dueBy, weighed, asked, BoundedBy}
+use Rattle.theory.specs.Jobs.{Job, DistinctNames, dueBy, weighed, asked, BoundedBy}
 use Rattle.theory.specs.Ticks.{free, TakenAtMost}
-use Rattle.theory.specs.Trace.{Waiting, unitsLeft, begin, accept, lost, idle, serve, leave, EarliestDueFirst, NeverIdlesInVain, Busy}
-use Rattle.theory.specs.Trace.{waits, over, AnEarliestMayBeServed, AlwaysBusy, NothingDueWaits, InTime}
+use Rattle.theory.specs.Trace.{Waiting, unitsLeft, Trace, begin, accept, lost, idle, serve, leave, EarliestDueFirst, NeverIdlesInVain, Busy}
+use Rattle.theory.specs.Trace.{ServedOrEnded, waits, over, AnEarliestMayBeServed, AlwaysBusy, NothingDueWaits, InTime}
 use Rattle.theory.proofs.Cases.{by-lt}
 use Rattle.theory.proofs.Lists.{all-imply, all-at, weight-if, weight-unless, none-passes}
 use Rattle.theory.proofs.Jobs.{weight-inside}
@@ -24,21 +24,21 @@ use Rattle.theory.proofs.Trace.{units-left-put-in, unit-taken-off, all-
 -- ---- what is left to get by a time
 
 module _ (D : ℕ) where
-  -- What a job due by D weighs counts ..
+  -- What a job due by D weighs counts.
   counts : (w : Job → ℕ) (j : Job) → j .due ≤ D → weightIf (dueBy D) w j ≡ w j
   counts w j h = weight-if (dueBy D) w j (le-leb (j .due) D h)
 
-  -- .. and what a job due later weighs does not.
+  -- What a job due after D weighs does not count.
   counts-not : (w : Job → ℕ) (j : Job) → D < j .due → weightIf (dueBy D) w j ≡ 0
   counts-not w j h = weight-unless (dueBy D) w j (lt-leb (j .due) D h)
 
-  -- Where nothing that waits is due by D, nothing is left to get by D ..
+  -- Where nothing that waits is due by D, nothing is left to get by D.
   nothing-left : (waiting : List Waiting) → All (λ w. D < w .job .due) waiting → unitsLeft (dueBy D) waiting ≡ 0
   unfolding unitsLeft
   nothing-left waiting h =
       none-passes (λ w. dueBy D (w .job)) (λ w. w .left) waiting (all-imply (λ w. lt-leb (w .job .due) D) waiting h)
 
-  -- .. and where nothing is, no job that waits with some units left is due by D.
+  -- Where nothing is left to get by D, no job that waits with some units left is due by D.
   nothing-due : (waiting : List Waiting) → All (λ w. 1 ≤ w .left) waiting → unitsLeft (dueBy D) waiting ≡ 0 → All (λ w. D < w .job .due) waiting
   unfolding unitsLeft total
   nothing-due [] some-left none = tt
@@ -118,10 +118,11 @@ module _ {taken : ℕ → Bool} {t : ℕ} {waiting : List Waiting} {accepted : L
       let b = always-busy r first never-idle t in
       nothing-due t waiting (all-imply (λ w h. h .1) waiting (all-owed r .0)) (omega (arith, b .bound, fits (b .from) (b .begun)))
 
-  -- Where demand and taken ticks fit every length, each accepted job that is due has had its cost, or left early.
-  pub in-time : InTime taken t waiting accepted ticks left-early
-  in-time r first never-idle distinct demand lost-ticks bounded few none fits =
-      let later = nothing-due-waits r first never-idle (λ a. fits-every-window taken accepted demand lost-ticks bounded few none fits a t) in
+  -- Where no window that ends at the clock asks for more than its free ticks, each accepted job that is due has had its cost, or left early.
+  pub due-are-over : (r : Trace taken t waiting accepted ticks left-early) → EarliestDueFirst r → NeverIdlesInVain r → DistinctNames accepted
+      → ((a : ℕ) → a ≤ t → asked a t accepted ≤ free taken a t) → All (λ j. j .due ≤ t → ServedOrEnded j ticks left-early) accepted
+  due-are-over r first never-idle distinct fits =
+      let later = nothing-due-waits r first never-idle fits in
       all-imply
       (λ j fate due. elim fate [
         | waits u ↦ absurd (omega (arith, all-at (λ w. t < w .job .due) later (u .among)))
@@ -129,3 +130,8 @@ module _ {taken : ℕ → Bool} {t : ℕ} {waiting : List Waiting} {accepted : L
       ])
       accepted
       (every-job-has-its-fate r distinct)
+
+  -- Where demand and taken ticks fit every length, each accepted job that is due has had its cost, or left early.
+  pub in-time : InTime taken t waiting accepted ticks left-early
+  in-time r first never-idle distinct demand lost-ticks bounded few none fits =
+      due-are-over r first never-idle distinct (λ a. fits-every-window taken accepted demand lost-ticks bounded few none fits a t)

@@ -2,6 +2,7 @@ pub mod Cases
 pub mod Lists
 pub mod Jobs
 pub mod Ticks
+pub mod Timers
 pub mod Curves
 pub mod Demand
 pub mod Paper
@@ -11,4 +12,5 @@ pub mod AllAtZero
 pub mod Trace
 pub mod EarliestDue
 pub mod Schedules
+pub mod Served
 pub mod Sources

@@ -2,7 +2,7 @@
 -- unit of it, and none if it is taken; summed over the ticks of a window, the jobs' units are at most its free ticks. A job that is released and due inside
 -- the window, and is given its cost in time, has had its cost there. So where every due time is met no window asks for more than its free ticks; and jobs that
 -- are due by L and cost more than the free ticks before L ask for too much in the window from zero to L.
-use Prim.Native.Nat.{ℕ, _+_, _≤_}
+use Prim.Native.Nat.{ℕ, _+_, _-_, _≤_}
 use mathlib.Core.Path.{_≡_, refl}
 use mathlib.Core.Bool.{Bool, true, false, cond}
 use mathlib.Core.Option.{Option, none, some}
@@ -13,11 +13,11 @@ use native.Mathlib.Nat.{le-refl}
 use Rattle.theory.specs.Lists.{All, total, weightIf}
 use Rattle.theory.specs.Jobs.{Job, DistinctNames, within, weighed, asked}
 use Rattle.theory.specs.Ticks.{freeBefore, free, had}
-use Rattle.theory.specs.Schedules.{unitsBefore, unitsIn, Meets, WindowsFit, Overload, OverloadOfSources}
+use Rattle.theory.specs.Schedules.{unitsBefore, unitsIn, Meets, GivesAll, WindowsFit, Overload, OverloadOfSources, UnitsOfAStretch, GivenTheirTicks}
 use Rattle.theory.proofs.Cases.{by-lt}
 use Rattle.theory.proofs.Lists.{all-of, all-imply, all-flatten, total-flatten, total-plus, total-monotone, total-zero}
 use Rattle.theory.proofs.Jobs.{weight-inside, weight-early, weight-late, at-most-one-named}
-use Rattle.theory.proofs.Ticks.{had-either-way}
+use Rattle.theory.proofs.Ticks.{had-either-way, had-by-its-own}
 
 -- ---- one tick
 
@@ -40,11 +40,11 @@ abbrev cost-in : (a b : ℕ) → Job → ℕ
 cost-in a b = weightIf (within a b) (λ j. j .cost)
 
 module _ (taken : ℕ → Bool) (who : ℕ → Option ℕ) where
-  -- What a job has of the tick t ..
+  -- What a job has of the tick t.
   abbrev has-at : (t : ℕ) → Job → ℕ
   has-at t j = cond (taken t) 0 (had (j .name) (who t))
 
-  -- .. and of the ticks before it.
+  -- What a job has of the ticks before t.
   abbrev has-before : (t : ℕ) → Job → ℕ
   has-before t j = unitsBefore taken who (j .name) t
 
@@ -72,7 +72,7 @@ module _ (taken : ℕ → Bool) (who : ℕ → Option ℕ) where
   unfolding unitsBefore
   units-grow a b j h = le-ind (λ t. has-before a j ≤ has-before t j) (le-refl _) (λ t l k. omega arith) b h
 
-  -- What a job asks for in a window it has had there, where its due time is met ..
+  -- What a job asks for in a window it has had there, where its due time is met.
   had-what-it-asked : (a b : ℕ) → a ≤ b → (j : Job) → j .cost ≤ unitsIn taken who (j .name) (j .release) (j .due)
       → cost-in a b j + has-before a j ≤ has-before b j
   unfolding unitsIn
@@ -82,11 +82,11 @@ module _ (taken : ℕ → Bool) (who : ℕ → Option ℕ) where
       by-lt b (j .due) (λ l. omega (arith, weight-late (λ i. i .cost) a b j l)) λ l.
       omega (arith, weight-inside (λ i. i .cost) a b j k l, units-grow a (j .release) j k, units-grow (j .due) b j l)
 
-  -- .. and so it is with all jobs together.
+  -- What jobs ask for together in a window they have had there, where their due times are met.
   had-what-they-asked : (a b : ℕ) (js : List Job) → a ≤ b → Meets taken who js → asked a b js + total (has-before a) js ≤ total (has-before b) js
   unfolding weighed
   had-what-they-asked a b js h met = rw (← total-plus (cost-in a b) (has-before a) js)
-      (total-monotone (λ j. cost-in a b j + has-before a j) (has-before b) js (all-imply (had-what-it-asked a b h) js met))
+      (total-monotone (λ j. cost-in a b j + has-before a j) (has-before b) js (all-imply (λ j m. had-what-it-asked a b h j (omega (arith, m))) js met))
 
 -- So where every due time is met, no window asks for more than its free ticks.
 pub windows-fit : WindowsFit
@@ -109,3 +109,31 @@ overload taken L js distinct due more who met = omega (arith, all-asked-by L js 
 pub overload-of-sources : OverloadOfSources
 overload-of-sources taken L lists distinct due more =
     overload taken L (flatten lists) distinct (all-flatten (λ j. j .due ≤ L) lists due) (rw (total-flatten (λ j. j .cost) lists) more)
+
+-- ---- ticks on end
+
+-- Over a stretch that is all free and all given to it, a job has a unit more with each tick.
+units-of-a-stretch-before : (taken : ℕ → Bool) (who : ℕ → Option ℕ) (n a b : ℕ) → a ≤ b → GivesAll taken who n a b
+    → unitsBefore taken who n b ≡ unitsBefore taken who n a + (b - a)
+unfolding unitsBefore
+units-of-a-stretch-before taken who n a b h gives = le-ind
+    (λ t. t ≤ b → unitsBefore taken who n t ≡ unitsBefore taken who n a + (t - a))
+    (λ _. omega arith)
+    (λ t l more within.
+    let tick = gives t l within in
+    let one : cond (taken t) 0 (had n (who t)) ≡ 1 = rw (tick .0, tick .1) (had-by-its-own n n refl) in
+    omega (arith, one, more (omega arith)))
+    b
+    h
+    (le-refl b)
+
+pub units-of-a-stretch : UnitsOfAStretch
+unfolding unitsIn
+units-of-a-stretch taken who n a b h gives = omega (arith, units-of-a-stretch-before taken who n a b h gives)
+
+pub given-their-ticks : GivenTheirTicks
+unfolding unitsIn
+given-their-ticks taken who = all-imply λ j g.
+    let given = units-of-a-stretch-before taken who (j .name) (g .from) (g .from + j .cost) (omega arith) (g .gives-all) in
+    let early = units-grow taken who (j .release) (g .from) j (g .not-before-release) in
+    omega (arith, given, early, units-grow taken who (g .from + j .cost) (j .due) j (g .in-time))

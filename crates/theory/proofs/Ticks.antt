@@ -8,7 +8,7 @@ use native.Mathlib.Omega.{arith}
 use native.Mathlib.Decide.{le-ind}
 use native.Mathlib.Nat.{le-refl}
 use borrow.Author.Tests.{eq-eqb, ne-eqb}
-use Rattle.theory.specs.Ticks.{freeBefore, free, had, noneTaken, AllFree}
+use Rattle.theory.specs.Ticks.{freeBefore, free, had, noneTaken, AllFree, NoneTakenAtMost}
 use Rattle.theory.proofs.Cases.{by-eq}
 
 -- ---- free ticks
@@ -18,12 +18,12 @@ pub free-before-grows : (taken : ℕ → Bool) (a b : ℕ) → a ≤ b → freeB
 unfolding freeBefore
 free-before-grows taken a b h = le-ind (λ m. freeBefore taken a ≤ freeBefore taken m) (le-refl _) (λ m l k. omega arith) b h
 
--- A taken tick adds nothing to the count ..
+-- A taken tick adds nothing to the count of free ticks.
 pub after-a-taken-tick : (taken : ℕ → Bool) (t : ℕ) → taken t ≡ true → freeBefore taken (suc t) ≡ freeBefore taken t
 unfolding freeBefore
 after-a-taken-tick taken t k = rw k (omega arith)
 
--- .. and a free tick adds one.
+-- A free tick adds one to the count of free ticks.
 pub after-a-free-tick : (taken : ℕ → Bool) (t : ℕ) → taken t ≡ false → freeBefore taken (suc t) ≡ suc (freeBefore taken t)
 unfolding freeBefore
 after-a-free-tick taken t k = rw k (omega arith)
@@ -39,13 +39,17 @@ pub all-free : AllFree
 unfolding free
 all-free a b = rw (none-taken-before a, none-taken-before b)
 
+-- Where every tick is free, none is taken.
+pub none-taken-at-most : NoneTakenAtMost
+none-taken-at-most a b h = omega (arith, all-free a b)
+
 -- ---- who has a tick
 
--- The job that a tick goes to has it ..
+-- The job that a tick goes to has it.
 pub had-by-its-own : (n m : ℕ) → m ≡ n → had n (some m) ≡ 1
 had-by-its-own n m q = rw eq-eqb
 
--- .. and a job of another name has not.
+-- A job of another name than the tick goes to does not have it.
 pub not-had-by-another : (n m : ℕ) → m ≢ n → had n (some m) ≡ 0
 not-had-by-another n m q = rw ne-eqb
 

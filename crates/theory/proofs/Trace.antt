@@ -5,16 +5,17 @@ use Prim.Native.Nat.{ℕ, suc, _+_, _≤_}
 use mathlib.Core.Path.{_≡_, refl, ap}
 use mathlib.Core.Logic.{⊎-elim}
 use mathlib.Core.Bool.{Bool, true, false, cond}
-use mathlib.Core.Option.{Option}
-use mathlib.Core.List.{List, _∷_, _++_, List·Memᴰ, List·Memᴰ·head, List·Memᴰ·tail, List·Memᴰ·append-cases, Memᴰ·append-left, Memᴰ·append-right}
+use mathlib.Core.Option.{Option, some}
+use mathlib.Core.List.{List, [], _∷_, _++_, List·Memᴰ, List·Memᴰ·head, List·Memᴰ·tail, List·Memᴰ·append-cases, Memᴰ·append-left, Memᴰ·append-right}
 use native.Mathlib.Omega.{arith}
 use borrow.Author.Tests.{eq-eqb, eqb-true}
-use Rattle.theory.specs.Lists.{All, total, weightIf, Insert}
+use Rattle.theory.specs.Lists.{All, total, weightIf, Insert, here}
 use Rattle.theory.specs.Jobs.{Job, DistinctNames, named, weighed}
+use Rattle.theory.specs.Ticks.{noneTaken}
 use Rattle.theory.specs.Trace.{Waiting, units, unitsLeft, Onward, done, on, Trace, begin, accept, lost, idle, serve, leave}
 use Rattle.theory.specs.Trace.{Accounted, Unfinished, served, ended, Fate, waits, over}
 use Rattle.theory.specs.Trace.{OneEntryATick, AnyTickMayPass, ReleasedByTheClock, Conserved, OnlyAcceptedHaveTicks}
-use Rattle.theory.specs.Trace.{EveryJobHasItsFate, WaitingAreAccounted, LeftEarlyAreAccounted, NeverMoreThanItsCost}
+use Rattle.theory.specs.Trace.{EveryJobHasItsFate, WaitingAreAccounted, LeftEarlyAreAccounted, NeverMoreThanItsCost, AnyMayLeave, SomebodyLeaves}
 use Rattle.theory.proofs.Cases.{by-test}
 use Rattle.theory.proofs.Lists.{all-imply, all-of-members, all-at, all-append, all-put-in, all-taken-out, total-append, total-put-in}
 use Rattle.theory.proofs.Lists.{none-passes, some-or-none-passes, the-only-one}
@@ -175,7 +176,7 @@ module _ {taken : ℕ → Bool} {t : ℕ} {waiting : List Waiting} {accepted : L
         let its-own = the-only-one (λ v. named n (v .job)) (λ v. v .left) (at-most-one-unfinished n) m (eq-eqb n n refl) in
         record { was-accepted = owed .0; some-left = owed .1; had-the-rest = omega (arith, own-share (owed .0), its-own) }
 
-    -- The fate of a job that waits or left early ..
+    -- A job that waits or left early has the fate of what is left of it.
     fate-of-unfinished : (w : Waiting) → List·Memᴰ w unfinished → Fate (w .job) waiting ticks left-early
     fate-of-unfinished w m = ⊎-elim (λ k. waits (in-list waiting k)) (λ k. over (ended (in-list left-early k))) (List·Memᴰ·append-cases waiting m)
       where
@@ -184,7 +185,7 @@ module _ {taken : ℕ → Bool} {t : ℕ} {waiting : List Waiting} {accepted : L
             let a = accounted w m in
             record { left = w .left; some-left = a .some-left; among = k; had-the-rest = a .had-the-rest }
 
-    -- .. and of one under whose name nothing does.
+    -- A job under whose name nothing waits or left early has had its cost.
     fate-of-finished : (j : Job) → List·Memᴰ j accepted → All (λ w. named (j .name) (w .job) ≡ false) unfinished → Fate j waiting ticks left-early
     unfolding unitsLeft
     fate-of-finished j m none =
@@ -204,14 +205,32 @@ module _ {taken : ℕ → Bool} {t : ℕ} {waiting : List Waiting} {accepted : L
   pub every-job-has-its-fate : EveryJobHasItsFate taken t waiting accepted ticks left-early
   every-job-has-its-fate r distinct = all-of-members accepted (fate-of r distinct)
 
-  -- What waits was accepted, and has had all but what is left ..
+  -- What waits was accepted, and has had all but what is left.
   pub waiting-are-accounted : WaitingAreAccounted taken t waiting accepted ticks left-early
   waiting-are-accounted r distinct = all-of-members waiting (λ w m. accounted r distinct w (Memᴰ·append-left left-early m))
 
-  -- .. and so it is with what left early.
+  -- What left early was accepted, and has had all but what was left then.
   pub left-early-are-accounted : LeftEarlyAreAccounted taken t waiting accepted ticks left-early
   left-early-are-accounted r distinct = all-of-members left-early (λ w m. accounted r distinct w (Memᴰ·append-right waiting m))
 
   -- No accepted job has had more than its cost.
   pub never-more-than-its-cost : NeverMoreThanItsCost taken t waiting accepted ticks left-early
   never-more-than-its-cost r distinct = all-of-members accepted (λ j m. omega (arith, own-share r distinct m))
+
+-- ---- a job that leaves
+
+-- A job that waits may leave, and is then among those that left early.
+pub any-may-leave : {taken : ℕ → Bool} {t : ℕ} {waiting : List Waiting} {accepted : List Job} {ticks : List (Option ℕ)} {left-early : List Waiting}
+    → AnyMayLeave taken t waiting accepted ticks left-early
+any-may-leave r distinct w rest from =
+    let gone = leave r w from in
+    let a = accounted gone distinct w (Memᴰ·append-right rest (List·Memᴰ·head refl)) in
+    (gone, record { left = w .left; some-left = a .some-left; among = List·Memᴰ·head refl; had-the-rest = a .had-the-rest })
+
+pub somebody-leaves : SomebodyLeaves
+somebody-leaves j left at cost =
+    let first : Waiting = record { job = j; left = suc (suc left) } in
+    let put : Insert (record { job = j; left = j .cost }) [] (first ∷ []) = rw cost here in
+    let one : Trace noneTaken 0 (first ∷ []) (j ∷ []) [] [] = accept begin j at (omega arith) put in
+    let two : Trace noneTaken 1 (record { job = j; left = suc left } ∷ []) (j ∷ []) (some (j .name) ∷ []) [] = serve one refl j (suc left) here (on here) in
+    leave two (record { job = j; left = suc left }) here

@@ -45,12 +45,12 @@ SumsAreCurves = (A : Type 0) (f : A → ℕ → ℕ) (growth : A → ℕ) (start
 abbrev pub StartsLater : Type 0
 StartsLater = (f : ℕ → ℕ) (start later period growth : ℕ) → start ≤ later → Curve f start period growth → Curve f later period growth
 
--- Growth at most the period: the lengths up to period + start settle every length ..
+-- Where the growth is at most the period, the lengths up to period + start settle every length.
 abbrev pub SettledWithinAPeriod : Type 0
 SettledWithinAPeriod = (f : ℕ → ℕ) (start period growth : ℕ) → Curve f start period growth → 1 ≤ period → growth ≤ period
     → FitsUpTo f (period + start) → EveryLengthFits f
 
--- .. and a smallest failing length is one of them.
+-- Where the growth is at most the period, a smallest failing length is at most period + start.
 abbrev pub SmallestWithinAPeriod : Type 0
 SmallestWithinAPeriod = (f : ℕ → ℕ) (start period growth : ℕ) → Curve f start period growth → 1 ≤ period → growth ≤ period
     → (L : ℕ) → SmallestFailing f L → L ≤ period + start
@@ -69,10 +69,10 @@ abbrev pub Decided : Type 0
 Decided = (f : ℕ → ℕ) (start period growth : ℕ) → Curve f start period growth → 1 ≤ period
     → EveryLengthFits f ⊎ FailsUpTo f ((start + 1) * period + start)
 
--- There is one smallest failing length at most ..
+-- There is one smallest failing length at most.
 abbrev pub OneSmallestFailing : Type 0
 OneSmallestFailing = (f : ℕ → ℕ) (L M : ℕ) → SmallestFailing f L → SmallestFailing f M → L ≡ M
 
--- .. and none where every length fits.
+-- Where every length fits, there is no smallest failing length.
 abbrev pub NoneWhereEveryLengthFits : Type 0
 NoneWhereEveryLengthFits = (f : ℕ → ℕ) (L : ℕ) → EveryLengthFits f → ¬ SmallestFailing f L

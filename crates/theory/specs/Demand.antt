@@ -20,19 +20,19 @@ rowGrowth x y c period = period / y * (x * c)
 
 -- ---- what is proved of it (proofs/Demand.antt)
 
--- Below d the count is 0 ..
+-- Below d no job of a row can be released and due.
 abbrev pub NoJobsBelowD : Type 0
 NoJobsBelowD = (x y d L : ℕ) → L < d → rowJobs x y d L ≡ 0
 
--- .. and from d on it is (floor((L − d)/y) + 1) · x. (That no more jobs can be released and due is `JobsInAWindow`.)
+-- From d on (floor((L − d)/y) + 1) · x jobs of a row can be released and due. (That no more can is `JobsInAWindow`.)
 abbrev pub JobsFromD : Type 0
 JobsFromD = (x y d L : ℕ) → d ≤ L → rowJobs x y d L ≡ ((L - d) / y + 1) * x
 
--- So below d there is no demand ..
+-- Below d there is no demand.
 abbrev pub NoDemandBelowD : Type 0
 NoDemandBelowD = (x y d c L : ℕ) → L < d → rowDemand x y d c L ≡ 0
 
--- .. and from d on it is (floor((L − d)/y) + 1) · x · c.
+-- From d on a row's demand is (floor((L − d)/y) + 1) · x · c.
 abbrev pub DemandFromD : Type 0
 DemandFromD = (x y d c L : ℕ) → d ≤ L → rowDemand x y d c L ≡ ((L - d) / y + 1) * x * c
 

@@ -15,11 +15,11 @@ use Rattle.theory.specs.Demand.{rowJobs, rowDemand}
 unfoldable pub dueTime : (x y d : ℕ) (earlier : List ℕ) (t : ℕ) → ℕ
 dueTime x y d earlier t = cond (ltb (length earlier) x) (t + d) (max (t + d) (getD earlier (x - 1) 0 + y))
 
--- The releases of jobs, in the jobs' order ..
+-- The releases of jobs, in the jobs' order.
 abbrev pub releases : List Job → List ℕ
 releases js = map (λ (j : Job). j .release) js
 
--- .. and their due times.
+-- The due times of jobs, in the jobs' order.
 abbrev pub dues : List Job → List ℕ
 dues js = map (λ (j : Job). j .due) js
 
@@ -85,11 +85,11 @@ NewestAreEnough = (x y d : ℕ) (earlier : List ℕ) (t : ℕ) → 1 ≤ x → d
 
 -- ---- what is proved of windows (proofs/Windows.antt)
 
--- In any window at most `rowJobs` jobs of a row are released and due ..
+-- In any window at most `rowJobs` jobs of a row are released and due.
 abbrev pub JobsInAWindow : Type 0
 JobsInAWindow = (x y d c : ℕ) (js : List Job) → 1 ≤ x → 1 ≤ y → ByRule x y d c js → (a b : ℕ) → jobsIn a b js ≤ rowJobs x y d (b - a)
 
--- .. so that what they cost is at most the row's demand in the window's length.
+-- What a row's jobs cost in a window is at most the row's demand in the window's length.
 abbrev pub RowIsBounded : Type 0
 RowIsBounded = (x y d c : ℕ) (js : List Job) → 1 ≤ x → 1 ≤ y → ByRule x y d c js → BoundedBy (rowDemand x y d c) js
 
@@ -100,11 +100,11 @@ abbrev pub BoundIsReached : Type 0
 BoundIsReached = (x y d c source first L n : ℕ) → 1 ≤ x → 1 ≤ y → rowJobs x y d L ≤ n
     → ByRule x y d c (allAtZero x y d c source first n) × (jobsIn 0 L (allAtZero x y d c source first n) ≡ rowJobs x y d L)
 
--- The first `rowJobs` of them are due within L ..
+-- The first `rowJobs` of them are due within L.
 abbrev pub FirstAreDueWithin : Type 0
 FirstAreDueWithin = (x y d c source first L n : ℕ) → 1 ≤ x → 1 ≤ y → n ≤ rowJobs x y d L → All (λ j. j .due ≤ L) (allAtZero x y d c source first n)
 
--- .. and cost together the row's demand in L.
+-- The first `rowJobs` of them cost together the row's demand in L.
 abbrev pub FirstCostTheDemand : Type 0
 FirstCostTheDemand = (x y d c source first L : ℕ)
     → total (λ j. j .cost) (allAtZero x y d c source first (rowJobs x y d L)) ≡ rowDemand x y d c L

@@ -1,10 +1,10 @@
 -- Ticks that jobs can have. `taken t` says that no job can have the tick that starts at t; every other tick is free. Where every tick is free, the free
 -- ticks of a window are its length.
-use Prim.Native.Nat.{ℕ, zero, suc, _+_, _-_, _≤_}
+use Prim.Native.Nat.{ℕ, zero, suc, _+_, _-_, _*_, _/_, _%_, _≤_, min}
 use mathlib.Core.Path.{_≡_}
 use mathlib.Core.Bool.{Bool, false, cond}
 use mathlib.Core.Option.{Option, none, some}
-use lib.Dec.{eqb}
+use lib.Dec.{eqb, ltb}
 
 -- How many ticks before t are free.
 unfoldable pub freeBefore : (taken : ℕ → Bool) (t : ℕ) → ℕ
@@ -28,8 +28,30 @@ noneTaken t = false
 abbrev pub TakenAtMost : (ℕ → ℕ) → (ℕ → Bool) → Type 0
 TakenAtMost bound taken = (a b : ℕ) → a ≤ b → b - a ≤ free taken a b + bound (b - a)
 
+-- A timer takes the first s ticks of every p.
+abbrev pub timer : (s p : ℕ) → ℕ → Bool
+timer s p t = ltb (t % p) s
+
+-- So many ticks a timer takes in L ticks that begin with its own: floor(L/p) · s + min(s, L mod p).
+abbrev pub timerTakes : (s p L : ℕ) → ℕ
+timerTakes s p L = L / p * s + min s (L % p)
+
 -- ---- what is proved of them (proofs/Ticks.antt)
 
 -- Where every tick is free, the free ticks of a window are its length.
 abbrev pub AllFree : Type 0
 AllFree = (a b : ℕ) → free noneTaken a b ≡ b - a
+
+-- Where every tick is free, at most 0 ticks of a window are taken.
+abbrev pub NoneTakenAtMost : Type 0
+NoneTakenAtMost = TakenAtMost (λ L. 0) noneTaken
+
+-- ---- what is proved of a timer (proofs/Timers.antt)
+
+-- Wherever a window of L ticks begins, a timer takes at most floor(L/p) · s + min(s, L mod p) of them.
+abbrev pub TimerTakesAtMost : Type 0
+TimerTakesAtMost = (s p : ℕ) → 1 ≤ p → s ≤ p → TakenAtMost (timerTakes s p) (timer s p)
+
+-- No smaller bound holds of a timer: the window from zero on reaches it at every length.
+abbrev pub TimerTakesNoLess : Type 0
+TimerTakesNoLess = (s p : ℕ) → 1 ≤ p → s ≤ p → (bound : ℕ → ℕ) → TakenAtMost bound (timer s p) → (L : ℕ) → timerTakes s p L ≤ bound L

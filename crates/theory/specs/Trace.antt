@@ -12,7 +12,7 @@ use lib.ListN.{length}
 use Rattle.theory.specs.Lists.{All, total, weightIf, Insert}
 use Rattle.theory.specs.Curves.{EveryLengthFits}
 use Rattle.theory.specs.Jobs.{Job, DistinctNames, named, dueBy, costs, asked, BoundedBy}
-use Rattle.theory.specs.Ticks.{free, had, TakenAtMost}
+use Rattle.theory.specs.Ticks.{free, had, noneTaken, TakenAtMost}
 
 -- A job that waits, and how many units it has left to get.
 pub record Waiting : Type 0 where
@@ -139,17 +139,22 @@ module _ (taken : ℕ → Bool) (t : ℕ) (waiting : List Waiting) (accepted : L
   abbrev pub OnlyAcceptedHaveTicks : Type 0
   OnlyAcceptedHaveTicks = Trace taken t waiting accepted ticks left-early → (n : ℕ) → All (λ j. j .name ≢ n) accepted → units n ticks ≡ 0
 
-  -- Each accepted job waits, or has had exactly its cost, or left early ..
+  -- Each accepted job waits, or has had exactly its cost, or left early.
   abbrev pub EveryJobHasItsFate : Type 0
   EveryJobHasItsFate = Trace taken t waiting accepted ticks left-early → DistinctNames accepted → All (λ j. Fate j waiting ticks left-early) accepted
 
-  -- .. what waits was accepted, and has had all but what is left ..
+  -- What waits was accepted, and has had all but what is left.
   abbrev pub WaitingAreAccounted : Type 0
   WaitingAreAccounted = Trace taken t waiting accepted ticks left-early → DistinctNames accepted → All (Accounted accepted ticks) waiting
 
-  -- .. and so it is with what left early.
+  -- What left early was accepted, and has had all but what was left then.
   abbrev pub LeftEarlyAreAccounted : Type 0
   LeftEarlyAreAccounted = Trace taken t waiting accepted ticks left-early → DistinctNames accepted → All (Accounted accepted ticks) left-early
+
+  -- Any job that waits may leave early; it has then ended, and has had all but what it had left.
+  abbrev pub AnyMayLeave : Type 0
+  AnyMayLeave = Trace taken t waiting accepted ticks left-early → DistinctNames accepted → (w : Waiting) (rest : List Waiting) → Insert w rest waiting
+      → Trace taken t rest accepted ticks (w ∷ left-early) × Unfinished (w .job) (w ∷ left-early) ticks
 
   -- No job ever has more than its cost.
   abbrev pub NeverMoreThanItsCost : Type 0
@@ -178,3 +183,10 @@ module _ (taken : ℕ → Bool) (t : ℕ) (waiting : List Waiting) (accepted : L
       → (demand lost-ticks : ℕ → ℕ) → BoundedBy demand accepted → TakenAtMost lost-ticks taken
       → demand 0 ≡ 0 → EveryLengthFits (λ L. demand L + lost-ticks L)
       → All (λ j. j .due ≤ t → ServedOrEnded j ticks left-early) accepted
+
+-- ---- a trace with a job that leaves early (proofs/Trace.antt)
+
+-- Of a job that costs two units or more, released at zero, there is a trace in which it has one unit and then leaves with the rest.
+abbrev pub SomebodyLeaves : Type 0
+SomebodyLeaves = (j : Job) (left : ℕ) → j .release ≡ 0 → j .cost ≡ suc (suc left)
+    → Trace noneTaken 1 [] (j ∷ []) (some (j .name) ∷ []) (record { job = j; left = suc left } ∷ [])

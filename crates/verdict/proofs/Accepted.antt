@@ -1,14 +1,15 @@
 -- What is known of a table that was accepted: it is in range, its period is from 1 to its limit, and its demand is a curve of that period.
 use Prim.Native.Nat.{ℕ, _≤_}
 use mathlib.Core.Path.{_≡_}
-use mathlib.Core.List.{List}
+use mathlib.Core.List.{List, Memᴰ·map}
 use Rattle.numbers.specs.Laws.{Bytes}
 use Rattle.theory.specs.Curves.{Curve}
+use Rattle.table.specs.declared.Row.{Row}
 use Rattle.table.specs.declared.Table.{Table}
 use Rattle.table.specs.declared.TableAnswer.the-variants as answer
 use Rattle.table.specs.Limits.{maxPeriod}
 use Rattle.table.specs.Tables.{tableRead, InRange}
-use Rattle.table.proofs.Laws.{accepted-rows-are-usable}
+use Rattle.table.proofs.Laws.{accepted-is-usable}
 use Rattle.table.proofs.Tables.{read-in-range}
 use Rattle.verdict.specs.Demand.{tableDemand, tableGrowth, largestD}
 use Rattle.verdict.proofs.Laws.{table-is-a-curve}
@@ -23,11 +24,11 @@ pub record Known (t : Table) (period : ℕ) : Type 0 where
 -- It is known of a table that was accepted.
 pub accepted-is-known : (s : List ℕ) (period : ℕ) → Bytes s → tableRead s .answer ≡ answer.Accepted period → Known (tableRead s .table) period
 accepted-is-known s period bytes accepted =
-    let u = accepted-rows-are-usable s period bytes accepted in
+    let u = accepted-is-usable s period bytes accepted in
     let in-range = read-in-range s bytes in
     record {
       in-range = in-range;
       some-period = u .some-period;
       most-period = u .most-period;
-      curve = table-is-a-curve (tableRead s .table) period in-range (u .divides-period);
+      curve = table-is-a-curve (tableRead s .table) period in-range (λ r m. u .divides-period (r .y) (Memᴰ·map (λ (q : Row). q .y) m));
     }

@@ -29,15 +29,15 @@ room = lit< tt
 
 module _ (r : Row) (limits : WithinLimits r) where
   module _ (L : ℕ) (looked-at : L ≤ maxLength) where
-    -- The spaces of y ticks from d on, with the one that begins at d ..
+    -- The spaces of y ticks from d on, with the one that begins at d, are within a bound.
     pub spaces-at-most : (L - r .d) / r .y + 1 ≤ maxLength + 1
     spaces-at-most = omega (arith, div-le-self (L - r .d) (r .y))
 
-    -- .. the jobs in them ..
+    -- The jobs in these spaces are within a bound.
     pub jobs-at-most : ((L - r .d) / r .y + 1) * r .x ≤ (maxLength + 1) * maxX
     jobs-at-most = mul-le-mul spaces-at-most (limits .most-x)
 
-    -- .. and what these cost.
+    -- What these jobs cost is within a bound.
     pub cost-at-most : ((L - r .d) / r .y + 1) * r .x * r .c ≤ most
     cost-at-most = mul-le-mul jobs-at-most (limits .most-c)
 
@@ -47,11 +47,11 @@ module _ (r : Row) (limits : WithinLimits r) where
         (λ low. omega (arith, no-demand-below-d (r .x) (r .y) (r .d) (r .c) L low))
         (λ high. rw (demand-from-d (r .x) (r .y) (r .d) (r .c) L high) cost-at-most)
 
-  -- What x jobs cost ..
+  -- What x jobs cost is within a bound.
   pub cost-of-x-at-most : r .x * r .c ≤ maxX * maxC
   cost-of-x-at-most = mul-le-mul (limits .most-x) (limits .most-c)
 
-  -- .. and how much the row's demand grows in a period.
+  -- How much the row's demand grows in a period is within a bound.
   pub growth-at-most : (period : ℕ) → period ≤ maxPeriod → growthIn period r ≤ most
   unfolding rowGrowth
   growth-at-most period h =
@@ -74,7 +74,7 @@ module _ {t : Table} (in-range : InRange t) where
     sum-fits {sum} {i} summed h =
         omega (arith, total-at-most i (summed .counted), small (rowAt t i) (row-within in-range i h), mul-le-mul-right most (in-range .few-rows), room)
 
-  -- The largest d of the rows before i is within its limit ..
+  -- The largest d of the rows before i is within its limit.
   largest-at-most : (i : ℕ) → i ≤ t .count → largestOf (firstRows t i) ≤ maxD
   unfolding largestOf
   largest-at-most zero h = omega arith
@@ -82,7 +82,7 @@ module _ {t : Table} (in-range : InRange t) where
       rw (← add-one i)
       (omega (arith, largest-more in-range i h, row-within in-range i h .most-d, largest-at-most i (omega arith)))
 
-  -- .. so no length above maxLength is ever looked at.
+  -- No length above maxLength is ever looked at.
   pub last-at-most : (period : ℕ) → period ≤ maxPeriod → (largestD t + 1) * period + largestD t ≤ maxLength
   last-at-most period h =
       let d : largestD t ≤ maxD = largest-at-most (t .count) (omega arith) in

@@ -37,12 +37,12 @@ pub record Summed (w : Row → ℕ) (t : Table) (sum i : ℕ) : Type 0 where
   pub counted : i ≤ t .count
   pub so-far : sum ≡ total w (firstRows t i)
 
--- It begins with nothing ..
+-- A sum begins with nothing.
 pub none-summed : (w : Row → ℕ) (t : Table) → Summed w t 0 0
 unfolding total
 none-summed w t = record { counted = omega arith; so-far = refl }
 
--- .. and ends with the weight of the rows in use.
+-- A sum that has come to the end is the weight of the rows in use.
 pub all-summed : {w : Row → ℕ} {t : Table} {sum i : ℕ} → Summed w t sum i → t .count ≤ i → sum ≡ total w (rowsOf t)
 all-summed {t = t} {i = i} summed end =
     let all : i ≡ t .count = omega arith in
@@ -72,7 +72,7 @@ module _ {t : Table} (in-range : InRange t) where
       rw (← add-one i, one-more i h)
       (all-append WithinLimits (firstRows t i) (rowAt t i ∷ []) (rows-within i (omega arith)) (row-within i h, tt))
 
-  -- A sum over them goes on with the weight of row i ..
+  -- A sum over the rows before i goes on with the weight of row i.
   pub total-more : (w : Row → ℕ) (i : ℕ) → i < t .count → total w (firstRows t (i + 1)) ≡ total w (firstRows t i) + w (rowAt t i)
   unfolding total
   total-more w i h = rw (one-more i h, total-append) (omega arith)
@@ -80,7 +80,7 @@ module _ {t : Table} (in-range : InRange t) where
   pub summed-more : {w : Row → ℕ} {sum i : ℕ} → Summed w t sum i → i < t .count → Summed w t (sum + w (rowAt t i)) (i + 1)
   summed-more {w} {sum} {i} summed h = record { counted = omega arith; so-far = omega (arith, total-more w i h) }
 
-  -- .. and their largest d with the d of row i.
+  -- The largest d of the rows before i goes on with the d of row i.
   pub largest-more : (i : ℕ) → i < t .count → largestOf (firstRows t (i + 1)) ≡ max (largestOf (firstRows t i)) (rowAt t i .d)
   unfolding largestOf
   largest-more i h = rw (one-more i h, largest-append) (omega arith)

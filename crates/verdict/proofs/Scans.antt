@@ -24,18 +24,18 @@ abbrev pub Settles : Table → (last : ℕ) → Type 0
 Settles t last = FitsUpTo (tableDemand t) last → EveryLengthFits (tableDemand t)
 
 module _ (t : Table) (period : ℕ) (known : Known t period) {d growth : ℕ} (largest : d ≡ largestD t) (grows : growth ≡ tableGrowth t period) where
-  -- Where the growth is at most the period, the lengths up to period + d do.
+  -- Where the growth is at most the period, the lengths up to period + d settle every length.
   pub settled-by-one-period : growth ≤ period → Settles t (period + d)
   settled-by-one-period slow =
       rw largest
       (settled-within-a-period (tableDemand t) (largestD t) period (tableGrowth t period) (known .curve) (known .some-period) (rw grows at slow))
 
-  -- Where it is above the period, the length (d + 1) · period + d fails, ..
+  -- Where the growth is above the period, the length (d + 1) · period + d fails.
   last-fails : period < growth → (d + 1) * period + d < tableDemand t ((d + 1) * period + d)
   last-fails above =
       rw largest (fails-when-growth-is-above (tableDemand t) (largestD t) period (tableGrowth t period) (known .curve) (rw grows at above))
 
-  -- .. so that the lengths up to it do.
+  -- Where the growth is above the period, the lengths up to (d + 1) · period + d settle every length.
   pub settled-by-many-periods : period < growth → Settles t ((d + 1) * period + d)
   settled-by-many-periods above fits =
       let last = (d + 1) * period + d in
@@ -64,14 +64,14 @@ overloaded-above-one s period bytes accepted above =
 
 module _ (s : List ℕ) (read : TableRead) (reads-as : read ≡ tableRead s) where
   module _ (period : ℕ) (accepted : read .answer ≡ answer.Accepted period) where
-    -- Accepted, the table is known ..
+    -- A table that was accepted is known.
     pub read-is-known : Bytes s → Known (read .table) period
     read-is-known bytes = rw reads-as (accepted-is-known s period bytes (rw reads-as at accepted))
 
-    -- .. and a verdict that is right of it is right of the bytes.
+    -- A verdict that is right for the accepted table is right for the bytes.
     pub judged-as-accepted : (v : Verdict) → RightOf (read .table) v → Judged s v
     judged-as-accepted v right = rw (← reads-as, accepted) right
 
-  -- Refused, the verdict is that refusal.
+  -- Where the table was refused, that refusal is the right verdict for the bytes.
   pub judged-as-refused : (r : RefusedAt) → read .answer ≡ answer.Refused r → Judged s (verdict.Refused r)
   judged-as-refused r refused = rw (← reads-as, refused) refl

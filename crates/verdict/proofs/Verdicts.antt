@@ -1,4 +1,4 @@
--- One verdict at most is right of any bytes, and some verdict is. Outside, different verdicts say different things, and none says 0.
+-- One verdict at most is right for any bytes, and some verdict is. Outside, different verdicts say different things, and none says 0.
 use Prim.Native.Nat.{ℕ}
 use mathlib.Core.Path.{_≡_, refl, sym, ap, ap₂, _∙_}
 use mathlib.Core.Logic.{⊎-elim}
@@ -31,7 +31,7 @@ one-witness t v w p q =
     let length : v .length ≡ w .length = one-smallest-failing (tableDemand t) (v .length) (w .length) (p .0) (q .0) in
     same-witness v w length (p .1 ∙ rw length (sym (q .1)))
 
--- So one verdict at most is right of a table ..
+-- One verdict at most is right for a table.
 one-right : (t : Table) (v w : Verdict) → RightOf t v → RightOf t w → v ≡ w
 one-right t verdict.Feasible verdict.Feasible p q = refl
 one-right t verdict.Feasible (verdict.Overloaded w) p q = absurd (none-where-every-length-fits (tableDemand t) (w .length) p (q .0))
@@ -41,7 +41,7 @@ one-right t (verdict.Overloaded v) (verdict.Overloaded w) p q = ap verdict.Overl
 one-right t (verdict.Overloaded v) (verdict.Refused r) p q = absurd q
 one-right t (verdict.Refused r) w p q = absurd p
 
--- .. and of what was read.
+-- One verdict at most is right for what was read.
 one-right-of-read : (t : Table) (a : TableAnswer) (v w : Verdict) → RightOfRead t a v → RightOfRead t a w → v ≡ w
 one-right-of-read t (answer.Accepted period) v w p q = one-right t v w p q
 one-right-of-read t (answer.Refused r) v w p q = p ∙ sym q

@@ -4,16 +4,17 @@ use mathlib.Core.Path.{_≡_, refl, sym, ap, _∙_}
 use mathlib.Core.List.{List, [], _∷_, _++_, append-nil, append-assoc}
 use native.Mathlib.Omega.{arith}
 use native.Mathlib.Nat.{le-refl, zero-add}
-use native.Mathlib.Decide.{le-ind}
+use native.Mathlib.Decide.{le-ind, decLe}
 use lib.ListN.{length, getD, take, drop, length-append, length-drop, drop-of-length-le}
-use lib.Seq.{take-at, take-length, drop-cons, drop-drop, drop-length, drop-append-seam, sets, sets-eq}
-use borrow.Author.Tests.{le-leb}
+use lib.Seq.{take-at, take-length, length-take-le, getD-drop, drop-cons, drop-drop, drop-length, drop-append-seam, sets, sets-eq}
+use borrow.Author.Tests.{le-leb, lt-leb}
 use borrow.Rule.Slice.PartMut.{midOf, putMid}
+use Rattle.kinds.proofs.Apart.{impossible}
 use Rattle.numbers.specs.Laws.{Bytes}
 use Rattle.numbers.specs.declared.Written.{Written}
 use Rattle.numbers.specs.declared.Written.the-variants.{Length}
 use Rattle.words.specs.Words.{wordLength, lowestFirst, fromLowestFirst, putWord, restWith}
-use Rattle.words.specs.Laws.{WordReadsBack, PutReadsBack, BytesSayTheNumber}
+use Rattle.words.specs.Laws.{WordIsPut, NoRoomForAWord, WordCutOff, WordStands, WordReadsBack, PutReadsBack, BytesSayTheNumber}
 
 -- A number takes as many bytes as it is given.
 pub lowest-first-length : (bytes n : ℕ) → length (lowestFirst bytes n) ≡ bytes
@@ -71,13 +72,58 @@ put-reads-back n rest h room = simp (le-leb _ _ room) (word-reads-back [] n _ h)
 pub bytes-say-the-number : BytesSayTheNumber
 bytes-say-the-number n m h j e = sym (said-by-its-bytes wordLength n h) ∙ ap fromLowestFirst e ∙ said-by-its-bytes wordLength m j
 
+-- ---- what each call says
+
+pub word-is-put : WordIsPut
+word-is-put room h = simp (le-leb wordLength room h)
+
+pub no-room-for-a-word : NoRoomForAWord
+no-room-for-a-word room h = simp (lt-leb wordLength room h)
+
+pub word-cut-off : WordCutOff
+word-cut-off s at h = simp (lt-leb (at + wordLength) (length s) h)
+
+-- Bytes are those of the number that they say.
+bytes-of-what-they-say : (s : List ℕ) → Bytes s → lowestFirst (length s) (fromLowestFirst s) ≡ s
+unfolding lowestFirst fromLowestFirst
+bytes-of-what-they-say [] b = refl
+bytes-of-what-they-say (x ∷ s) b =
+    let more = fromLowestFirst s in
+    let low : (x + 256 * more) % 256 ≡ x = omega (arith, b 0) in
+    let high : (x + 256 * more) / 256 ≡ more = omega (arith, b 0) in
+    rw (low, high, bytes-of-what-they-say s (λ i. b (suc i)))
+
+-- The first bytes of a list of bytes are bytes.
+bytes-taken : (k : ℕ) (s : List ℕ) → Bytes s → Bytes (take k s)
+bytes-taken zero s b i = omega arith
+bytes-taken (suc k) [] b i = omega arith
+bytes-taken (suc k) (x ∷ s) b zero = b 0
+bytes-taken (suc k) (x ∷ s) b (suc i) = bytes-taken k s (λ j. b (suc j)) i
+
+pub word-stands : WordStands
+word-stands s at n next b e = elim (decLe (at + wordLength) (length s)) [
+  | yes l ↦
+      let word = take wordLength (drop at s) in
+      let said = simp (le-leb (at + wordLength) (length s) l) at e in
+      let value : fromLowestFirst word ≡ n = cc in
+      let place : at + wordLength ≡ next = cc in
+      let long : length word ≡ wordLength = length-take-le wordLength (drop at s) (simp length-drop (omega arith)) in
+      let bytes : Bytes word = bytes-taken wordLength (drop at s) (λ i. rw getD-drop (b (at + i))) in
+      record {
+        stands-here = sym (rw (long, value) at (bytes-of-what-they-say word bytes));
+        ends = sym place;
+        within = omega arith;
+      }
+  | no l ↦ let cut = word-cut-off s at (omega arith) in impossible cc
+]
+
 -- ---- words one behind another
 
 -- A list that is as long as a buffer fills it.
 pub sets-whole : (s l : List ℕ) → length s ≡ length l → sets l 0 s ≡ s
 sets-whole s l h = sets-eq s l 0 (omega arith) ∙ rw (zero-add, drop-of-length-le l {i = length s} (omega arith), append-nil s)
 
--- A word that is put at a buffer's start is stored there, ..
+-- A word that is put at a buffer's start is stored there.
 pub put-stores-first : (buffer : List ℕ) (value : ℕ) {answer : Written} {last : List ℕ} → wordLength ≤ length buffer
     → (answer ≡ putWord (length buffer)) × (last ≡ restWith answer value buffer) → last ≡ sets buffer 0 (lowestFirst wordLength value)
 put-stores-first buffer value h e =
@@ -85,7 +131,7 @@ put-stores-first buffer value h e =
     let long = lowest-first-length wordLength value in
     simp (e .0, le-leb wordLength (length buffer) h) at (e .1) ∙ sym (rw long at (sets-eq bytes buffer 0 (omega arith)))
 
--- .. and so is one that is put into the rest of a buffer, from a place on.
+-- A word that is put into the rest of a buffer, from a place on, is stored at that place.
 pub put-stores : (buffer : List ℕ) (at value : ℕ) {answer : Written} {last : List ℕ} → at + wordLength ≤ length buffer
     → (let rest = midOf at (length buffer - at) buffer in (answer ≡ putWord (length rest)) × (last ≡ restWith answer value rest))
     → putMid at (length buffer - at) buffer last ≡ sets buffer at (lowestFirst wordLength value)

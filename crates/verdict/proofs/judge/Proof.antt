@@ -14,13 +14,13 @@ use Rattle.verdict.proofs.Verdicts.{smallest-found}
 use Rattle.verdict.proofs.judge.Statement.{statement}
 use Rattle.verdict.proofs.judge.Tie as tie
 
--- The table was accepted, and all is known that its verdict needs ..
+-- The table was accepted, and all is known that its verdict needs.
 known : (c : tie.After-known-told) → Known (c .before .before .before .before .read-table .result .table) (c .before .answer .given .0 .0)
 known c =
     let r = c .before .before .before .before in
     read-is-known _ _ (r .read-table .ensures) _ (c .before .answer .given .1) (λ i. r .before .shared-slice-known .given i .fits)
 
--- .. so that a verdict which is right of it is right of the bytes.
+-- A verdict that is right for the accepted table is right for the bytes.
 judged : (c : tie.After-known-told) (v : Verdict) → RightOf (c .before .before .before .before .read-table .result .table) v
     → Judged (c .before .before .before .before .before .before .args .bytes .now) v
 judged c v = judged-as-accepted _ _ (c .before .before .before .before .read-table .ensures) _ (c .before .answer .given .1) v

@@ -17,22 +17,22 @@ use Rattle.table.proofs.Laws.{in-range-means}
 use Rattle.due.specs.declared.Due.the-variants.{Refused}
 use Rattle.due.specs.Kept.{keptTimes, dueOf}
 use Rattle.due.proofs.Keeping.{noTime, byRule, length-kept, due-alone, due-spaced, due-after-release}
-use Rattle.due.proofs.Laws.{given-means, too-late-means, out-of-range-means}
+use Rattle.due.proofs.Laws.{due-given, due-too-late, due-out-of-range}
 use Rattle.due.proofs.Kept.due.Statement.{statement}
 use Rattle.due.proofs.Kept.due.Tie as tie
 
--- Past the first test the row is in range ..
+-- Past the first test the row is in range.
 fine : (c : tie.Else1) → rowInRange (c .before .before .args .row) ≡ true
 fine c = sym (c .before .in-range .ensures) ∙ not-false _ (c .if1 .left)
 
--- .. so its values are within their limits ..
+-- Past the first test the row's values are within their limits.
 within : (c : tie.Else1) → WithinLimits (c .before .before .args .row)
 within c = in-range-means (c .before .before .args .row) .0 (fine c)
 
--- .. and a due time that is too late is refused as such.
+-- A due time that is too late is refused as such.
 late : (c : tie.Else1) → let a = c .before .before .args in
-    maxTime < byRule (a .t1) (a .row) (a .release .0) → Refused DueTooLate ≡ dueOf (a .t1) (a .row) (a .release .0)
-late c h = let a = c .before .before .args in sym (too-late-means (a .t1) (a .row) (a .release .0) .1 (fine c, h))
+    maxTime < byRule (a .t1) (a .row) (a .release .0) → Refused DueTooLate ≡ dueOf (a .t1) (a .row) (a .release .0) (a .cost)
+late c h = let a = c .before .before .args in sym (due-too-late (a .t1) (a .row) (a .release .0) (a .cost) .1 (fine c, h))
 
 -- As many due times are kept as the code goes by.
 used : (c : tie.After-in-use) → length (keptTimes (c .before .before .before .before .before .args .t1)) ≡ c .in-use .result
@@ -62,7 +62,7 @@ in-range-requires : tie.Need-in-range-requires
 in-range-requires c κs = search needs
 
 returns : tie.Need-returns
-returns c = sym (out-of-range-means _ _ _ .1 (sym (c .before .in-range .ensures) ∙ not-true _ (c .if1 .taken)))
+returns c = sym (due-out-of-range _ _ _ _ .1 (sym (c .before .in-range .ensures) ∙ not-true _ (c .if1 .taken)))
 
 returns-2 : tie.Need-returns-2
 returns-2 c = let a = c .before .before .before .args in late (c .before) (omega (arith, due-after-release (a .t1) (a .row) (a .release .0)))
@@ -91,7 +91,7 @@ returns-4 c = late (c .before .before .before .before .before) (omega (arith, by
 returns-5 : tie.Need-returns-5
 returns-5 c =
     let b = c .before .before .before .before .before in
-    sym (given-means _ _ _ _ .1 (record { row-in-range = fine b; by-rule = by-rule (c .before); in-time = c .if6 .left }))
+    sym (due-given _ _ _ _ _ .1 (record { row-in-range = fine b; by-rule = by-rule (c .before); in-time = c .if6 .left }))
 
 pub due-spec : {M : Type 1} → statement M
 due-spec =

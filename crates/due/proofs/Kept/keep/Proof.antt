@@ -12,7 +12,7 @@ use Rattle.table.specs.Laws.{WithinLimits}
 use Rattle.table.proofs.Laws.{in-range-means}
 use Rattle.due.specs.Kept.{maxKept, keptTimes}
 use Rattle.due.proofs.Lists.{movedDown, moved-one-more}
-use Rattle.due.proofs.Keeping.{noTime, length-kept, keeps-all, kept-behind, kept-moved}
+use Rattle.due.proofs.Keeping.{noTime, length-kept, keep-refused, keep-done, kept-behind, kept-moved}
 use Rattle.due.proofs.Kept.keep.Statement.{statement}
 use Rattle.due.proofs.Kept.keep.Tie as tie
 
@@ -22,19 +22,19 @@ Inv-loop due kept₀ x count last oldest i₀ kept i = (i ≤ last) × (kept .ti
 abbrev μ-loop : tie.MeasureT-loop
 μ-loop due kept₀ x count last oldest i₀ kept i = last - i
 
--- Past the first test the row is in range ..
+-- Past the first test the row is in range.
 fine : (c : tie.Else1 Inv-loop μ-loop) → rowInRange (c .before .before .args .row) ≡ true
 fine c = sym (c .before .in-range .ensures) ∙ not-false _ (c .if1 .left)
 
--- .. so its values are within their limits.
+-- Past the first test the row's values are within their limits.
 within : (c : tie.Else1 Inv-loop μ-loop) → WithinLimits (c .before .before .args .row)
 within c = in-range-means (c .before .before .args .row) .0 (fine c)
 
--- The array has all its places ..
+-- The array has all its places.
 whole : (c : tie.Start Inv-loop μ-loop) → length (c .args .self .times) ≡ maxKept
 whole c = search (needs, length-mapped)
 
--- .. and as many due times are kept as the code goes by.
+-- As many due times are kept as the code goes by.
 used : (c : tie.After-in-use Inv-loop μ-loop) → length (keptTimes (c .before .before .before .args .self)) ≡ c .in-use .result
 used c = length-kept _ _ (whole (c .before .before .before)) (c .in-use .ensures)
 
@@ -42,7 +42,7 @@ in-range-requires : tie.Need-in-range-requires Inv-loop μ-loop
 in-range-requires c κs = search needs
 
 returns : tie.Need-returns Inv-loop μ-loop
-returns c = sym (keeps-all _ _ _ (sym (c .before .in-range .ensures) ∙ not-true _ (c .if1 .taken)))
+returns c = sym (keep-refused _ _ _ (sym (c .before .in-range .ensures) ∙ not-true _ (c .if1 .taken)))
 
 in-use-requires : tie.Need-in-use-requires Inv-loop μ-loop
 in-use-requires c κs = search needs
@@ -60,7 +60,8 @@ returns-2 : tie.Need-returns-2 Inv-loop μ-loop
 returns-2 c =
     let a = c .before .before .before .before .args in
     let room : c .before .in-use .result < length (a .self .times) = omega (arith, within (c .before .before), whole (c .before .before .before .before)) in
-    sym (kept-behind (a .self) _ (used (c .before)) (a .row) (a .due) (fine (c .before .before)) (c .if2 .taken) room)
+    let b = c .before .before in
+    sym (keep-done (a .self) (a .row) (a .due) (fine b) (kept-behind (a .self) _ (used (c .before)) (a .row) (a .due) (fine b) (c .if2 .taken) room))
 
 sub-last : tie.Need-sub-last Inv-loop μ-loop
 sub-last c = omega (arith, within (c .before .before))
@@ -113,7 +114,8 @@ returns-3 c =
     let b = c .before .before .before .before in
     let all : l .i ≡ a .row .x - 1 = omega arith in
     rw (l .inv .1, all)
-    (sym (kept-moved (a .self) _ (used (c .before .before .before)) (a .row) (a .due) (fine b) (within b .some-x) (c .before .before .if2 .left)))
+    (sym (keep-done (a .self) (a .row) (a .due) (fine b)
+    (kept-moved (a .self) _ (used (c .before .before .before)) (a .row) (a .due) (fine b) (within b .some-x) (c .before .before .if2 .left))))
 
 pub keep-spec : {M : Type 1} → statement M
 keep-spec =

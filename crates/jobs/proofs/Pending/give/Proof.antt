@@ -1,11 +1,11 @@
--- `Pending::give` meets its contract: nobody is pending at the place, the unit is the last, or the job keeps its place.
+-- `Pending::give` meets its contract: nobody is pending at the place, or the job there has the unit.
 use mathlib.Core.Path.{_≡_}
 use native.Mathlib.Omega.{arith}
 use borrow.Author.Needs.{needs}
-use borrow.Author.Tests.{lt-ltb, le-ltb, le-leb, lt-leb}
+use borrow.Author.Tests.{lt-ltb, le-ltb}
 use Rattle.kinds.proofs.Lists.{length-mapped}
 use Rattle.jobs.specs.Places.{used}
-use Rattle.jobs.specs.Units.{after, given}
+use Rattle.jobs.specs.Units.{given}
 use Rattle.jobs.proofs.Places.{used-is}
 use Rattle.jobs.proofs.Pending.give.Statement.{statement}
 use Rattle.jobs.proofs.Pending.give.Tie as tie
@@ -23,37 +23,24 @@ returns c =
     let a = c .before .before .args in
     simp (le-ltb (a .at) (used (a .t1)) (omega (arith, counted (c .before))))
 
-mul-job : tie.Need-mul-job
-mul-job c = search needs
+mul-ran-of : tie.Need-mul-ran-of
+mul-ran-of c = search needs
 
-element-copy-out-job : tie.Need-element-copy-out-job
-element-copy-out-job c = search needs
+element-copy-out-ran-of : tie.Need-element-copy-out-ran-of
+element-copy-out-ran-of c = search needs
 
-take-out-requires : tie.Need-take-out-requires
-take-out-requires c κs = search needs
+ran-of-requires : tie.Need-ran-of-requires
+ran-of-requires c κs = search needs
+
+after-requires : tie.Need-after-requires
+after-requires c κs = omega (arith, counted (c .before .before .before))
 
 returns-2 : tie.Need-returns-2
-unfolding given after
+unfolding given
 returns-2 c =
-    let a = c .before .before .before .before .before .before .before .args in
-    let e = counted (c .before .before .before .before .before .before) in
-    simp (lt-ltb (a .at) (used (a .t1)) (omega arith), le-leb _ _ (c .before .if2 .taken), c .take-out .ensures)
-
-sub-job : tie.Need-sub-job
-sub-job c = search needs
-
-mul-job-2 : tie.Need-mul-job-2
-mul-job-2 c = search needs
-
-element-set-from-job : tie.Need-element-set-from-job
-element-set-from-job c = search needs
-
-returns-3 : tie.Need-returns-3
-unfolding given after
-returns-3 c =
-    let a = c .before .before .before .before .before .before .before .args in
-    let e = counted (c .before .before .before .before .before .before) in
-    simp (lt-ltb (a .at) (used (a .t1)) (omega arith), lt-leb _ _ (c .before .if2 .left), e)
+    let s = c .before .before .before .before in
+    let a = s .before .args in
+    simp (lt-ltb (a .at) (used (a .t1)) (omega (arith, counted s)), c .after .ensures, c .before .ran-of .ensures)
 
 pub give-spec : {M : Type 1} → statement M
 give-spec =
@@ -61,11 +48,8 @@ give-spec =
     (tie.spec
     in-use-requires
     returns
-    mul-job
-    element-copy-out-job
-    take-out-requires
-    returns-2
-    sub-job
-    mul-job-2
-    element-set-from-job
-    returns-3)
+    mul-ran-of
+    element-copy-out-ran-of
+    ran-of-requires
+    after-requires
+    returns-2)

@@ -4,35 +4,37 @@ use Prim.Native.Nat.{_<_}
 use mathlib.Core.Path.{_≡_, sym, _∙_}
 use mathlib.Core.Bool.{true}
 use native.Mathlib.Omega.{arith}
+use lib.Seq.{length-take-le}
 use borrow.Author.Needs.{needs}
 use borrow.Author.Tests.{not-true, not-false}
+use Rattle.table.specs.declared.CostAnswer.the-variants.{Allowed}
 use Rattle.table.specs.Limits.{maxRows}
+use Rattle.jobs.specs.Places.{putStep}
 use Rattle.run.specs.Sound.{soundOf}
-use Rattle.run.proofs.Release.{Bounded, Passed, bounded, not-sound, no-such-row, no-cost, cost-too-high, places-full, due-settles}
+use Rattle.run.proofs.Sound.{enough-limits}
+use Rattle.run.proofs.Release.{Passed, tested, tested-as, bounded, inside, passes, not-sound, not-allowed, places-full, due-settles}
 use Rattle.run.proofs.Run.release.Statement.{statement}
 use Rattle.run.proofs.Run.release.Tie as tie
 
--- Past the first test the run is sound ..
+-- Past the first test the run is sound.
 sound : (c : tie.Else1) → soundOf (c .before .before .args .self) ≡ true
-sound c = sym (c .before .sound .ensures) ∙ not-false _ (c .if1 .left)
+sound c = sym (c .before .sound .ensures .0) ∙ not-false _ (c .if1 .left)
 
--- .. and its numbers are within their bounds.
-bounds : (c : tie.Else1) → Bounded (c .before .before .args .self)
-bounds c = bounded _ (sound c)
+-- What the code's test of row number and cost answers is what the definition says.
+is-tested : (c : tie.After-answer) → let a = c .before .before .before .before .before .before .before .args in tested (a .self) (a .row .0) (a .cost) ≡ c .answer .result
+is-tested c = let a = c .before .before .before .before .before .before .before .args in tested-as (a .self) (a .row .0) (a .cost) _ (c .before .before .before .cost-limits .ensures) _ (c .before .limit-of .ensures) _ (c .answer .ensures)
 
--- Past the second the row number is one of all rows.
-inside : (c : tie.Else2) → c .before .before .before .before .args .row .0 < maxRows
-inside c = omega (arith, bounds (c .before .before))
+-- Where it allows them, that is what the definition says.
+is-allowed : (c : tie.After-enum-told) → let a = c .before .before .before .before .before .before .before .before .before .args in tested (a .self) (a .row .0) (a .cost) ≡ Allowed
+is-allowed c = is-tested (c .before .before) ∙ c .enum-told .given .1
 
--- Past the last all tests are passed.
-passed : (c : tie.Else5) → let a = c .before .before .before .before .before .before .before .before .before .before .before .args in Passed (a .self) (a .row .0) (a .cost)
-passed c = record {
-  sound = sound (c .before .before .before .before .before .before .before .before .before);
-  in-use = c .before .before .before .before .before .before .before .if2 .left;
-  some-cost = c .before .before .before .before .before .if3 .left;
-  allowed = c .before .before .before .if4 .left;
-  room = c .if5 .left;
-}
+-- The row number is then one of all rows.
+number-inside : (c : tie.After-enum-told) → c .before .before .before .before .before .before .before .before .before .args .row .0 < maxRows
+number-inside c = let a = c .before .before .before .before .before .before .before .before .before .args in inside (a .self) (a .row .0) (a .cost) (sound (c .before .before .before .before .before .before .before)) (is-allowed c)
+
+-- Past the last test all are passed.
+passed : (c : tie.Else2) → let a = c .before .before .before .before .before .before .before .before .before .before .before .before .before .args in Passed (a .self) (a .row .0) (a .cost)
+passed c = let a = c .before .before .before .before .before .before .before .before .before .before .before .before .before .args in passes (a .self) (a .row .0) (a .cost) (sound (c .before .before .before .before .before .before .before .before .before .before .before)) (is-allowed (c .before .before .before .before)) (c .if2 .left)
 
 sound-requires : tie.Need-sound-requires
 sound-requires c κs = search needs
@@ -41,46 +43,62 @@ refused-release-requires : tie.Need-refused-release-requires
 refused-release-requires c κs = search needs
 
 returns : tie.Need-returns
-returns c = c .refused-release .ensures ∙ not-sound _ _ _ (sym (c .before .before .sound .ensures) ∙ not-true _ (c .before .if1 .taken))
+returns c = c .refused-release .ensures ∙ not-sound (c .before .before .before .args .self) (c .before .before .before .args .row .0) (c .before .before .before .args .cost) (sym (c .before .before .sound .ensures .0) ∙ not-true _ (c .before .if1 .taken))
+
+cost-limits-requires : tie.Need-cost-limits-requires
+cost-limits-requires c κs = search needs
+
+array-share-prefix-limits : tie.Need-array-share-prefix-limits
+array-share-prefix-limits c = omega (arith, bounded (c .before .before .before .before .args .self) (sound (c .before .before)))
+
+slice-aggregate-limit-of : tie.Need-slice-aggregate-limit-of
+slice-aggregate-limit-of c =
+    sym (length-take-le _ _ (enough-limits (c .before .before .before .before .before .args .self) (c .before .before .before .before .sound .ensures .1) (bounded (c .before .before .before .before .before .args .self) (sound (c .before .before .before)) .few-rows) _ (c .before .cost-limits .ensures)))
+
+limit-of-requires : tie.Need-limit-of-requires
+limit-of-requires c κs = search needs
+
+answer-requires : tie.Need-answer-requires
+answer-requires c κs = search needs
+
+enum-known-r : tie.Need-enum-known-r
+enum-known-r c = search needs
 
 refused-release-requires-2 : tie.Need-refused-release-requires-2
 refused-release-requires-2 c κs = search needs
 
 returns-2 : tie.Need-returns-2
-returns-2 c = c .refused-release2 .ensures ∙ no-such-row _ _ _ (sound (c .before .before .before)) (c .before .if2 .taken)
+returns-2 c = c .refused-release2 .ensures ∙ not-allowed (c .before .before .before .before .before .before .before .before .before .before .before .args .self) (c .before .before .before .before .before .before .before .before .before .before .before .args .row .0) (c .before .before .before .before .before .before .before .before .before .before .before .args .cost) (sound (c .before .before .before .before .before .before .before .before .before)) _ (is-tested (c .before .before .before .before) ∙ c .before .before .r .given .1)
+
+enum-told : tie.Need-enum-told
+enum-told c = search needs
 
 mul-its : tie.Need-mul-its
-mul-its c = omega (arith, inside c)
+mul-its c = omega (arith, number-inside c)
 
 element-copy-out-its : tie.Need-element-copy-out-its
-element-copy-out-its c = omega (arith, inside c)
+element-copy-out-its c = omega (arith, number-inside c)
 
 refused-release-requires-3 : tie.Need-refused-release-requires-3
 refused-release-requires-3 c κs = search needs
 
 returns-3 : tie.Need-returns-3
-returns-3 c = c .refused-release3 .ensures ∙ no-cost _ _ _ (sound (c .before .before .before .before .before)) (c .before .before .before .if2 .left) (c .before .if3 .taken)
-
-refused-release-requires-4 : tie.Need-refused-release-requires-4
-refused-release-requires-4 c κs = search needs
-
-returns-4 : tie.Need-returns-4
-returns-4 c = c .refused-release4 .ensures ∙ cost-too-high _ _ _ (sound (c .before .before .before .before .before .before .before)) (c .before .before .before .before .before .if2 .left) (c .before .if4 .taken)
-
-refused-release-requires-5 : tie.Need-refused-release-requires-5
-refused-release-requires-5 c κs = search needs
-
-returns-5 : tie.Need-returns-5
-returns-5 c = c .refused-release5 .ensures ∙ places-full _ _ _ (sound (c .before .before .before .before .before .before .before .before .before .before)) (c .before .before .before .before .before .before .before .before .if2 .left) (c .before .before .before .before .before .before .if3 .left) (c .before .before .before .before .if4 .left) (c .before .if5 .taken)
+returns-3 c = c .refused-release3 .ensures ∙ places-full (c .before .before .before .before .before .before .before .before .before .before .before .before .before .before .args .self) (c .before .before .before .before .before .before .before .before .before .before .before .before .before .before .args .row .0) (c .before .before .before .before .before .before .before .before .before .before .before .before .before .before .args .cost) (sound (c .before .before .before .before .before .before .before .before .before .before .before .before)) (is-allowed (c .before .before .before .before .before)) (c .before .if2 .taken)
 
 mul-kept : tie.Need-mul-kept
-mul-kept c = omega (arith, inside (c .before .before .before .before .before .before .before))
+mul-kept c = omega (arith, number-inside (c .before .before .before .before))
 
 element-copy-out-kept : tie.Need-element-copy-out-kept
-element-copy-out-kept c = omega (arith, inside (c .before .before .before .before .before .before .before))
+element-copy-out-kept c = omega (arith, number-inside (c .before .before .before .before))
 
 due-requires : tie.Need-due-requires
 due-requires c κs = search needs
+
+enum-known-r-2 : tie.Need-enum-known-r-2
+enum-known-r-2 c = search needs
+
+refused-release-requires-4 : tie.Need-refused-release-requires-4
+refused-release-requires-4 c κs = search needs
 
 enum-known-due : tie.Need-enum-known-due
 enum-known-due c = search needs
@@ -92,29 +110,21 @@ keep-requires : tie.Need-keep-requires
 keep-requires c κs = search needs
 
 mul-newest : tie.Need-mul-newest
-mul-newest c = omega (arith, inside (c .before .before .before .before .before .before .before .before .before .before .before .before .before .before .before .before))
+mul-newest c = omega (arith, number-inside (c .before .before .before .before .before .before .before .before .before .before .before .before .before .before .before))
 
 element-set-from-newest : tie.Need-element-set-from-newest
-element-set-from-newest c = omega (arith, inside (c .before .before .before .before .before .before .before .before .before .before .before .before .before .before .before .before))
+element-set-from-newest c = omega (arith, number-inside (c .before .before .before .before .before .before .before .before .before .before .before .before .before .before .before))
 
-add-t44 : tie.Need-add-t44
-add-t44 c = omega (arith, bounds (c .before .before .before .before .before .before .before .before .before .before .before .before .before .before .before .before .before .before .before))
+add-t48 : tie.Need-add-t48
+add-t48 c = omega (arith, bounded (c .before .before .before .before .before .before .before .before .before .before .before .before .before .before .before .before .before .before .before .before .before .before .before .before .before .args .self) (sound (c .before .before .before .before .before .before .before .before .before .before .before .before .before .before .before .before .before .before .before .before .before .before .before)))
 
-enum-known-r : tie.Need-enum-known-r
-enum-known-r c = search needs
+returns-4 : tie.Need-returns-4
+returns-4 c = c .refused-release4 .ensures ∙ due-settles (c .before .before .before .before .before .before .before .before .before .before .before .before .before .before .before .before .before .before .before .before .before .args .self) (c .before .before .before .before .before .before .before .before .before .before .before .before .before .before .before .before .before .before .before .before .before .args .row .0) (c .before .before .before .before .before .before .before .before .before .before .before .before .before .before .before .before .before .before .before .before .before .args .cost) (passed (c .before .before .before .before .before .before .before .before)) _ (sym (c .before .before .before .before .due .ensures) ∙ c .before .before .r2 .given .1)
 
-refused-release-requires-6 : tie.Need-refused-release-requires-6
-refused-release-requires-6 c κs = search needs
-
-returns-6 : tie.Need-returns-6
-returns-6 c =
-    simp (c .before .before .put .ensures, c .before .keep .ensures)
-    (due-settles _ _ _ (passed (c .before .before .before .before .before .before .before .before .before .before)) _ (sym (c .before .before .before .before .before .before .due .ensures) ∙ c .before .before .before .before .due2 .given .1))
-
-returns-7 : tie.Need-returns-7
-returns-7 c =
-    c .refused-release6 .ensures
-    ∙ due-settles _ _ _ (passed (c .before .before .before .before .before .before .before .before)) _ (sym (c .before .before .before .before .due .ensures) ∙ c .before .before .r .given .1)
+returns-5 : tie.Need-returns-5
+unfolding putStep
+returns-5 c =
+    simp (c .before .before .before .before .put .ensures, c .before .before .keep .ensures) (due-settles (c .before .before .before .before .before .before .before .before .before .before .before .before .before .before .before .before .before .before .before .before .before .before .before .before .before .args .self) (c .before .before .before .before .before .before .before .before .before .before .before .before .before .before .before .before .before .before .before .before .before .before .before .before .before .args .row .0) (c .before .before .before .before .before .before .before .before .before .before .before .before .before .before .before .before .before .before .before .before .before .before .before .before .before .args .cost) (passed (c .before .before .before .before .before .before .before .before .before .before .before .before)) _ (sym (c .before .before .before .before .before .before .before .before .due .ensures) ∙ c .before .before .before .before .before .before .due2 .given .1))
 
 pub release-spec : {M : Type 1} → statement M
 release-spec =
@@ -123,26 +133,29 @@ release-spec =
     sound-requires
     refused-release-requires
     returns
+    cost-limits-requires
+    array-share-prefix-limits
+    slice-aggregate-limit-of
+    limit-of-requires
+    answer-requires
+    enum-known-r
     refused-release-requires-2
     returns-2
+    enum-told
     mul-its
     element-copy-out-its
     refused-release-requires-3
     returns-3
-    refused-release-requires-4
-    returns-4
-    refused-release-requires-5
-    returns-5
     mul-kept
     element-copy-out-kept
     due-requires
+    enum-known-r-2
+    refused-release-requires-4
     enum-known-due
     put-requires
     keep-requires
     mul-newest
     element-set-from-newest
-    add-t44
-    enum-known-r
-    refused-release-requires-6
-    returns-6
-    returns-7)
+    add-t48
+    returns-4
+    returns-5)

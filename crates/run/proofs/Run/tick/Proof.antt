@@ -2,7 +2,6 @@
 use mathlib.Core.Path.{_≡_, sym, _∙_}
 use borrow.Author.Needs.{needs}
 use borrow.Author.Tests.{not-true, not-false}
-use Rattle.kinds.proofs.Lists.{length-mapped}
 use Rattle.run.specs.Ticking.{ticked}
 use Rattle.run.proofs.Ticking.{Good, stepOf, tick-unsound, tick-too-late, tick-is-a-turn}
 use Rattle.run.proofs.Run.tick.Statement.{statement}
@@ -10,23 +9,20 @@ use Rattle.run.proofs.Run.tick.Tie as tie
 
 -- Past the test the run is sound, and it is whole as every run in a program is.
 sound : (c : tie.Else1) → Good (c .before .before .args .self)
-sound c = (
-  sym (c .before .sound .ensures) ∙ not-false _ (c .if1 .left),
-  record { all-rows = search (needs, length-mapped); all-kept = search (needs, length-mapped); all-places = search (needs, length-mapped) },
-)
+sound c = (sym (c .before .sound .ensures .0) ∙ not-false _ (c .if1 .left), c .before .sound .ensures .1)
 
 -- The turn that was taken is the tick.
 turned : (c : tie.After-left)
-    → (let run = c .before .before .before .before .before .before .before .before .before .args .self in stepOf run (c .before .ticks .result) ≡ ticked run)
+    → (let run = c .before .before .before .before .before .before .before .before .before .args .self in stepOf run (c .before .tick .result) ≡ ticked run)
 turned c =
     let s = c .before .before .before .before .before .before .before in
-    rw (c .before .ticks .ensures) (tick-is-a-turn (s .before .before .args .self) (sound s) (c .before .before .before .before .if2 .left))
+    rw (c .before .tick .ensures) (tick-is-a-turn (s .before .before .args .self) (sound s) (c .before .before .before .before .if2 .left))
 
 sound-requires : tie.Need-sound-requires
 sound-requires c κs = search needs
 
 returns : tie.Need-returns
-returns c = sym (tick-unsound _ (sym (c .before .sound .ensures) ∙ not-true _ (c .if1 .taken)))
+returns c = sym (tick-unsound _ (sym (c .before .sound .ensures .0) ∙ not-true _ (c .if1 .taken)))
 
 returns-2 : tie.Need-returns-2
 returns-2 c = sym (tick-too-late _ (sound (c .before .before .before) .0) (c .if2 .taken))
@@ -34,8 +30,8 @@ returns-2 c = sym (tick-too-late _ (sound (c .before .before .before) .0) (c .if
 add-t17 : tie.Need-add-t17
 add-t17 c = search needs
 
-ticks-requires : tie.Need-ticks-requires
-ticks-requires c κs = search needs
+tick-requires : tie.Need-tick-requires
+tick-requires c κs = search needs
 
 enum-told : tie.Need-enum-told
 enum-told c = search needs
@@ -57,7 +53,7 @@ tick-spec =
     returns
     returns-2
     add-t17
-    ticks-requires
+    tick-requires
     enum-told
     enum-known-turn
     returns-3

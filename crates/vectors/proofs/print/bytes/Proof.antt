@@ -1,31 +1,36 @@
 -- `vectors::print::bytes` meets its contract: each index is within the bytes, and the loop ends with them.
 use Prim.Native.Nat.{_≤_, _-_}
-use native.Mathlib.Omega.{arith}
-use borrow.Author.Needs.{needs}
 use lib.ListN.{length}
+use native.Mathlib.Omega.{arith}
 use Rattle.vectors.proofs.print.bytes.Statement.{statement}
 use Rattle.vectors.proofs.print.bytes.Tie as tie
 
 abbrev Inv-loop : tie.InvT-loop
-Inv-loop bytes i₀ i = i ≤ length bytes
+Inv-loop word bytes i₀ i = i ≤ length bytes
 
 abbrev μ-loop : tie.MeasureT-loop
-μ-loop bytes i₀ i = length bytes - i
+μ-loop word bytes i₀ i = length bytes - i
+
+say-requires : tie.Need-say-requires Inv-loop μ-loop
+say-requires c κs = tt
+
+loop-holds : tie.Need-loop-holds Inv-loop μ-loop
+loop-holds c = omega arith
+
+shared-slice-read-b : tie.Need-shared-slice-read-b Inv-loop μ-loop
+shared-slice-read-b c = omega arith
+
+digit-requires : tie.Need-digit-requires Inv-loop μ-loop
+digit-requires c κs = tt
+
+digit-requires-2 : tie.Need-digit-requires-2 Inv-loop μ-loop
+digit-requires-2 c κs = tt
 
 slice-aggregate-text : tie.Need-slice-aggregate-text Inv-loop μ-loop
 slice-aggregate-text c = omega arith
 
 text-requires : tie.Need-text-requires Inv-loop μ-loop
-text-requires c κs = search needs
-
-loop-holds : tie.Need-loop-holds Inv-loop μ-loop
-loop-holds c = omega arith
-
-shared-slice-read-byte : tie.Need-shared-slice-read-byte Inv-loop μ-loop
-shared-slice-read-byte c = omega arith
-
-byte-requires : tie.Need-byte-requires Inv-loop μ-loop
-byte-requires c κs = search needs
+text-requires c κs = tt
 
 add-i : tie.Need-add-i Inv-loop μ-loop
 add-i c = omega arith
@@ -45,11 +50,13 @@ bytes-spec =
     (tie.spec
     Inv-loop
     μ-loop
+    say-requires
+    loop-holds
+    shared-slice-read-b
+    digit-requires
+    digit-requires-2
     slice-aggregate-text
     text-requires
-    loop-holds
-    shared-slice-read-byte
-    byte-requires
     add-i
     loop-less
     loop-again

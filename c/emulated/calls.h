@@ -1,0 +1,34 @@
+/*
+ * The library's calls on a machine whose processor it was not compiled for. The archive is made for x86-64. Elsewhere
+ * the tests link client.c in its place, which has the same functions: each hands its arguments to server.c, a program
+ * for x86-64 that is linked with the archive and run by an emulator, and hands back what the archive's call answered
+ * and wrote. So what is tested is the archive itself.
+ */
+#ifndef EMULATED_CALLS_H
+#define EMULATED_CALLS_H
+
+#include <stddef.h>
+#include <stdint.h>
+
+enum call { VERDICT, REPLAY, TRACE, WRITE_NUMBER, CHOOSE };
+
+enum { MOST_LENT = 4, MOST_NUMBERS = 2 };
+
+/* A buffer that a call is lent. */
+struct lent {
+    uint64_t length;
+    uint32_t is_null;
+    uint32_t is_written; /* the call may write to it */
+};
+
+/* What is handed over ahead of the buffers' bytes. */
+struct request {
+    uint32_t call;
+    uint32_t count; /* of buffers */
+    uint64_t numbers[MOST_NUMBERS];
+    struct lent lent[MOST_LENT];
+};
+
+/* The answer is the call's result as a uint64_t, and then the bytes of the buffers that it may write to, in order. */
+
+#endif

@@ -1,0 +1,4 @@
+pub mod Each
+pub mod Divisors
+pub mod Multiples
+pub mod Periods

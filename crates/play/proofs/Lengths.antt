@@ -1,0 +1,78 @@
+-- How small a log is: its numbers, and its length beside its script's. (docs/RULES.md, sections 8.8, 8.11 and 10.6.)
+use Prim.Native.Nat.{ℕ, _*_, _≤_}
+use mathlib.Core.Path.{_≡_, refl, ap}
+use mathlib.Core.List.{List, [], _∷_, flatten}
+use native.Mathlib.Omega.{arith}
+use lib.ListN.{length, length-append}
+use Rattle.kinds.specs.declared.Finish.{Finish}
+use Rattle.numbers.proofs.Laws.{spelling-length}
+use Rattle.table.proofs.Each.{Each, stands-in, each-none}
+use Rattle.jobs.specs.declared.Job.{Job}
+use Rattle.jobs.specs.Turns.{noFinish}
+use Rattle.log.specs.Log.{spelledFinish}
+use Rattle.log.specs.Laws.{spelledLog}
+use Rattle.log.proofs.Laws.{record-length}
+use Rattle.script.specs.declared.Record.{Record}
+use Rattle.script.specs.Laws.{spelledScript}
+use Rattle.script.proofs.Laws.{script-is-read}
+use Rattle.play.specs.Play.{Progress}
+use Rattle.play.specs.Laws.{AskedFor, SmallNumbers, LogHoldsSmallNumbers, LogIsShort}
+use Rattle.play.proofs.SingleTicks.{finished-small, each-behind}
+use Rattle.play.proofs.Through.{Keeps, kept-through}
+use Rattle.play.proofs.Laws.{every-record-is-accepted, one-record-each}
+
+-- ---- its numbers
+
+-- They are small so far.
+abbrev SmallSoFar : Progress → Type 0
+SmallSoFar p = Each SmallNumbers (p .since .finishes)
+
+-- Ticks add none but small ones, and a release adds none.
+small-so-far : Keeps SmallSoFar
+small-so-far = record {
+  tick = λ p good in-time small. each-behind (p .since .finishes) _ small (finished-small (p .since .run) good in-time);
+  release = λ p row cost a good e small. small;
+}
+
+pub log-holds-small-numbers : LogHoldsSmallNumbers
+log-holds-small-numbers t s p table script e i h =
+    let end = kept-through SmallSoFar small-so-far t s p table (each-none SmallNumbers) e in
+    end .kept _ (stands-in (p .since .finishes) i noFinish h)
+
+-- ---- its length
+
+-- A record of a log has at most 30 bytes.
+log-at-most : (fs : List Finish) → length (spelledLog fs) ≤ 30 * length fs
+unfolding flatten
+log-at-most [] = omega arith
+log-at-most (f ∷ fs) = omega (arith, length-append (spelledFinish f) (spelledLog fs), record-length f, log-at-most fs)
+
+-- A record of a script has at least 3 bytes: its numbers have a byte each.
+script-at-least : (rs : List Record) → 3 * length rs ≤ length (spelledScript rs)
+unfolding flatten
+script-at-least [] = omega arith
+script-at-least (r ∷ rs) =
+    let gap = spelling-length (r .gap) in
+    let row = spelling-length (r .row .0) in
+    let cost = spelling-length (r .cost) in
+    simp length-append (omega (arith, gap, row, cost, script-at-least rs))
+
+-- Records ask for one job each.
+one-job-each : (time : ℕ) (rs : List Record) (js : List Job) → AskedFor time rs js → length rs ≡ length js
+one-job-each time [] [] asked = refl
+one-job-each time [] (j ∷ js) asked = absurd asked
+one-job-each time (r ∷ rs) [] asked = absurd asked
+one-job-each time (r ∷ rs) (j ∷ js) asked = omega (arith, one-job-each _ rs js (asked .3))
+
+pub log-is-short : LogIsShort
+log-is-short t s p table script e =
+    let asked = every-record-is-accepted t s p table script e in
+    let spelled : s ≡ spelledScript (asked .0) = script-is-read s 0 (asked .0) script .0 (asked .1) .stands-here in
+    omega (
+      arith,
+      log-at-most (p .since .finishes),
+      one-record-each t s p table script e .0,
+      one-job-each 0 (asked .0) (p .accepted) (asked .2),
+      script-at-least (asked .0),
+      ap length spelled,
+    )

@@ -1,0 +1,13 @@
+pub mod SingleTicks
+pub mod OnItsWay
+pub mod Through
+pub mod Moves
+pub mod Late
+pub mod Lateness
+pub mod Conservation
+pub mod InOrder
+pub mod Asked
+pub mod Laws
+pub mod Lengths
+pub mod Refusing
+pub mod Stopping

@@ -1,0 +1,253 @@
+-- What stops a play, and how it comes to its end. (docs/RULES.md, sections 8.1, 8.2, 8.5, 8.7 and 10.4.)
+use Prim.Native.Nat.{ℕ, zero, suc, _+_, _≤_, _<_}
+use mathlib.Core.Path.{_≡_, refl, sym, ap, subst, _∙_}
+use mathlib.Core.Logic.{_⊎_, _≢_, inl, inr}
+use mathlib.Core.Bool.{true}
+use mathlib.Core.List.{List}
+use native.Mathlib.Omega.{arith}
+use lib.Dec.{leb, ltb}
+use lib.ListN.{length}
+use borrow.Author.Tests.{eq-eqb, ne-eqb}
+use Rattle.kinds.specs.Numbering.{maxTime}
+use Rattle.kinds.specs.declared.Refusal.the-variants.{TimeTooLate}
+use Rattle.kinds.specs.declared.RefusedAt.{RefusedAt}
+use Rattle.numbers.specs.Laws.{Bytes}
+use Rattle.numbers.specs.declared.Number.{Number}
+use Rattle.theory.proofs.Cases.{by-lt, by-eq, by-test}
+use Rattle.theory.specs.DueTimes.{dueTime}
+use Rattle.table.specs.declared.Row.{Row}
+use Rattle.table.specs.declared.TableAnswer.{TableAnswer}
+use Rattle.table.specs.declared.TableAnswer.the-variants as answer
+use Rattle.table.specs.declared.CostAnswer.{CostAnswer}
+use Rattle.table.specs.Rows.{rowInRange}
+use Rattle.table.specs.Tables.{tableRead}
+use Rattle.table.specs.Answers.{tableSays}
+use Rattle.table.proofs.Answers.{tables-said-apart}
+use Rattle.table.specs.Costs.{costLimits}
+use Rattle.table.proofs.Refusals.{refused-with-one-to-five}
+use Rattle.table.proofs.CostLimits.{CostTested, cost-tested}
+use Rattle.due.specs.declared.Due.{Due}
+use Rattle.due.specs.declared.Due.the-variants as due
+use Rattle.due.specs.declared.Kept.{Kept}
+use Rattle.due.specs.Kept.{dueOf, earlier}
+use Rattle.jobs.specs.Places.{maxPlaces}
+use Rattle.run.specs.declared.Run.{Run}
+use Rattle.run.specs.declared.Released.{Released}
+use Rattle.run.specs.declared.Released.the-variants as release
+use Rattle.run.specs.Runs.{freshRun, rowAt, keptOf}
+use Rattle.run.specs.Sound.{soundOf}
+use Rattle.run.specs.Release.{atDue, atCost, released}
+use Rattle.run.specs.Advance.{ticks}
+use Rattle.run.proofs.Ticking.{Good}
+use Rattle.run.proofs.Advancing.{ticks-keep-good}
+use Rattle.run.proofs.Release.{release-keeps-sound}
+use Rattle.run.proofs.Fresh.{started-is-sound}
+use Rattle.script.specs.declared.RecordAt.{RecordAt}
+use Rattle.script.specs.declared.RecordRead.the-variants as read
+use Rattle.script.specs.Records.{recordAt}
+use Rattle.script.proofs.Records.{number-stands, record-read}
+use Rattle.script.proofs.Laws.{record-is-spelled}
+use Rattle.records.specs.Numbers.{numbersAt}
+use Rattle.play.specs.Play.{Progress, begun, Step, goes-on, stops, stepped}
+use Rattle.play.specs.Play.{Played, whole, stopped, finalTicks, andThen, playedFrom, played}
+use Rattle.play.specs.Exactly as laws
+use Rattle.play.specs.Exactly.{CanStop, CostPassed, RecordRefused}
+use Rattle.play.specs.Exactly.{ComesTo, begins, goes-further, atLast, leftAtLast, StoppedFor, the-table, a-record, the-clock}
+use Rattle.play.specs.Exactly.{no-gap, too-late, no-row-number, no-such-row, no-cost, cost-out-of-range, release-refused}
+use Rattle.play.proofs.Refusing.{said-refused, same-refusal, record-stops, record-goes-on}
+
+-- ---- what a play is stopped for
+
+-- A record that passes its tests ends further on, in the script.
+passed-forward : (s : List ℕ) (at : ℕ) (p : Progress) (gap row cost : Number) → Bytes s → at < length s → CostPassed s at p gap row cost
+    → (at < cost .next) × (cost .next ≤ length s)
+passed-forward s at p gap row cost bytes inside passed =
+    let found : RecordAt = record { release = record { gap = gap .value; row = record { 0 = row .value }; cost = cost .value }; next = cost .next } in
+    let there : recordAt s at ≡ read.Record found = record-read s at inside gap (number-stands s at (passed .row-passed .gap-passed .read))
+    row (number-stands s (gap .next) (passed .row-passed .read)) cost (number-stands s (row .next) (passed .read)) in
+    let spelled = record-is-spelled s at found bytes there in
+    (spelled .forward, spelled .within)
+
+-- So does every record that the play goes on after.
+goes-forward : (s : List ℕ) (at : ℕ) (p q : Progress) (next : ℕ) → Bytes s → at < length s → stepped p (numbersAt s at) ≡ goes-on q next
+    → (at < next) × (next ≤ length s)
+goes-forward s at p q next bytes inside e =
+    let w = record-goes-on s at p q next .0 e in
+    let forward = passed-forward s at p (w .gap) (w .row) (w .cost) bytes inside (w .passed) in
+    rw (w .right-after) forward
+
+-- The rest of a play from a place that it comes to, with as many records left to come as there may be.
+record Rest (t s : List ℕ) (at : ℕ) (p : Progress) : Type 0 where
+  left : ℕ
+  inside : at ≤ length s
+  enough : length s ≤ at + left
+  is-played : played t s ≡ playedFrom left s at p
+
+-- Before the script's end the rest is one record, and what comes after it.
+one-record : (n : ℕ) (s : List ℕ) (at : ℕ) (p : Progress) → at ≢ length s
+    → playedFrom (suc n) s at p ≡ andThen (stepped p (numbersAt s at)) λ q next. playedFrom n s next q
+unfolding playedFrom
+one-record n s at p more = rw (ne-eqb at (length s) more)
+
+-- At the script's end the rest is the final ticks.
+no-record : (n : ℕ) (s : List ℕ) (p : Progress) → playedFrom n s (length s) p ≡ finalTicks (length s) p
+unfolding playedFrom
+no-record zero s p = refl
+no-record (suc n) s p = rw (eq-eqb (length s) (length s) refl)
+
+-- After a record that the play goes on after, there is a rest too.
+rest-after : (t s : List ℕ) (at : ℕ) (p q : Progress) (next : ℕ) → Bytes s → Rest t s at p → at ≢ length s → stepped p (numbersAt s at) ≡ goes-on q next
+    → Rest t s next q
+rest-after t s at p q next bytes rest more e = by-left (rest .left) (rest .enough) (rest .is-played)
+  where
+    by-left : (n : ℕ) → length s ≤ at + n → played t s ≡ playedFrom n s at p → Rest t s next q
+    by-left zero enough is = absurd (more (omega (arith, rest .inside)))
+    by-left (suc n) enough is =
+        let forward = goes-forward s at p q next bytes (omega (arith, rest .inside, more)) e in
+        record { left = n; inside = forward .1; enough = omega (arith, forward .0); is-played = is ∙ one-record n s at p more ∙ rw e }
+
+comes-to : (t s : List ℕ) (at : ℕ) (p : Progress) → Bytes s → ComesTo t s at p → Rest t s at p
+unfolding played
+comes-to t s at p bytes (begins period e) = record { left = length s; inside = omega arith; enough = omega arith; is-played = rw (tables-said-apart (tableRead t .answer) (answer.Accepted period) e) }
+comes-to t s at p bytes (goes-further {at = from} {p = before} c more q next e) =
+    rest-after t s from before q next bytes (comes-to t s from before bytes c) more e
+
+-- A record that stops the play settles how it ends.
+record-stops-it : (t s : List ℕ) (at : ℕ) (p : Progress) (r : RefusedAt) → Rest t s at p → at ≢ length s → stepped p (numbersAt s at) ≡ stops r
+    → played t s ≡ stopped r
+record-stops-it t s at p r rest more e = by-left (rest .left) (rest .enough) (rest .is-played)
+  where
+    by-left : (n : ℕ) → length s ≤ at + n → played t s ≡ playedFrom n s at p → played t s ≡ stopped r
+    by-left zero enough is = absurd (more (omega (arith, rest .inside)))
+    by-left (suc n) enough is = is ∙ one-record n s at p more ∙ rw e
+
+-- In the final ticks the clock stops the play with a job still pending, or nothing is left.
+clock-stops-it : (end : ℕ) (p : Progress) → 1 ≤ leftAtLast p → finalTicks end p ≡ stopped (record { refusal = TimeTooLate; place = end })
+unfolding finalTicks
+clock-stops-it end p some = rw (ne-eqb (leftAtLast p) 0 (λ none. omega arith))
+
+none-left : (end : ℕ) (p : Progress) → leftAtLast p ≡ 0 → finalTicks end p ≡ whole (atLast p)
+unfolding finalTicks
+none-left end p none = rw (eq-eqb (leftAtLast p) 0 none)
+
+at-the-end : (t s : List ℕ) (p : Progress) → Bytes s → ComesTo t s (length s) p → played t s ≡ finalTicks (length s) p
+at-the-end t s p bytes c = let rest = comes-to t s (length s) p bytes c in rest .is-played ∙ no-record (rest .left) s p
+
+stopped-for : (t s : List ℕ) (r : RefusedAt) → Bytes s → StoppedFor t s r → played t s ≡ stopped r
+unfolding played
+stopped-for t s r bytes (the-table e) = rw (tables-said-apart (tableRead t .answer) (answer.Refused r) e)
+stopped-for t s r bytes (a-record at p c more refused) =
+    let rest = comes-to t s at p bytes c in
+    record-stops-it t s at p r rest more (record-stops s at p r (rest .inside) .1 refused)
+stopped-for t s r bytes (the-clock p c some ten place) =
+    at-the-end t s p bytes c ∙ clock-stops-it (length s) p some ∙ ap stopped (same-refusal _ r (sym ten) (sym place))
+
+-- There is no other way for a play to end.
+module _ (t s : List ℕ) (bytes : Bytes s) where
+  abbrev EndsSo : Played → Type 0
+  EndsSo (whole q) = (p : Progress) × ComesTo t s (length s) p × (leftAtLast p ≡ 0) × (q ≡ atLast p)
+  EndsSo (stopped r) = StoppedFor t s r
+
+  final-ends : (p : Progress) → ComesTo t s (length s) p → EndsSo (finalTicks (length s) p)
+  final-ends p c = by-lt 0 (leftAtLast p)
+      (λ some. subst EndsSo (sym (clock-stops-it (length s) p some)) (the-clock p c some refl refl))
+      (λ least.
+      let none : leftAtLast p ≡ 0 = omega arith in
+      subst EndsSo (sym (none-left (length s) p none)) (p, c, none, refl))
+
+  step-ends : (at : ℕ) (p : Progress) → ComesTo t s at p → at ≤ length s → at ≢ length s → (k : Progress → (next : ℕ) → Played) (x : Step) → stepped p (numbersAt s at) ≡ x
+      → ((q : Progress) (next : ℕ) → stepped p (numbersAt s at) ≡ goes-on q next → EndsSo (k q next)) → EndsSo (andThen x k)
+  step-ends at p c inside more k (goes-on q next) e rest = rest q next e
+  step-ends at p c inside more k (stops r) e rest = a-record at p c more (record-stops s at p r inside .0 e)
+
+  script-ends : (n at : ℕ) (p : Progress) → ComesTo t s at p → at ≤ length s → length s ≤ at + n → EndsSo (playedFrom n s at p)
+  unfolding playedFrom
+  script-ends zero at p c inside enough = let end : at ≡ length s = omega arith in final-ends p (rw end at c)
+  script-ends (suc n) at p c inside enough = by-eq at (length s)
+      (λ end. rw (eq-eqb at (length s) end) (final-ends p (rw end at c)))
+      (λ more. rw (ne-eqb at (length s) more) (step-ends at p c inside more _ (stepped p (numbersAt s at)) refl
+      λ q next e.
+      let forward = goes-forward s at p q next bytes (omega (arith, more)) e in
+      script-ends n next q (goes-further c more q next e) (forward .1) (omega (arith, forward .0))))
+
+  play-ends : EndsSo (played t s)
+  unfolding played
+  play-ends = by-start (tableRead t .answer) refl
+    where
+      by-start : (a : TableAnswer) → tableRead t .answer ≡ a → EndsSo (played t s)
+      by-start (answer.Accepted period) e =
+          rw e (script-ends (length s) 0 (begun (freshRun (tableRead t .table))) (begins period (ap tableSays e)) (omega arith) (omega arith))
+      by-start (answer.Refused r) e = rw e (the-table (ap tableSays e))
+
+pub stopped-means : laws.StoppedMeans
+stopped-means t s r bytes = (λ e. subst (EndsSo t s bytes) e (play-ends t s bytes), stopped-for t s r bytes)
+
+pub whole-means : laws.WholeMeans
+whole-means t s q bytes = (
+  λ e. subst (EndsSo t s bytes) e (play-ends t s bytes),
+  λ w. at-the-end t s (w .0) bytes (w .1) ∙ none-left (length s) (w .0) (w .2) ∙ ap whole (sym (w .3)),
+)
+
+-- ---- the refusals that stop a play
+
+-- Each answer that may be a refusal: if it is, it can stop a play.
+abbrev DueStops : Due → Type 0
+DueStops (due.At t) = Unit {0}
+DueStops (due.Refused r) = CanStop r
+
+abbrev ReleaseStops : Released → Type 0
+ReleaseStops (release.Accepted a) = Unit {0}
+ReleaseStops (release.Refused r) = CanStop r
+
+-- A due time that is refused can stop a play.
+due-stops : (k : Kept) (r : Row) (t cost : ℕ) → DueStops (dueOf k r t cost)
+unfolding dueOf
+due-stops k r t cost = by-test (rowInRange r)
+    (λ y. rw y (by-test (leb (dueTime (r .x) (r .y) (r .d) (earlier k) t) maxTime) (λ y₂. rw y₂ tt) (λ no. rw no (inl (omega arith)))))
+    (λ no. rw no (inl (omega arith)))
+
+release-stops : (run : Run) (row cost : ℕ) → soundOf run ≡ true → ReleaseStops (released run row cost .answer)
+unfolding released
+release-stops run row cost sound = rw sound (by-cost _ (cost-tested (costLimits (run .table)) row cost))
+  where
+    by-due : (d : Due) → DueStops d → ReleaseStops (atDue run row cost d .answer)
+    by-due (due.At t) h = tt
+    by-due (due.Refused r) h = h
+
+    by-cost : (a : CostAnswer) → CostTested (costLimits (run .table)) row cost a → ReleaseStops (atCost run row cost a .answer)
+    by-cost a (CostTested.not-in-use h) = inl (omega arith)
+    by-cost a (CostTested.out-of-range h o) = inl (omega arith)
+    by-cost a (CostTested.allowed h l m) = by-test (ltb (run .pending .count) maxPlaces)
+        (λ room. rw room (by-due (dueOf (keptOf run row) (rowAt (run .table) row) (run .clock .0) cost) (due-stops _ _ _ _)))
+        (λ full. rw full (inl (omega arith)))
+
+-- The runs of a play are sound: ticks and releases keep them so.
+comes-sound : (t s : List ℕ) (at : ℕ) (p : Progress) → Bytes t → ComesTo t s at p → Good (p .since .run)
+comes-sound t s at p table (begins period e) = started-is-sound t table
+comes-sound t s at p table (goes-further {at = from} {p = before} c more q next e) =
+    let w = record-goes-on s from before q next .0 e in
+    let sound = ticks-keep-good (w .gap .value) (before .since) (comes-sound t s from before table c) in
+    rw (w .run-then) (release-keeps-sound (ticks (w .gap .value) (before .since) .run) (w .row .value) (w .cost .value) (sound .1) (sound .0))
+
+-- So it is with every record.
+record-can-stop : (s : List ℕ) (at : ℕ) (p : Progress) {n place : ℕ} → Good (p .since .run) → RecordRefused s at p n place → (n ≤ 10) ⊎ (n ≡ 14)
+record-can-stop s at p good (no-gap none) = inr refl
+record-can-stop s at p good (too-late gap e late) = inl (omega arith)
+record-can-stop s at p good (no-row-number gap g none) = inr refl
+record-can-stop s at p good (no-such-row gap row g e unused) = inl (omega arith)
+record-can-stop s at p good (no-cost gap row q none) = inr refl
+record-can-stop s at p good (cost-out-of-range gap row cost q e out) = inl (omega arith)
+record-can-stop s at p good (release-refused gap row cost q number e) =
+    let run = ticks (gap .value) (p .since) .run in
+    let r = said-refused (released run (row .value) (cost .value) .answer) e in
+    let stops-it : CanStop (r .0) = subst ReleaseStops (r .1) (release-stops run (row .value) (cost .value) (ticks-keep-good (gap .value) (p .since) good .0)) in
+    rw (r .2) at stops-it
+
+stops-so : (t s : List ℕ) (r : RefusedAt) → Bytes t → StoppedFor t s r → CanStop (r .refusal)
+stops-so t s r table (the-table e) =
+    inl (omega (arith, refused-with-one-to-five t r table (tables-said-apart (tableRead t .answer) (answer.Refused r) e)))
+stops-so t s r table (a-record at p c more refused) = record-can-stop s at p (comes-sound t s at p table c) refused
+stops-so t s r table (the-clock p c some ten place) = inl (omega arith)
+
+pub stopped-by : laws.StoppedBy
+stopped-by t s r table script e = stops-so t s r table (stopped-means t s r script .0 e)

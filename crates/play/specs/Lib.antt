@@ -1,0 +1,4 @@
+pub mod Play
+pub mod Late
+pub mod Laws
+pub mod Exactly

@@ -1,0 +1,80 @@
+-- An earlier point of a trace: at every time that the clock has passed, the trace was at a point where the clock was at that time; the ticks since then are the
+-- newest, and the jobs that were released before that time had been accepted. So a job that is due had its cost before its due time. (docs/RULES.md, sections 5
+-- and 6.)
+use Prim.Native.Nat.{ℕ, suc, _-_, _≤_, _<_}
+use mathlib.Core.Path.{_≡_, refl, sym}
+use mathlib.Core.List.{List, [], _∷_, List·Memᴰ, List·Memᴰ·head, List·Memᴰ·tail}
+use native.Mathlib.Omega.{arith}
+use lib.ListN.{drop}
+use Rattle.theory.specs.Jobs.{Job}
+use Rattle.theory.proofs.Cases.{by-eq}
+use Rattle.run.specs.Answers.{accepted, idle, ran}
+use Rattle.run.specs.Answers as says
+use Rattle.promise.specs.Traces.{Call, Event, runAt, eventOf, trace, told, clockOf, jobsIn, ticksOf}
+use Rattle.promise.specs.InTime.{InTimeBeforeDue}
+use Rattle.promise.proofs.InTime.{in-time, due-times-come}
+
+-- One answer back: the time was reached before it, and all that is of that time was there.
+record OneBack (time : ℕ) (e : Event) (es : List Event) : Type 0 where
+  reached : time ≤ clockOf es
+  same-ticks : drop (clockOf (e ∷ es) - time) (ticksOf (e ∷ es)) ≡ drop (clockOf es - time) (ticksOf es)
+  same-jobs : (j : Job) → List·Memᴰ j (jobsIn (e ∷ es)) → j .release < time → List·Memᴰ j (jobsIn es)
+
+-- A job that was released at the clock was not released before an earlier time.
+not-the-newest : (time : ℕ) {i : Job} {js : List Job} → time ≤ i .release → (j : Job) → List·Memᴰ j (i ∷ js) → j .release < time → List·Memᴰ j js
+not-the-newest time late j (List·Memᴰ·head e) = λ early. absurd (omega (arith, late, rw e at early))
+not-the-newest time late j (List·Memᴰ·tail m) = λ early. m
+
+module _ (time : ℕ) (es : List Event) where
+  one-back : (e : Event) → time < clockOf (e ∷ es) → OneBack time e es
+  unfolding told
+  one-back (Event.release row cost (accepted serial due)) h = record { reached = omega arith; same-ticks = refl; same-jobs = not-the-newest time (omega arith) }
+  one-back (Event.release row cost (says.ReleaseSays.refused n place)) h = record { reached = omega arith; same-ticks = refl; same-jobs = λ j m early. m }
+  one-back (Event.tick idle late) h =
+      let one : suc (clockOf es) - time ≡ suc (clockOf es - time) = omega arith in
+      record { reached = omega arith; same-ticks = rw one; same-jobs = λ j m early. m }
+  one-back (Event.tick (ran serial finished) late) h =
+      let one : suc (clockOf es) - time ≡ suc (clockOf es - time) = omega arith in
+      record { reached = omega arith; same-ticks = rw one; same-jobs = λ j m early. m }
+  one-back (Event.tick (says.TickSays.refused n place) late) h = record { reached = omega arith; same-ticks = refl; same-jobs = λ j m early. m }
+
+-- The point of a trace at which the clock was at a time.
+record PointAt (time : ℕ) (bytes : List ℕ) (calls : List Call) : Type 0 where
+  before : List Call
+  clock-there : clockOf (trace bytes before) ≡ time
+  ticks-there : ticksOf (trace bytes before) ≡ drop (clockOf (trace bytes calls) - time) (ticksOf (trace bytes calls))
+  jobs-there : (j : Job) → List·Memᴰ j (jobsIn (trace bytes calls)) → j .release < time → List·Memᴰ j (jobsIn (trace bytes before))
+
+-- It may be the last point.
+the-last : (time : ℕ) (bytes : List ℕ) (calls : List Call) → time ≡ clockOf (trace bytes calls) → PointAt time bytes calls
+the-last time bytes calls e =
+    let none : clockOf (trace bytes calls) - time ≡ 0 = omega arith in
+    record { before = calls; clock-there = sym e; ticks-there = rw none; jobs-there = λ j m early. m }
+
+-- Before any call the clock is at 0.
+clock-at-first : (bytes : List ℕ) → clockOf (trace bytes []) ≡ 0
+unfolding trace told
+clock-at-first bytes = refl
+
+-- There is one for every time up to the clock.
+point-at : (time : ℕ) (bytes : List ℕ) (calls : List Call) → time ≤ clockOf (trace bytes calls) → PointAt time bytes calls
+unfolding trace
+point-at time bytes [] h = the-last time bytes [] (omega (arith, clock-at-first bytes))
+point-at time bytes (c ∷ calls) h = by-eq time (clockOf (trace bytes (c ∷ calls)))
+    (λ e. the-last time bytes (c ∷ calls) e)
+    (λ e.
+    let back = one-back time (trace bytes calls) (eventOf (runAt bytes calls) c) (omega arith) in
+    let point = point-at time bytes calls (back .reached) in
+    record {
+      before = point .before;
+      clock-there = point .clock-there;
+      ticks-there = rw (back .same-ticks) (point .ticks-there);
+      jobs-there = λ j m early. point .jobs-there j (back .same-jobs j m early) early;
+    })
+
+-- So a job that is due had its cost before its due time.
+pub in-time-before-due : InTimeBeforeDue
+in-time-before-due bytes ok said calls j m due =
+    let point = point-at (j .due) bytes calls due in
+    let there = point .jobs-there j m (omega (arith, due-times-come bytes ok calls j m .0)) in
+    rw (← point .ticks-there) (in-time bytes ok said (point .before) j there (omega (arith, point .clock-there)))

@@ -1,0 +1,116 @@
+-- A script that a replay ends in 22 was served in time: the replay is a trace, on a feasible table every job of a trace had its cost before its due time, and
+-- the log was written from the trace's finished jobs. (docs/RULES.md, sections 8 and 9.)
+use Prim.Native.Nat.{ℕ, _-_}
+use mathlib.Core.Path.{_≡_, refl, sym, ap, subst, _∙_}
+use mathlib.Core.List.{List, [], _∷_, _++_, map, reverse, List·Memᴰ}
+use native.Mathlib.Omega.{arith}
+use lib.Dec.{leb, eqb}
+use lib.ListN.{length, drop, length-map, length-reverse}
+use Rattle.kinds.proofs.Numbering.{no-answer}
+use Rattle.numbers.specs.Laws.{Bytes}
+use Rattle.theory.specs.Jobs.{Job}
+use Rattle.theory.proofs.Cases.{by-lt, by-test, by-eq}
+use Rattle.jobs.specs.declared.Job.{Job as PendingJob}
+use Rattle.script.specs.declared.Record.{Record}
+use Rattle.script.proofs.Laws.{read-in-one-way}
+use Rattle.log.specs.Laws.{spelledLog}
+use Rattle.replay.specs.declared.Replayed.the-variants as replayed
+use Rattle.play.specs.Play.{Progress, Played, whole, stopped, played}
+use Rattle.play.specs.Late.{lateFinishes}
+use Rattle.replay.specs.Outcome.{answerOf, replayOf, replaySays, logLeft}
+use Rattle.play.specs.Laws.{AskedFor}
+use Rattle.play.proofs.Laws.{every-record-is-accepted}
+use Rattle.host.specs.Answer.{answerLength}
+use Rattle.host.proofs.Answering.{replay-of-another-size, replay-of-sixteen}
+use Rattle.promise.specs.Traces.{Call, trace, clockOf, jobsIn, unfinishedIn}
+use Rattle.promise.specs.Link.{jobOf}
+use Rattle.promise.specs.InTime.{SaidFeasible, unitsBefore}
+use Rattle.promise.specs.Replays.{callsOf, IsTheTrace, ServedInTime, ServedInTimeAtHostCalls}
+use Rattle.promise.proofs.BridgeHolds.{bridge}
+use Rattle.promise.proofs.Choice.{none-pending}
+use Rattle.promise.proofs.Refusals.{pending-count}
+use Rattle.promise.proofs.Share.{share}
+use Rattle.promise.proofs.Earlier.{in-time-before-due}
+use Rattle.promise.proofs.AtHost.{call-said-feasible}
+use Rattle.promise.proofs.Replays.{replays-are-traces}
+
+-- ---- the jobs of a trace that ends with none unfinished
+
+-- Each had its cost before its due time, whether the clock came there or not.
+had-before-due : (bytes : List ℕ) → Bytes bytes → SaidFeasible bytes → (calls : List Call) → unfinishedIn (trace bytes calls) ≡ 0
+    → (j : Job) → List·Memᴰ j (jobsIn (trace bytes calls)) → unitsBefore (j .due) (j .name) (trace bytes calls) ≡ j .cost
+had-before-due bytes fine said calls none j m = by-lt (clockOf (trace bytes calls)) (j .due)
+    (λ early.
+    let b = bridge bytes fine calls in
+    let no-more : clockOf (trace bytes calls) - j .due ≡ 0 = omega arith in
+    rw no-more (none-pending b (pending-count b ∙ none) j m))
+    (λ due. in-time-before-due bytes fine said calls j m due)
+
+-- Jobs that records ask for are as many as the records.
+as-many-as-asked : (time : ℕ) (rs : List Record) (js : List PendingJob) → AskedFor time rs js → length js ≡ length rs
+as-many-as-asked time [] [] asked = refl
+as-many-as-asked time [] (j ∷ js) asked = absurd asked
+as-many-as-asked time (r ∷ rs) [] asked = absurd asked
+as-many-as-asked time (r ∷ rs) (j ∷ js) asked = omega (arith, as-many-as-asked _ rs js (asked .3))
+
+-- ---- a replay that ends in 22
+
+-- It came to its end, and its log had room.
+record EndsIn22 (table script : List ℕ) (room : ℕ) : Type 0 where
+  progress : Progress
+  came-to-its-end : played table script ≡ whole progress
+  answered : replayOf table script room ≡ replayed.InTime (length (spelledLog (progress .since .finishes)))
+
+ends-in-22 : (table script : List ℕ) (room : ℕ) → replaySays (replayOf table script room) .number ≡ 22 → EndsIn22 table script room
+ends-in-22 table script room said = by-play (played table script) refl said
+  where
+    by-play : (p : Played) → played table script ≡ p → replaySays (answerOf room (length script) p) .number ≡ 22 → EndsIn22 table script room
+    by-play (whole p) e n =
+        let fs = p .since .finishes in
+        by-test (leb (length (spelledLog fs)) room)
+        (λ fits. by-test (eqb (lateFinishes fs) 0)
+        (λ none. record { progress = p; came-to-its-end = e; answered = rw (e, fits, none) })
+        (λ late. absurd (let q = rw (fits, late) at n in omega arith)))
+        (λ full. absurd (let q = rw full at n in omega arith))
+    by-play (stopped r) e n = absurd (no-answer (r .refusal) (omega arith) (omega arith))
+
+module _ (table script : List ℕ) (fine : Bytes table) (fine′ : Bytes script) (said : SaidFeasible table) (log : List ℕ) where
+  -- The log holds the jobs that finished.
+  log-left : (end : EndsIn22 table script (length log))
+      → let spelled = spelledLog (end .progress .since .finishes) in logLeft table script log ≡ spelled ++ drop (length spelled) log
+  log-left end = rw (end .answered, end .came-to-its-end)
+
+  -- So the script was served in time.
+  served-in-time : EndsIn22 table script (length log) → ServedInTime table script log (logLeft table script log)
+  served-in-time end =
+      let p = end .progress in
+      let is : IsTheTrace table script p = replays-are-traces table script p fine fine′ (end .came-to-its-end) in
+      let calls = callsOf (is .records) (is .final) in
+      let asked = every-record-is-accepted table script p fine fine′ (end .came-to-its-end) in
+      let same-records : asked .0 ≡ is .records = read-in-one-way script 0 (asked .0) (is .records) (asked .1) (is .are-read) in
+      let many : length (map jobOf (p .accepted)) ≡ length (reverse (jobsIn (trace table calls))) = ap length (is .same-jobs) in
+      record {
+        records = is .records;
+        are-read = is .are-read;
+        final = is .final;
+        none-refused = is .none-refused;
+        one-job-each = omega (
+          arith,
+          many,
+          length-map (p .accepted) jobOf,
+          length-reverse (jobsIn (trace table calls)),
+          as-many-as-asked 0 (asked .0) (p .accepted) (asked .2),
+          ap length same-records,
+        );
+        had-in-time = had-before-due table fine said calls (is .none-unfinished);
+        share = share table fine calls;
+        its-log = subst (λ fs. logLeft table script log ≡ spelledLog fs ++ drop (length (spelledLog fs)) log) (is .same-finishes) (log-left end);
+      }
+
+pub served-in-time-at-host-calls : ServedInTimeAtHostCalls
+served-in-time-at-host-calls table script fine fine′ lent written feasible log answer after left leaves = by-eq (length answer) answerLength
+    (λ sixteen.
+    let told = replay-of-sixteen table script log answer 22 after left sixteen .0 leaves in
+    let said = call-said-feasible table lent written feasible in
+    rw (told .its-log) (served-in-time table script fine fine′ said log (ends-in-22 table script (length log) (sym (told .its-number)))))
+    (λ other. absurd (let thirteen : _≡_ {A = ℕ} 22 13 = sym (leaves .0) ∙ replay-of-another-size table script log answer other .0 in omega arith))

@@ -1,0 +1,46 @@
+-- The jobs that a length names are the paper's. Of each row they are as many as the row's demand in this length counts, all released at zero, each at full
+-- cost, and due as recurrence (1) says; together they cost the table's demand. So no due time among them is a stand-in: each is at most the length.
+-- (docs/RULES.md, section 5.)
+use Prim.Native.Nat.{ℕ, _≤_, _<_}
+use mathlib.Core.Path.{_≡_}
+use mathlib.Core.List.{List}
+use lib.ListN.{length}
+use Rattle.kinds.specs.Numbering.{maxTime}
+use Rattle.numbers.specs.Laws.{Bytes}
+use Rattle.theory.specs.Lists.{All, total}
+use Rattle.theory.specs.Jobs.{Job, DistinctNames}
+use Rattle.theory.specs.Demand.{rowJobs}
+use Rattle.theory.specs.DueTimes.{RecurrenceOne, jth, dues}
+use Rattle.theory.specs.Sources.{own}
+use Rattle.table.specs.declared.Row.{Row}
+use Rattle.table.specs.declared.Table.{Table}
+use Rattle.table.specs.Tables.{tableRead}
+use Rattle.verdict.specs.declared.Verdict.{Verdict}
+use Rattle.verdict.specs.Demand.{tableDemand}
+use Rattle.verdict.specs.Verdict.{Judged, verdictSays}
+use Rattle.run.specs.Runs.{rowAt}
+use Rattle.promise.specs.NoOrder.{namedJobs}
+
+-- These are the jobs of a row that a length L names.
+pub record NamedOfRow (r : Row) (L : ℕ) (js : List Job) : Type 0 where
+  pub as-many : length js ≡ rowJobs (r .x) (r .y) (r .d) L
+  pub at-zero : All (λ j. j .release ≡ 0) js
+  pub at-full-cost : All (λ j. j .cost ≡ r .c) js
+  pub by-the-recurrence : RecurrenceOne (r .x) (r .y) (r .d) (length js) (λ _. 0) (jth (dues js))
+  pub due-within : All (λ j. j .due ≤ L) js
+
+-- These are the jobs of a table that a length L names.
+pub record Named (t : Table) (L : ℕ) (js : List Job) : Type 0 where
+  pub of-its-rows : All (λ j. j .source < t .count) js
+  pub of-each-row : (row : ℕ) → row < t .count → NamedOfRow (rowAt t row) L (own row js)
+  pub distinct : DistinctNames js
+  pub cost-the-demand : total (λ j. j .cost) js ≡ tableDemand t L
+
+-- Every length up to 2^40 names these jobs, of any table.
+abbrev pub NamedJobsAreThePapers : Type 0
+NamedJobsAreThePapers = (bytes : List ℕ) → Bytes bytes → (L : ℕ) → L ≤ maxTime → Named (tableRead bytes .table) L (namedJobs (tableRead bytes .table) L)
+
+-- The length that a verdict names is such a length.
+abbrev pub WitnessIsInTime : Type 0
+WitnessIsInTime = (bytes : List ℕ) → Bytes bytes → (v : Verdict) → Judged bytes v
+    → (L demand : ℕ) → verdictSays v ≡ record { number = 21; first = L; second = demand } → L ≤ maxTime

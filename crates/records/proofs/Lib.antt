@@ -1,0 +1,4 @@
+pub mod Tests
+pub mod Passing
+pub mod Alone
+pub mod Answers

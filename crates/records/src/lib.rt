@@ -1,0 +1,166 @@
+// A record's three numbers, wherever they came from, and their tests, each in its turn. (docs/RULES.md, 7.1 to 7.6 and 8.5.)
+use kinds::Refusal;
+use kinds::RefusedAt;
+use kinds::RowNumber;
+use kinds::Tick;
+use numbers::NumberRead;
+use script::Record;
+use table::CostAnswer;
+use table::CostLimit;
+ghost use mathlib.Core.Path.{_≡_};
+ghost use Prim.Native.Nat.{_+_};
+ghost use lib.Dec.{leb};
+ghost use Rattle.kinds.specs.Numbering.{maxTime};
+ghost use Rattle.records.specs.Numbers.{placedAt, placeAfter, numbersAt, refusedAt, testedBy, recordTested};
+
+// A number of a script: where it starts, and what is read there.
+pub struct Placed {
+    pub place: usize,
+    pub read: NumberRead,
+}
+
+// The three numbers of a record.
+pub struct Numbers {
+    pub gap: Placed,
+    pub row: Placed,
+    pub cost: Placed,
+}
+
+// A release that a record asks for: when, of which row, at which cost; and the place after the record.
+pub struct Ready {
+    pub time: Tick,
+    pub row: RowNumber,
+    pub cost: u64,
+    pub next: usize,
+}
+
+pub enum Tested {
+    Ready(Ready),
+    Refused(RefusedAt),
+}
+
+// A release that a record asks for, where the record stands at no place: when, of which row, at which cost.
+pub struct Asked {
+    pub time: Tick,
+    pub row: RowNumber,
+    pub cost: u64,
+}
+
+pub enum RecordTested {
+    Ready(Asked),
+    Refused(Refusal),
+}
+
+fn placed_at(script: &[u8], at: usize) -> Placed
+    ensures { λ r. ⌜ r ≡ placedAt (now (script .entry)) at ⌝ }
+{
+    let read = script::number_at(script, at);
+    Placed { place: at, read }
+}
+
+// The place after a number, and its own where it can't be read.
+fn place_after(number: Placed) -> usize
+    ensures { λ r. ⌜ r ≡ placeAfter (number .read) (number .place) ⌝ }
+{
+    let read = number.read;
+    match read {
+        NumberRead::Number(n) => n.next,
+        NumberRead::Refused(_) => number.place,
+    }
+}
+
+// The three numbers that stand at a place.
+pub fn numbers_at(script: &[u8], at: usize) -> Numbers
+    ensures { λ r. ⌜ r ≡ numbersAt (now (script .entry)) at ⌝ }
+{
+    let gap = placed_at(script, at);
+    let row = placed_at(script, place_after(gap));
+    let cost = placed_at(script, place_after(row));
+    Numbers { gap, row, cost }
+}
+
+fn refused_at(refusal: Refusal, place: usize) -> Tested
+    ensures { λ r. ⌜ r ≡ refusedAt refusal place ⌝ }
+{
+    Tested::Refused(RefusedAt { refusal, place })
+}
+
+// Whether a time and a gap come to a time of at most 2^40.
+fn in_time(time: Tick, gap: u64) -> bool
+    ensures { λ r. ⌜ r ≡ leb (time .0 + gap) maxTime ⌝ }
+{
+    if Tick::MAX < time.0 {
+        return false;
+    }
+    gap <= Tick::MAX - time.0
+}
+
+// The tests of a record's numbers, each number before the next is looked at: gap 14, 10, row number 14, 6, cost 14, 7. `limits` lends the most that a job of
+// each row may cost.
+pub fn test_numbers(numbers: Numbers, limits: &[u64], time: Tick) -> Tested
+    ensures { λ r. ⌜ r ≡ testedBy (now (limits .entry)) (time .0) numbers ⌝ }
+{
+    let first = numbers.gap;
+    let second = numbers.row;
+    let third = numbers.cost;
+    let gap_read = first.read;
+    let gap = match gap_read {
+        NumberRead::Number(n) => n,
+        NumberRead::Refused(r) => return Tested::Refused(r),
+    };
+    if !in_time(time, gap.value) {
+        return refused_at(Refusal::TimeTooLate, first.place);
+    }
+    let row_read = second.read;
+    let row = match row_read {
+        NumberRead::Number(n) => n,
+        NumberRead::Refused(r) => return Tested::Refused(r),
+    };
+    let number = RowNumber(row.value);
+    let limit = table::limit_of(limits, number);
+    let most = match limit {
+        CostLimit::Units(most) => most,
+        CostLimit::NoSuchRow => return refused_at(Refusal::NoSuchRow, second.place),
+    };
+    let cost_read = third.read;
+    let cost = match cost_read {
+        NumberRead::Number(n) => n,
+        NumberRead::Refused(r) => return Tested::Refused(r),
+    };
+    let answer = CostLimit::Units(most).answer(cost.value);
+    match answer {
+        CostAnswer::Refused(r) => refused_at(r, third.place),
+        CostAnswer::Allowed => {
+            let later = Tick(time.0 + gap.value);
+            Tested::Ready(Ready {
+                time: later,
+                row: number,
+                cost: cost.value,
+                next: cost.next,
+            })
+        }
+    }
+}
+
+// The same tests of a record whose numbers were read already: 10, 6, 7. It stands at no place, so its refusals name none.
+pub fn test_record(release: Record, limits: &[u64], time: Tick) -> RecordTested
+    ensures { λ r. ⌜ r ≡ recordTested (now (limits .entry)) (time .0) release ⌝ }
+{
+    if !in_time(time, release.gap) {
+        return RecordTested::Refused(Refusal::TimeTooLate);
+    }
+    let number = release.row;
+    let limit = table::limit_of(limits, number);
+    let answer = limit.answer(release.cost);
+    match answer {
+        CostAnswer::Refused(r) => RecordTested::Refused(r),
+        CostAnswer::Allowed => {
+            let later = Tick(time.0 + release.gap);
+            RecordTested::Ready(Asked {
+                time: later,
+                row: number,
+                cost: release.cost,
+            })
+        }
+    }
+}

@@ -1,0 +1,148 @@
+-- A record on arrays: the ticks until its time, and its release. (docs/RULES.md, sections 6.6 to 6.9, 8.2 and 8.5.)
+use Prim.Native.Nat.{ℕ, _+_, _≤_, _<_}
+use mathlib.Core.Path.{_≡_, sym, ap, ap₂, _∙_}
+use mathlib.Core.List.{List, [], _∷_, _++_}
+use native.Mathlib.Omega.{arith}
+use borrow.Author.Tests.{lt-ltb}
+use Rattle.kinds.specs.Numbering.{maxTime}
+use Rattle.kinds.specs.declared.Refusal.{Refusal}
+use Rattle.kinds.specs.declared.Refusal.the-variants.{PlacesFull}
+use Rattle.kinds.specs.declared.Serial.{Serial}
+use Rattle.kinds.specs.declared.Tick.{Tick}
+use Rattle.kinds.proofs.Apart.{impossible}
+use Rattle.table.specs.declared.Row.{Row}
+use Rattle.due.specs.declared.Due.{Due}
+use Rattle.due.specs.declared.Due.the-variants as due
+use Rattle.due.specs.Kept.{dueOf}
+use Rattle.jobs.specs.declared.Job.{Job}
+use Rattle.jobs.specs.Places.{maxPlaces}
+use Rattle.columns.specs.declared.PutAnswer.{PutAnswer}
+use Rattle.columns.specs.declared.PutAnswer.the-variants as put
+use Rattle.columns.specs.Columns.{putIn, answerBeside, countAfter}
+use Rattle.rings.specs.Rings.{dueIn, ringsAfter}
+use Rattle.rings.proofs.Holding.{due-is-the-rows, holds-on}
+use Rattle.run.specs.declared.Run.{Run}
+use Rattle.run.specs.declared.ReleaseStep.{ReleaseStep}
+use Rattle.run.specs.declared.Released.the-variants as release
+use Rattle.run.specs.Runs.{rowAt, keptOf}
+use Rattle.run.specs.Release.{newJob, withJob, released}
+use Rattle.run.proofs.Release.{Passed, passes, places-full, due-settles}
+use Rattle.run.proofs.Ticking.{Good, facts}
+use Rattle.records.specs.declared.Ready.{Ready}
+use Rattle.play.specs.Play.{Progress, stops, tickedTo, releasedAt}
+use Rattle.play.proofs.SingleTicks.{TicksFrom}
+use Rattle.play.proofs.OnItsWay.{releasedOn}
+use Rattle.replay.specs.declared.Going.{Going}
+use Rattle.replay.specs.declared.RecordStep.the-variants as step
+use Rattle.replay.specs.Inside.{Held, Stands, LeadsTo, Lists, columnsIn, ringsIn, heldIn, StandsAt, MayRelease, SteppedTo}
+use Rattle.replay.proofs.Arriving.{heldAt, arrived-keeps, stands-arrived, release-accepted, stands-released}
+
+-- Where a place is free, a job that is put in is not refused.
+pub not-full : {A : Type 0} (count : ℕ) → count < maxPlaces → {answer : PutAnswer} → answer ≡ answerBeside count → {refusal : Refusal}
+    → answer ≡ put.Refused refusal → A
+not-full count room {answer} says r =
+    let done : answer ≡ put.Count (count + 1) = says ∙ rw (lt-ltb count maxPlaces room) in
+    impossible cc
+
+module _ {p : Progress} {log₀ : List ℕ} {l : Lists} {g : Going} (w : StandsAt p log₀ l g) {ready : Ready} {row : Row} (may : MayRelease p ready row)
+    (in-time : ready .time .0 ≤ maxTime) {h : Held} (led : LeadsTo (ready .time .0) (heldIn l g) h) (place : ℕ) where
+  -- The play at the record's time.
+  abbrev there : Progress
+  there = tickedTo (ready .time .0) p
+
+  abbrev run : Run
+  run = there .since .run
+
+  ahead : g .clock .0 ≤ ready .time .0
+  ahead = omega (arith, w .stands .clocks, may .ahead)
+
+  stands-there : Stands (there .since) log₀ (heldAt (ready .time .0) h)
+  stands-there = stands-arrived (w .stands) ahead in-time led
+
+  keeps : TicksFrom (p .since) (there .since)
+  keeps = arrived-keeps (w .stands) ahead in-time
+
+  good : Good run
+  good = stands-there .on-its-way .good
+
+  -- Its row number is in use there, and its cost allowed.
+  in-use : ready .row .0 < run .table .count
+  in-use = rw (keeps .same-table) (may .in-use)
+
+  -- What the release answers is what the record comes to.
+  refused-so : {refusal : Refusal} → released run (ready .row .0) (ready .cost) .answer ≡ release.Refused refusal
+      → releasedAt place ready there ≡ stops (record { refusal = refusal; place = place })
+  refused-so e = rw e
+
+  -- All places are in use.
+  pub stops-full : maxPlaces ≤ h .jobs .count → releasedAt place ready there ≡ stops (record { refusal = PlacesFull; place = place })
+  stops-full full =
+      refused-so (ap (λ (x : ReleaseStep). x .answer)
+      (sym (places-full run (ready .row .0) (ready .cost) (good .0) (rw (keeps .same-table) (may .allowed)) (omega (arith, stands-there .counts)))))
+
+  -- A place is free.
+  module _ (room : h .jobs .count < maxPlaces) {d : Due} (given : d ≡ dueIn (ringsIn l) (ready .row .0) row (ready .time .0) (ready .cost)) where
+    passed : Passed run (ready .row .0) (ready .cost)
+    passed = passes run (ready .row .0) (ready .cost) (good .0) (rw (keeps .same-table) (may .allowed)) (omega (arith, stands-there .counts))
+
+    -- The due time is the one by what is kept of the row.
+    due-so : dueOf (keptOf run (ready .row .0)) (rowAt (run .table) (ready .row .0)) (run .clock .0) (ready .cost) ≡ d
+    due-so =
+        rw (keeps .same-table, keeps .same-kept, stands-there .clocks, given, may .its-row)
+        (sym (due-is-the-rows (ringsIn l) (p .since .run .table .count) (p .since .run .table .rows) (p .since .run .kept) (w .kept) (ready .row .0) (ready .time .0)
+        (ready .cost) (may .in-use)))
+
+    -- The due time is too late.
+    pub stops-due : {refusal : Refusal} → d ≡ due.Refused refusal → releasedAt place ready there ≡ stops (record { refusal = refusal; place = place })
+    stops-due {refusal} e =
+        refused-so (ap (λ (x : ReleaseStep). x .answer) (sym (due-settles run (ready .row .0) (ready .cost) passed (due.Refused refusal) (due-so ∙ e))))
+
+    -- The due time is given: it is kept, and the job is put in.
+    module _ {u : Tick} (e : d ≡ due.At u) where
+      -- The job as the code makes it.
+      abbrev job : Job
+      job = record { serial = g .next; row = ready .row; release = ready .time; due = u; cost = ready .cost; left = ready .cost }
+
+      job-so : job ≡ newJob run (ready .row .0) (ready .cost) u
+      job-so =
+          let serial : run .next ≡ g .next = keeps .same-next ∙ w .same-next in
+          let clock : run .clock ≡ ready .time = ap (λ (t : ℕ). record { 0 = t }) (stands-there .clocks) in
+          sym (ap₂ (λ (s : Serial). λ (t : Tick).
+          record { serial = s; row = ready .row; release = t; due = u; cost = ready .cost; left = ready .cost }) serial clock)
+
+      module _ (after : Lists) {answer : PutAnswer} (says : answer ≡ answerBeside (h .jobs .count))
+          (holds : columnsIn after (countAfter answer (h .jobs .count)) ≡ putIn (h .jobs) job) where
+        module _ {more : ℕ} (counts : answer ≡ put.Count more) (kept : ringsIn after ≡ ringsAfter d (ringsIn l) (ready .row .0) row)
+            (logs : after .log ≡ h .log) where
+          -- How far the play has come then.
+          abbrev going : Going
+          going = record { count = more; clock = ready .time; next = record { 0 = g .next .0 + 1 }; logged = h .logged }
+
+          one-more : more ≡ h .jobs .count + 1
+          one-more = let so : answer ≡ put.Count (h .jobs .count + 1) = says ∙ rw (lt-ltb (h .jobs .count) maxPlaces room) in cc
+
+          put-so : columnsIn after more ≡ putIn (h .jobs) (newJob run (ready .row .0) (ready .cost) u)
+          put-so = (rw counts at holds) ∙ ap (putIn (h .jobs)) job-so
+
+          accepted : released run (ready .row .0) (ready .cost) ≡ record {
+            run = withJob run (ready .row .0) (ready .cost) u;
+            answer = release.Accepted (record { serial = run .next; due = u });
+          }
+          accepted = release-accepted stands-there passed (due-so ∙ e)
+
+          -- The play goes on, and stands in the arrays.
+          pub goes-further : SteppedTo (releasedAt place ready there) (ready .next) log₀ after (step.Next going)
+          goes-further = (
+            record {
+              since = releasedOn (there .since) (ready .row .0) (ready .cost);
+              accepted = p .accepted ++ (newJob run (ready .row .0) (ready .cost) u ∷ []);
+            },
+            rw (ap (λ (x : ReleaseStep). x .answer) accepted),
+            record {
+              stands = rw (← logs) at (stands-released stands-there passed (due-so ∙ e) put-so one-more);
+              kept = rw (accepted, kept, e, may .its-row, keeps .same-table, keeps .same-kept)
+                  (holds-on (ringsIn l) (p .since .run .table .count) (p .since .run .table .rows) (p .since .run .kept) (w .kept)
+                  (omega (arith, facts (p .since .run) (w .stands .on-its-way .good) .few-rows, w .stands .on-its-way .good .1 .all-kept)) (ready .row .0) u (may .in-use));
+              same-next = rw (accepted, keeps .same-next, w .same-next);
+            },
+          )

@@ -1,0 +1,97 @@
+// A record that passed its tests: the ticks until its time, and its release. (docs/RULES.md, 6.6 to 6.9, 8.2 and 8.5.)
+use crate::Going;
+use crate::RecordStep;
+use crate::ticks::run_until;
+use columns::PutAnswer;
+use due::Due;
+use jobs::Job;
+use jobs::Pending;
+use kinds::Refusal;
+use kinds::RefusedAt;
+use kinds::Serial;
+use records::Ready;
+use rings::TIMES;
+use table::Row;
+use table::Table;
+ghost use mathlib.Core.Path.{_≡_};
+ghost use lib.ListN.{length};
+ghost use Rattle.replay.specs.Inside.{lists, CanGo, RecordPlayed};
+
+// A record whose numbers passed their tests, of a row of the table. `place` is where the record starts: 8 and 9 are refused there.
+pub(crate) fn play_record(
+    serials: &mut [u64; Pending::PLACES],
+    rows: &mut [u64; Pending::PLACES],
+    releases: &mut [u64; Pending::PLACES],
+    dues: &mut [u64; Pending::PLACES],
+    left: &mut [u64; Pending::PLACES],
+    times: &mut [u64; TIMES],
+    many: &mut [usize; Table::MAX_ROWS],
+    oldest: &mut [usize; Table::MAX_ROWS],
+    log: &mut [u8],
+    going: Going,
+    ready: Ready,
+    row: Row,
+    place: usize,
+) -> RecordStep
+    requires { ⌜ CanGo (lists (now serials) (now rows) (now releases) (now dues) (now left) (now times) (now many) (now oldest) (now log)) going ready ⌝ }
+    ensures { λ r. ⌜ (length (now (log .exit)) ≡ length (now (log .entry)))
+        × RecordPlayed place ready row
+        (lists (now (serials .entry)) (now (rows .entry)) (now (releases .entry)) (now (dues .entry)) (now (left .entry)) (now (times .entry))
+        (now (many .entry)) (now (oldest .entry)) (now (log .entry))) going
+        (lists (now (serials .exit)) (now (rows .exit)) (now (releases .exit)) (now (dues .exit)) (now (left .exit)) (now (times .exit))
+        (now (many .exit)) (now (oldest .exit)) (now (log .exit))) r ⌝ }
+{
+    let time = ready.time;
+    let count = going.count;
+    let clock = going.clock;
+    let logged = going.logged;
+    let reached = run_until(
+        serials,
+        rows,
+        releases,
+        dues,
+        left,
+        log,
+        count,
+        clock,
+        time,
+        logged,
+    );
+    let pending = reached.count;
+    let written = reached.logged;
+    if Pending::PLACES <= pending {
+        return RecordStep::Refused(RefusedAt {
+            refusal: Refusal::PlacesFull,
+            place,
+        });
+    }
+    let number = ready.row;
+    let cost = ready.cost;
+    let given = rings::next_due(times, many, oldest, number, row, time, cost);
+    let due = match given {
+        Due::At(due) => due,
+        Due::Refused(refusal) => return RecordStep::Refused(RefusedAt { refusal, place }),
+    };
+    let serial = going.next;
+    let job = Job {
+        serial,
+        row: number,
+        release: time,
+        due,
+        cost,
+        left: cost,
+    };
+    let answer = columns::put(serials, rows, releases, dues, left, pending, job);
+    match answer {
+        PutAnswer::Refused(refusal) => RecordStep::Refused(RefusedAt { refusal, place }),
+        PutAnswer::Count(more) => {
+            let next = Serial(serial.0 + 1);
+            RecordStep::Next(Going {
+                count: more,
+                clock: time,
+                next,
+                logged: written,
+            })
+        }
+    }
+}

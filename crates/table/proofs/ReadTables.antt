@@ -1,0 +1,155 @@
+-- What rows that were read are, and how a table is read from them. (docs/RULES.md, section 3.)
+use Prim.Native.Nat.{ℕ, zero, suc, _≤_, _<_}
+use mathlib.Core.Path.{_≡_, refl, sym, ap, ap₂, _∙_}
+use mathlib.Core.Bool.{Bool, true, false, cond}
+use mathlib.Core.List.{List, [], _∷_}
+use native.Mathlib.Omega.{arith}
+use lib.Dec.{leb}
+use lib.ListN.{length, take}
+use lib.Seq.{take-append-seam}
+use borrow.Author.Tests.{leb-true, le-leb, lt-leb, lt-ltb, le-ltb}
+use Rattle.kinds.specs.declared.Refusal.{Refusal}
+use Rattle.kinds.specs.declared.Refusal.the-variants.{TooManyRows, ExtraBytes}
+use Rattle.kinds.specs.declared.RefusedAt.{RefusedAt}
+use Rattle.kinds.proofs.Apart.{impossible}
+use Rattle.periods.specs.declared.Period.the-variants as period
+use Rattle.periods.specs.Periods.{periodWithin, periodSays, EachPositive}
+use Rattle.periods.proofs.Periods.{period-means, refused-above}
+use Rattle.numbers.specs.declared.Number.{Number}
+use Rattle.numbers.specs.declared.NumberRead.{NumberRead}
+use Rattle.numbers.specs.declared.NumberRead.the-variants as number
+use Rattle.numbers.specs.Reading.{readAt}
+use Rattle.table.specs.declared.Row.{Row}
+use Rattle.table.specs.declared.RowAt.{RowAt}
+use Rattle.table.specs.declared.RowRead.{RowRead}
+use Rattle.table.specs.declared.RowRead.the-variants as row
+use Rattle.table.specs.declared.RowsRead.{RowsRead}
+use Rattle.table.specs.declared.RowsAnswer.the-variants as answer
+use Rattle.table.specs.declared.TableAnswer.the-variants.{Accepted}
+use Rattle.table.specs.Limits.{maxRows, maxPeriod}
+use Rattle.table.specs.Content.{rowsAlone}
+use Rattle.table.specs.Period.{ysOf, leastCommonMultiple}
+use Rattle.table.specs.Rows.{rowInRange, readRow}
+use Rattle.table.specs.Tables.{heldRows, Rows, rows, refused, inFront, afterRow, readRows, afterCount, rowsFrom, heldAs, tableOf, refusedTable, tableRead}
+use Rattle.table.specs.Laws.{GoodRows}
+use Rattle.table.proofs.Each.{Each, each-none, each-cons, each-mapped}
+use Rattle.table.proofs.Columns.{map-take}
+use Rattle.table.proofs.Ranges.{limits-of}
+use Rattle.table.proofs.Reading.{four-values, row-in-range}
+
+-- ---- what rows that were read are
+
+-- So many rows, each in range.
+record ManyInRange (n : ℕ) (rs : List Row) : Type 0 where
+  many : length rs ≡ n
+  in-range : Each (λ r. rowInRange r ≡ true) rs
+
+-- Rows that are read have a first row.
+pub first-row : (n : ℕ) (s : List ℕ) (v : RowRead) {rs : List Row} {next : ℕ} → afterRow v (λ r after. inFront r (readRows n s after)) ≡ rows rs next
+    → (r : RowAt) × (v ≡ row.Row r) × (inFront (r .row) (readRows n s (r .next)) ≡ rows rs next)
+first-row n s (row.Row r) e = (r, refl, e)
+first-row n s (row.Refused at) e = impossible cc
+
+-- Rows that are read have the others after the first.
+pub other-rows : (r : Row) (v : Rows) {rs : List Row} {next : ℕ} → inFront r v ≡ rows rs next → (qs : List Row) × (v ≡ rows qs next) × (r ∷ qs ≡ rs)
+other-rows r (rows qs next) e = (qs, cc, cc)
+other-rows r (refused at) e = impossible cc
+
+-- Rows that are read are so many, each in range.
+many-in-range : (n : ℕ) (s : List ℕ) (at : ℕ) {rs : List Row} {next : ℕ} → readRows n s at ≡ rows rs next → ManyInRange n rs
+unfolding readRows
+many-in-range zero s at {rs} e = let none : [] ≡ rs = cc in rw (← none) (record { many = refl; in-range = each-none _ })
+many-in-range (suc n) s at e =
+    let f = first-row n s (readRow s at) e in
+    let o = other-rows (f .0 .row) (readRows n s (f .0 .next)) (f .2) in
+    let more = many-in-range n s (f .0 .next) (o .1) in
+    rw (← o .2) (record { many = ap suc (more .many); in-range = each-cons (row-in-range (four-values s at (f .0) (f .1))) (more .in-range) })
+
+-- A count behind which rows are read was read, and is not too large.
+pub record CountRead (s : List ℕ) (v : NumberRead) (rs : List Row) (next : ℕ) : Type 0 where
+  pub count : Number
+  pub was-read : v ≡ number.Number count
+  pub few-rows : count .value ≤ maxRows
+  pub then : readRows (count .value) s (count .next) ≡ rows rs next
+
+pub count-read : (s : List ℕ) (at : ℕ) (v : NumberRead) {rs : List Row} {next : ℕ} → afterCount s at v ≡ rows rs next → CountRead s v rs next
+count-read s at (number.Number n) {rs} {next} e = by-test (leb (n .value) maxRows) refl e
+  where
+    by-test : (b : Bool) → leb (n .value) maxRows ≡ b → cond b (readRows (n .value) s (n .next)) (refused (record { refusal = TooManyRows; place = at })) ≡ rows rs next
+        → CountRead s (number.Number n) rs next
+    by-test true t f = record { count = n; was-read = refl; few-rows = leb-true (n .value) maxRows t; then = f }
+    by-test false t f = impossible cc
+count-read s at (number.Refused r) e = impossible cc
+
+-- Rows that are read behind their count are good.
+pub good-rows : (s : List ℕ) (at : ℕ) {rs : List Row} {next : ℕ} → rowsFrom s at ≡ rows rs next → GoodRows rs
+good-rows s at e =
+    let c = count-read s at (readAt s at) e in
+    let m = many-in-range (c .count .value) s (c .count .next) (c .then) in
+    record { few-rows = omega (arith, m .many, c .few-rows); in-range = m .in-range }
+
+-- ---- a table
+
+-- Rows that were read are held up to the place after them.
+held-until : (v : Rows) (read : RowsRead) (next : ℕ) → read ≡ heldAs v → read .answer ≡ answer.Until next
+    → (rs : List Row) × (v ≡ rows rs next) × (read .rows ≡ heldRows rs) × (read .count ≡ length rs)
+held-until (rows rs at) read next is e = (rs, cc, cc, cc)
+held-until (refused r) read next is e = impossible cc
+
+-- Rows that were refused are held as the refusal.
+held-refused : (v : Rows) (read : RowsRead) (r : RefusedAt) → read ≡ heldAs v → read .answer ≡ answer.Refused r → v ≡ refused r
+held-refused (rows rs at) read r is e = impossible cc
+held-refused (refused q) read r is e = cc
+
+-- Each y of good rows is positive.
+pub some-ys : (rs : List Row) → Each (λ r. rowInRange r ≡ true) rs → EachPositive (ysOf rs)
+some-ys rs h = each-mapped _ (λ (r : Row). r .y) rs (λ r m. limits-of r (h r m) .some-y)
+
+module _ (s : List ℕ) (rs : List Row) (next : ℕ) (read : rowsFrom s 0 ≡ rows rs next) (rest : length s ≤ next) where
+  -- With no extra bytes the table of the rows is accepted, their period within the limit.
+  accepted-of : (h : ℕ) → periodWithin maxPeriod (ysOf rs) ≡ period.Ticks h → record { table = tableOf (rowsAlone rs); answer = Accepted h } ≡ tableRead s
+  accepted-of h e =
+      let means = period-means maxPeriod (ysOf rs) h .0 (ap periodSays e) in
+      let within : leastCommonMultiple (ysOf rs) ≤ maxPeriod = omega (arith, means .1, means .2) in
+      rw (read, le-ltb next (length s) rest, le-leb (leastCommonMultiple (ysOf rs)) maxPeriod within, means .1)
+
+  -- With no extra bytes the table is refused, their period above the limit.
+  too-long-of : (r : Refusal) → periodWithin maxPeriod (ysOf rs) ≡ period.Refused r → refusedTable (record { refusal = r; place = length s }) ≡ tableRead s
+  too-long-of r e =
+      let above = refused-above maxPeriod (ysOf rs) (some-ys rs (good-rows s 0 read .in-range)) r e in
+      rw (read, le-ltb next (length s) rest, above .0, lt-leb (leastCommonMultiple (ysOf rs)) maxPeriod (above .1))
+
+module _ (s : List ℕ) (read : RowsRead) (is : read ≡ heldAs (rowsFrom s 0)) where
+  -- Refused rows are a refused table.
+  pub table-refused : (r : RefusedAt) → read .answer ≡ answer.Refused r → refusedTable r ≡ tableRead s
+  table-refused r e = rw (held-refused (rowsFrom s 0) read r is e)
+
+  module _ (next : ℕ) (until : read .answer ≡ answer.Until next) where
+    -- Extra bytes are refused at the first of them.
+    pub extra-bytes : next < length s → refusedTable (record { refusal = ExtraBytes; place = next }) ≡ tableRead s
+    extra-bytes h = let v = held-until (rowsFrom s 0) read next is until in rw (v .1, lt-ltb next (length s) h)
+
+    -- The rows in use have their places.
+    pub count-fits : read .count ≤ maxRows
+    count-fits = let v = held-until (rowsFrom s 0) read next is until in omega (arith, v .3, good-rows s 0 (v .1) .few-rows)
+
+    module _ (rest : length s ≤ next) {ys : List ℕ} (column : ys ≡ ysOf (read .rows)) where
+      -- The numbers that join H are those of the rows that were read.
+      joining : (rs : List Row) → read .rows ≡ heldRows rs → read .count ≡ length rs → take (read .count) ys ≡ ysOf rs
+      joining rs held many =
+          ap₂ take many (column ∙ ap ysOf held) ∙ sym (map-take (λ (r : Row). r .y) (length rs) (heldRows rs)) ∙ ap ysOf (take-append-seam rs _)
+
+      -- The table is accepted, its period within the limit.
+      pub accepted : (h : ℕ) → periodWithin maxPeriod (take (read .count) ys) ≡ period.Ticks h
+          → record { table = record { rows = read .rows; count = read .count }; answer = Accepted h } ≡ tableRead s
+      accepted h e =
+          let v = held-until (rowsFrom s 0) read next is until in
+          ap₂ (λ held many. record { table = record { rows = held; count = many }; answer = Accepted h }) (v .2) (v .3)
+          ∙ accepted-of s (v .0) next (v .1) rest h (rw (joining (v .0) (v .2) (v .3)) at e)
+
+      -- The table is refused, its period above the limit.
+      pub period-too-long : (r : Refusal) → periodWithin maxPeriod (take (read .count) ys) ≡ period.Refused r
+          → refusedTable (record { refusal = r; place = length s }) ≡ tableRead s
+      period-too-long r e =
+          let v = held-until (rowsFrom s 0) read next is until in
+          too-long-of s (v .0) next (v .1) rest r (rw (joining (v .0) (v .2) (v .3)) at e)

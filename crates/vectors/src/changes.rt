@@ -1,0 +1,99 @@
+// Changes of a run in one thing, as no call would make them: `clock = 1099511627777`. A letter says what is changed. (docs/RULES.md, 6.20 to 6.24.)
+use crate::case::Case;
+use crate::words;
+use jobs::Job;
+use jobs::Pending;
+use kinds::RowNumber;
+use kinds::Serial;
+use kinds::Tick;
+use run::Run;
+use table::Table;
+
+// One change.
+pub fn changed(what: u8, numbers: [u64; Case::NUMBERS], run: Run) -> Run {
+    let a = numbers[0];
+    let b = numbers[1];
+    words::say(words::CHANGED);
+    match what {
+        b'c' => with_clock(run, a),
+        b'n' => with_next(run, a),
+        b'r' => with_rows(run, a as usize),
+        b'y' => with_y(run, a as usize, b),
+        b'p' => with_pending(run, a as usize),
+        b'j' => with_job(run, numbers),
+        b'k' => with_kept(run, a as usize, b as usize, numbers[2]),
+        _ => run,
+    }
+}
+
+// `clock = 5`
+fn with_clock(mut run: Run, clock: u64) -> Run {
+    let moved = Tick(clock);
+    run.clock = moved;
+    run
+}
+
+// `next serial = 1`
+fn with_next(mut run: Run, next: u64) -> Run {
+    let serial = Serial(next);
+    run.next = serial;
+    run
+}
+
+// `rows = 17`, all of them as row 0 is.
+fn with_rows(mut run: Run, count: usize) -> Run {
+    let mut table = run.table;
+    let row = table.rows[0];
+    let rows = [row; Table::MAX_ROWS];
+    table.rows = rows;
+    table.count = count;
+    run.table = table;
+    run
+}
+
+// `y of row 1 = 919`
+fn with_y(mut run: Run, row: usize, y: u64) -> Run {
+    let at = row % Table::MAX_ROWS;
+    let mut table = run.table;
+    let mut its = table.rows[at];
+    its.y = y;
+    table.rows[at] = its;
+    run.table = table;
+    run
+}
+
+// `pending = 65`: so many jobs are counted.
+fn with_pending(mut run: Run, count: usize) -> Run {
+    let mut pending = run.pending;
+    pending.count = count;
+    run.pending = pending;
+    run
+}
+
+// `job 0 = 1, 0, 0, 4, 2, 2`: another job in a place, by its serial, row, release, due time, cost and units left.
+fn with_job(mut run: Run, numbers: [u64; Case::NUMBERS]) -> Run {
+    let mut pending = run.pending;
+    let at = numbers[0] as usize % Pending::PLACES;
+    let job = Job {
+        serial: Serial(numbers[1]),
+        row: RowNumber(numbers[2]),
+        release: Tick(numbers[3]),
+        due: Tick(numbers[4]),
+        cost: numbers[5],
+        left: numbers[6],
+    };
+    pending.places[at] = job;
+    run.pending = pending;
+    run
+}
+
+// `kept 0 = 2, 4`: so many due times are kept of the row, the first of them this one.
+fn with_kept(mut run: Run, row: usize, count: usize, due: u64) -> Run {
+    let at = row % Table::MAX_ROWS;
+    let mut kept = run.kept[at];
+    let first = Tick(due);
+    kept.count = count;
+    kept.times[0] = first;
+    run.kept[at] = kept;
+    run
+}
