@@ -44,8 +44,8 @@ int main(int words, char **word)
 {
     if (words != 3)
         stop(RIG_USAGE, "drive TABLE SCRIPT");
-    table = read_file(word[1]);
-    script = read_file(word[2]);
+    table = read_file(word[1], SIZE_MAX);
+    script = read_file(word[2], SIZE_MAX);
     try_logs();
     try_damage(&table);
     try_damage(&script);

@@ -1,10 +1,13 @@
+#define _XOPEN_SOURCE 700
+
 #include "rig.h"
 
 #include <errno.h>
 #include <stdarg.h>
-#include <stdio.h>
 #include <stdlib.h>
 #include <string.h>
+#include <sys/stat.h>
+#include <unistd.h>
 
 void stop(int status, const char *format, ...)
 {
@@ -18,8 +21,38 @@ void stop(int status, const char *format, ...)
     exit(status);
 }
 
-/* Like realloc, but never null. */
-static void *resize(void *block, size_t size)
+/* How many bytes the printable character at the start of a text takes in UTF-8; 0 where there is none. */
+static size_t printable(const unsigned char *text)
+{
+    if (text[0] < 0x80)
+        return text[0] >= 0x20 && text[0] != 0x7F;
+    size_t length = text[0] >= 0xF0 && text[0] <= 0xF4 ? 4 : text[0] >= 0xE0 && text[0] < 0xF0 ? 3
+                  : text[0] >= 0xC2 && text[0] < 0xE0 ? 2 : 0;
+    for (size_t i = 1; i < length; i++)
+        if (text[i] < 0x80 || text[i] > 0xBF)
+            return 0;
+    return length == 2 && text[0] == 0xC2 && text[1] < 0xA0 ? 0 : length; /* C2 80 to C2 9F are control characters */
+}
+
+const char *shown(const char *name)
+{
+    static char names[3][4 * 4096]; /* as many as one message shows */
+    static size_t next;
+    char *out = names[next++ % 3];
+    size_t length = 0;
+    for (const unsigned char *in = (const unsigned char *)name; *in != '\0' && length + 5 < sizeof names[0];) {
+        size_t characters = printable(in);
+        if (characters == 0)
+            length += (size_t)sprintf(out + length, "\\x%02X", *in++);
+        else
+            for (; characters > 0; characters--)
+                out[length++] = (char)*in++;
+    }
+    out[length] = '\0';
+    return out;
+}
+
+void *resize(void *block, size_t size)
 {
     void *resized = realloc(block, size > 0 ? size : 1);
     if (resized == NULL)
@@ -37,41 +70,108 @@ bool is_standard(const char *path)
     return strcmp(path, "-") == 0;
 }
 
-struct bytes read_file(const char *path)
+/* The files that were opened to be read. */
+enum { MOST_READ = 4 };
+static struct stat files_read[MOST_READ];
+static size_t count_read;
+
+struct source open_source(const char *path)
 {
-    struct bytes content = {NULL, 0};
-    size_t room = 0;
-    FILE *file = is_standard(path) ? stdin : fopen(path, "rb");
-    if (file == NULL)
-        stop(RIG_UNREADABLE, "can't read %s: %s", path, strerror(errno));
-    /* Not by asking for the size first: pipes have none, and a file may grow. */
-    while (!feof(file) && !ferror(file)) {
-        if (content.length == room) {
-            if (room > SIZE_MAX / 2)
-                stop(RIG_NO_MEMORY, "%s is too long to hold", path);
-            room = room > 0 ? 2 * room : 4096;
-            content.at = resize(content.at, room);
+    struct source source = {path, is_standard(path) ? stdin : fopen(path, "rb"), {NULL, 0}, 0, false};
+    if (source.file == NULL || (count_read < MOST_READ && fstat(fileno(source.file), &files_read[count_read]) != 0))
+        stop(RIG_UNREADABLE, "can't read %s: %s", shown(path), strerror(errno));
+    count_read += count_read < MOST_READ;
+    return source;
+}
+
+/* Not by asking for the size first: pipes have none, and a file may grow. */
+void read_on(struct source *source, size_t length)
+{
+    struct bytes *content = &source->content;
+    while (content->length < length && !source->ended) {
+        if (content->length == source->room) {
+            if (source->room > SIZE_MAX / 2)
+                stop(RIG_NO_MEMORY, "%s is too long to hold", shown(source->path));
+            source->room = source->room > 0 ? 2 * source->room : 4096;
+            content->at = resize(content->at, source->room);
         }
-        content.length += fread(content.at + content.length, 1, room - content.length, file);
+        size_t most = source->room < length ? source->room : length;
+        content->length += fread(content->at + content->length, 1, most - content->length, source->file);
+        if (ferror(source->file)) {
+            free(content->at);
+            stop(RIG_UNREADABLE, "can't read %s: %s", shown(source->path), strerror(errno));
+        }
+        source->ended = feof(source->file) != 0;
     }
-    if (ferror(file)) {
-        free(content.at);
-        stop(RIG_UNREADABLE, "can't read %s: %s", path, strerror(errno));
-    }
-    if (file != stdin)
-        fclose(file);
     /* Exactly as long as the content, so that a memory checker sees any step past its end. */
-    content.at = resize(content.at, content.length);
-    return content;
+    content->at = resize(content->at, content->length);
+    source->room = content->length;
+}
+
+void close_source(struct source *source)
+{
+    if (source->file != stdin)
+        fclose(source->file);
+}
+
+struct bytes read_file(const char *path, size_t most)
+{
+    struct source source = open_source(path);
+    read_on(&source, most);
+    close_source(&source);
+    return source.content;
+}
+
+void expect_not_read(const char *path)
+{
+    struct stat file;
+    if ((is_standard(path) ? fstat(STDOUT_FILENO, &file) : stat(path, &file)) != 0 || !S_ISREG(file.st_mode))
+        return; /* there is no such file yet, or it is a device or a pipe */
+    for (size_t i = 0; i < count_read; i++)
+        if (files_read[i].st_dev == file.st_dev && files_read[i].st_ino == file.st_ino)
+            stop(RIG_USAGE, "%s is a file that is read here: it is not written over", shown(path));
+}
+
+/* Writes all of content to a file that is open, and closes it. */
+static bool written(FILE *file, struct bytes content)
+{
+    bool all = fwrite(content.at, 1, content.length, file) == content.length;
+    bool kept = (file == stdout ? fflush(file) : fclose(file)) == 0;
+    return all && kept;
+}
+
+/* A file beside another, with its permissions, to be renamed to it once all is written. The name is in *beside. */
+static FILE *open_beside(const char *path, char **beside)
+{
+    struct stat there;
+    mode_t masked = umask(0);
+    umask(masked);
+    mode_t mode = stat(path, &there) == 0 ? there.st_mode & 07777 : 0666 & ~masked;
+    *beside = allocate(strlen(path) + sizeof ".XXXXXX");
+    sprintf(*beside, "%s.XXXXXX", path);
+    int made = mkstemp(*beside);
+    if (made < 0)
+        return NULL;
+    fchmod(made, mode);
+    return fdopen(made, "wb");
 }
 
 void write_file(const char *path, struct bytes content)
 {
-    FILE *file = is_standard(path) ? stdout : fopen(path, "wb");
+    struct stat there;
+    bool in_place = is_standard(path) || (stat(path, &there) == 0 && !S_ISREG(there.st_mode));
+    char *target = in_place ? NULL : realpath(path, NULL); /* where a link leads; null where there is no file yet */
+    char *beside = NULL;
+    FILE *file = is_standard(path) ? stdout
+               : in_place ? fopen(path, "wb") : open_beside(target != NULL ? target : path, &beside);
     if (file == NULL)
-        stop(RIG_NOT_WRITTEN, "can't write %s: %s", path, strerror(errno));
-    bool written = fwrite(content.at, 1, content.length, file) == content.length;
-    bool kept = (file == stdout ? fflush(file) : fclose(file)) == 0;
-    if (!written || !kept)
-        stop(RIG_NOT_WRITTEN, "can't write %s to its end: %s", path, strerror(errno));
+        stop(RIG_NOT_WRITTEN, "can't write %s: %s", shown(path), strerror(errno));
+    if (!written(file, content) || (!in_place && rename(beside, target != NULL ? target : path) != 0)) {
+        int why = errno;
+        if (!in_place)
+            unlink(beside);
+        stop(RIG_NOT_WRITTEN, "can't write %s to its end: %s", shown(path), strerror(why));
+    }
+    free(beside);
+    free(target);
 }

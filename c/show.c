@@ -1,8 +1,9 @@
 /* `rig show`: the numbers of a table, a script or a log as columns. */
 #include "rig.h"
 
+#include "jyrmekko.h"
+
 #include <inttypes.h>
-#include <stdio.h>
 #include <stdlib.h>
 #include <string.h>
 
@@ -33,7 +34,7 @@ static const struct kind *kind_named(const char *name)
     for (size_t i = 0; i < sizeof kinds / sizeof kinds[0]; i++)
         if (strcmp(kinds[i].name, name) == 0)
             return &kinds[i];
-    stop(RIG_USAGE, "show what? table, script or log, and not '%s'", name);
+    stop(RIG_USAGE, "show what? table, script or log, and not '%s'", shown(name));
 }
 
 /* A file being read record by record. */
@@ -110,20 +111,53 @@ static void print(struct reading *reading)
     printf("%" PRIu64 " %s%s", reading->records, kind->record, reading->records == 1 ? "" : "s");
     if (kind == log_kind)
         printf(", %" PRIu64 " late", late);
-    putchar('\n');
 }
 
-void show(const char *kind_name, const char *path)
+/* Holds a log to the one that the replay gives: a log by itself can't tell whether it was cut between two records. */
+static void hold_to_replay(const char *path, struct bytes log, const char *table_path, const char *script_path)
+{
+    struct replayed replayed = replay_files(table_path, script_path, NULL);
+    struct bytes whole = replayed.log;
+    size_t at = 0;
+    if (replayed.answer.status != JYRMEKKO_IN_TIME && replayed.answer.status != JYRMEKKO_LATE) {
+        putchar('\n');
+        say_refusal(stdout, "replay", replayed.answer);
+        stop(RIG_CONTENT, "%s can't be held to a replay that is refused", shown(path));
+    }
+    while (at < log.length && at < whole.length && log.at[at] == whole.at[at])
+        at++;
+    bool same = at == log.length && at == whole.length;
+    uint64_t jobs = count_numbers(whole) / LOG_NUMBERS;
+    free(whole.at);
+    free(log.at);
+    puts(same ? ", the whole log of this replay" : "");
+    if (!same && at == log.length)
+        stop(RIG_CONTENT, "%s is cut off at byte %zu: the replay's log goes on, and has %" PRIu64 " jobs", shown(path),
+             at, jobs);
+    if (!same)
+        stop(RIG_CONTENT, "%s is not the log of this replay: from byte %zu on they differ", shown(path), at);
+}
+
+void show(const char *kind_name, const char *path, const char *table_path, const char *script_path)
 {
     const struct kind *kind = kind_named(kind_name);
-    struct bytes bytes = read_file(path);
+    struct bytes bytes = read_file(path, SIZE_MAX);
     struct reading reading = start_reading(kind, bytes);
     print(&reading);
-    free(bytes.at);
+    if (reading.damaged || reading.at < bytes.length) {
+        putchar('\n');
+        free(bytes.at);
+    }
     if (reading.damaged)
-        stop(RIG_CONTENT, "%s is no %s: at byte %zu a number is misspelled, too long or cut off", path, kind->name,
-             reading.at);
+        stop(RIG_CONTENT, "%s is no %s: at byte %zu a number is misspelled, too long or cut off", shown(path),
+             kind->name, reading.at);
     if (reading.at < bytes.length)
-        stop(RIG_CONTENT, "%s is no %s: there are bytes after its last %s, from byte %zu on", path, kind->name,
+        stop(RIG_CONTENT, "%s is no %s: there are bytes after its last %s, from byte %zu on", shown(path), kind->name,
              kind->record, reading.at);
+    if (table_path != NULL) {
+        hold_to_replay(path, bytes, table_path, script_path);
+    } else {
+        puts(kind->counted ? "" : ", as far as the file goes");
+        free(bytes.at);
+    }
 }

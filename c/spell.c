@@ -13,47 +13,74 @@ static bool is_space(uint8_t byte)
     return byte == ' ' || (byte >= '\t' && byte <= '\r');
 }
 
-/* Reads the decimal number at *at, as far as it is not too large to be spelled, and moves *at past what was read. */
-static uint64_t read_decimal(struct bytes text, size_t *at)
+/* What is being spelled, byte by byte of its text. */
+struct spelling {
+    struct bytes spelled;
+    size_t room;
+    size_t line;
+    uint64_t value;   /* of the number that the text is in */
+    bool in_number;
+    bool in_comment;
+    bool after_cr;    /* CR and LF end one line together, and either ends one alone */
+    const char *problem;
+};
+
+/* The number that the text was in has ended. */
+static void end_number(struct spelling *spelling)
 {
-    uint64_t value = 0;
-    while (*at < text.length && is_digit(text.at[*at]) && value <= LARGEST_NUMBER)
-        value = 10 * value + (text.at[(*at)++] - '0');
-    return value;
+    if (!spelling->in_number)
+        return;
+    spelling->in_number = false;
+    if (spelling->room - spelling->spelled.length < MOST_GROUPS) {
+        spelling->room = 2 * spelling->room + MOST_GROUPS;
+        spelling->spelled.at = resize(spelling->spelled.at, spelling->room);
+    }
+    spelling->spelled.length += write_number(spelling->spelled.at + spelling->spelled.length, spelling->value);
+    spelling->value = 0;
+}
+
+static void take_byte(struct spelling *spelling, uint8_t byte)
+{
+    bool ends_line = byte == '\r' || (byte == '\n' && !spelling->after_cr);
+    if (is_digit(byte) && !spelling->in_comment) {
+        spelling->in_number = true;
+        spelling->value = 10 * spelling->value + (uint64_t)(byte - '0');
+        if (spelling->value > LARGEST_NUMBER)
+            spelling->problem = "a number is above 2^42 - 1, the largest that can be spelled";
+    } else if (spelling->in_comment || is_space(byte) || byte == '#') {
+        end_number(spelling);
+        spelling->in_comment = (spelling->in_comment || byte == '#') && byte != '\n' && byte != '\r';
+    } else {
+        spelling->problem = "only decimal numbers, and comments that start with #, can be spelled";
+    }
+    spelling->after_cr = byte == '\r';
+    if (ends_line)
+        spelling->line++;
 }
 
 void spell(const char *text_path, const char *out_path)
 {
-    struct bytes text = read_file(text_path);
-    /* A digit is worth less than seven bits, so a spelling has at most as many bytes as its number has digits. */
-    struct bytes spelled = {allocate(text.length), 0};
-    const char *problem = NULL;
-    bool comment = false;
-    size_t line = 1, at = 0;
-    while (at < text.length && problem == NULL) {
-        uint8_t byte = text.at[at];
-        if (byte == '\n') {
-            comment = false;
-            line++;
-            at++;
-        } else if (comment || is_space(byte)) {
-            at++;
-        } else if (byte == '#') {
-            comment = true;
-        } else if (is_digit(byte)) {
-            uint64_t value = read_decimal(text, &at);
-            if (value <= LARGEST_NUMBER)
-                spelled.length += write_number(spelled.at + spelled.length, value);
-            else
-                problem = "a number is above 2^42 - 1, the largest that can be spelled";
-        } else {
-            problem = "only decimal numbers, and comments that start with #, can be spelled";
-        }
+    struct spelling spelling = {{NULL, 0}, 0, 1, 0, false, false, false, NULL};
+    struct source text = open_source(text_path);
+    expect_not_read(out_path);
+    for (size_t at = 0; spelling.problem == NULL; at++) {
+        if (at == text.content.length)
+            read_on(&text, at < 4096 ? 4096 : 2 * at);
+        if (at == text.content.length)
+            break;
+        take_byte(&spelling, text.content.at[at]);
     }
-    if (problem == NULL)
-        write_file(out_path, spelled);
-    free(spelled.at);
-    free(text.at);
-    if (problem != NULL)
-        stop(RIG_CONTENT, "%s, line %zu: %s", text_path, line, problem);
+    close_source(&text);
+    free(text.content.at);
+    if (spelling.problem == NULL) {
+        end_number(&spelling);
+        if (spelling.spelled.length > 0)
+            write_file(out_path, spelling.spelled);
+    }
+    bool nothing = spelling.problem == NULL && spelling.spelled.length == 0;
+    free(spelling.spelled.at);
+    if (nothing)
+        stop(RIG_CONTENT, "%s holds no number: there is nothing to spell", shown(text_path));
+    if (spelling.problem != NULL)
+        stop(RIG_CONTENT, "%s, line %zu: %s", shown(text_path), spelling.line, spelling.problem);
 }

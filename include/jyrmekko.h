@@ -49,6 +49,7 @@ extern "C" {
 #endif
 
 #define JYRMEKKO_ANSWER_SIZE 16
+#define JYRMEKKO_MOST_ROWS 16 /* in a table */
 #define JYRMEKKO_LOG_SIZE(script_len) (10 * (script_len))
 
 /*
