@@ -9,7 +9,7 @@ fn main() {
     let library = env::var_os("JYRMEKKO_LIB").map_or(beside, PathBuf::from);
     println!("cargo:rerun-if-changed={}", library.display());
     if !library.is_file() {
-        println!("cargo:warning=no static library at {}; build it or set JYRMEKKO_LIB", library.display());
+        println!("cargo:warning=there is no static library at {}; build it or set JYRMEKKO_LIB", library.display());
     }
     println!("cargo:rustc-link-arg-bins={}", library.display());
 }

@@ -14,10 +14,10 @@ static void expect(bool kept, const char *rule)
     }
 }
 
-/* A buffer to be written to: between guards, and full of one byte, so that every byte written shows. */
+/* A buffer to be written to. It stands between guards and is full of one byte, so that every byte written shows. */
 struct lent {
     uint8_t *block;
-    uint8_t *at; /* null for length 0 */
+    uint8_t *at; /* This is null for length 0. */
     size_t length;
     uint8_t fill;
 };
@@ -33,7 +33,7 @@ static struct lent lend(size_t length, uint8_t fill)
     return lent;
 }
 
-/* Only the first bytes, as many as written says, may have been written to. */
+/* Expects that at most the first `written` bytes were written to, and frees the buffer. */
 static void take_back(struct lent lent, size_t written)
 {
     size_t size = lent.length + 2 * GUARD;
@@ -43,7 +43,7 @@ static void take_back(struct lent lent, size_t written)
     free(lent.block);
 }
 
-/* A copy that ends where its block ends, so that a memory checker sees any step past it; null for length 0. */
+/* Copies bytes to a block that ends with them, so that a memory checker sees any step past it. Length 0 is null. */
 static struct bytes copy(struct bytes bytes)
 {
     struct bytes copied = {NULL, bytes.length};
@@ -58,12 +58,13 @@ static void expect_only_read(struct bytes lent, struct bytes original)
     free(lent.at);
 }
 
-/* Takes the answer buffer back. Beside 13 nothing is written to it, and both numbers are given as 0. */
+/* Takes the answer buffer back. With 13 nothing is written to it, and both numbers are given as 0. */
 static struct answer read_answer(uint32_t status, struct lent buffer)
 {
     struct answer answer = {status, 0, 0};
     bool refused = status == JYRMEKKO_ANSWER_NOT_16_BYTES;
-    expect(refused == (buffer.length != JYRMEKKO_ANSWER_SIZE), "13 exactly for an answer buffer that has not 16 bytes");
+    expect(refused == (buffer.length != JYRMEKKO_ANSWER_SIZE),
+           "13 is answered exactly when the answer buffer is not 16 bytes long");
     if (!refused)
         answer = answer_of(status, buffer.at);
     take_back(buffer, refused ? 0 : JYRMEKKO_ANSWER_SIZE);
@@ -77,13 +78,13 @@ static bool same(struct answer one, struct answer other)
 
 static bool refuses_table(uint32_t status)
 {
-    return status >= JYRMEKKO_TABLE_MISSPELLED && status <= JYRMEKKO_PERIOD_TOO_LONG;
+    return status >= JYRMEKKO_MISSPELLED && status <= JYRMEKKO_PERIOD_TOO_LONG;
 }
 
 static bool refuses_script(uint32_t status)
 {
     return (status >= JYRMEKKO_NO_SUCH_ROW && status <= JYRMEKKO_TIME_TOO_LATE) ||
-           status == JYRMEKKO_SCRIPT_MISSPELLED || status == JYRMEKKO_LOG_TOO_SHORT;
+           status == JYRMEKKO_SCRIPT_MISSPELLED || status == JYRMEKKO_NO_ROOM;
 }
 
 static bool is_replayed(uint32_t status)
@@ -96,16 +97,16 @@ static void expect_table_refusal(struct answer answer, size_t table_length)
     expect(answer.second == 0, "the second number beside a refusal is 0");
     switch (answer.status) {
     case JYRMEKKO_TOO_MANY_ROWS:
-        expect(answer.first == 0, "2 points at the row count");
+        expect(answer.first == 0, "the place of 2 is 0, the row count's start");
         break;
     case JYRMEKKO_PERIOD_TOO_LONG:
-        expect(answer.first == table_length, "5 points at the table's end");
+        expect(answer.first == table_length, "the place of 5 is the table's length");
         break;
-    case JYRMEKKO_TABLE_MISSPELLED:
-        expect(answer.first <= table_length, "1 points into the table, or at its end");
+    case JYRMEKKO_MISSPELLED:
+        expect(answer.first <= table_length, "the place of 1 is inside the table, or its length");
         break;
     default:
-        expect(answer.first < table_length, "3 and 4 point into the table");
+        expect(answer.first < table_length, "the places of 3 and 4 are inside the table");
     }
 }
 
@@ -129,7 +130,7 @@ static struct answer judge(struct bytes table)
     judge_once(table, JYRMEKKO_ANSWER_SIZE + 1, 0xA5);
     judge_once(table, 0, 0xA5);
     if (answer.status == JYRMEKKO_FEASIBLE)
-        expect(answer.first == 0 && answer.second == 0, "zeros beside 20");
+        expect(answer.first == 0 && answer.second == 0, "both numbers beside 20 are 0");
     else if (answer.status == JYRMEKKO_OVERLOADED)
         expect(answer.first >= 1 && answer.second > answer.first, "the witness's demand is above its length");
     else
@@ -141,19 +142,19 @@ static void expect_script_refusal(struct answer answer, size_t script_length)
 {
     expect(answer.second == 0, "the second number beside a refusal is 0");
     switch (answer.status) {
-    case JYRMEKKO_LOG_TOO_SHORT:
-        expect(answer.first == script_length, "12 points at the script's end");
+    case JYRMEKKO_NO_ROOM:
+        expect(answer.first == script_length, "the place of 12 is the script's length");
         break;
     case JYRMEKKO_TIME_TOO_LATE:
     case JYRMEKKO_SCRIPT_MISSPELLED:
-        expect(answer.first <= script_length, "10 and 14 point into the script, or at its end");
+        expect(answer.first <= script_length, "the places of 10 and 14 are inside the script, or its length");
         break;
     default:
-        expect(answer.first < script_length, "6 to 9 point into the script");
+        expect(answer.first < script_length, "the places of 6 to 9 are inside the script");
     }
 }
 
-/* The log has one record for each release, in order of finishing, and as many late ones as the answer says. */
+/* Expects one log record for each job, in the order of finishing, and as many late ones as the answer says. */
 static void expect_log(struct bytes log, struct bytes script, uint64_t late_answered)
 {
     enum { SERIAL, ROW, RELEASE, DUE, FINISH, NUMBERS };
@@ -170,12 +171,12 @@ static void expect_log(struct bytes log, struct bytes script, uint64_t late_answ
         late += job[FINISH] > job[DUE];
         records++;
     }
-    expect(last_finish <= UINT64_C(1) << 40, "the clock ends at 2^40");
-    expect(records == jobs, "each release of the script has its record in the log");
-    expect(late == late_answered, "the number of late jobs is the log's");
+    expect(last_finish <= UINT64_C(1) << 40, "the clock is at most 2^40");
+    expect(records == jobs, "each job of the script has its record in the log");
+    expect(late == late_answered, "the answer counts as many late jobs as the log has");
 }
 
-/* Where log is not null, it gets a copy of the log, if the replay is not refused. */
+/* Where `log` is not null and the replay is not refused, it gets a copy of the log. */
 static struct answer replay_once(struct bytes table, struct bytes script, size_t log_length, size_t answer_length,
                                  uint8_t fill, struct bytes *log)
 {
@@ -195,7 +196,7 @@ static struct answer replay_once(struct bytes table, struct bytes script, size_t
             *log = copy((struct bytes){lent_log.at, written});
     } else if (status != JYRMEKKO_ANSWER_NOT_16_BYTES) {
         for (size_t i = 0; i < log_length; i++)
-            expect(lent_log.at[i] == 0, "a refusal leaves zeros in the whole log");
+            expect(lent_log.at[i] == 0, "a refusal leaves zeros in the whole log buffer");
         written = log_length;
     }
     take_back(lent_log, written);
@@ -212,7 +213,8 @@ static struct answer replay_with(struct bytes table, struct bytes script, size_t
                (log.length == 0 || memcmp(log.at, again.at, log.length) == 0),
            "a replay depends on nothing that stood in the buffers before");
     if (is_replayed(answer.status)) {
-        expect((answer.status == JYRMEKKO_IN_TIME) == (answer.second == 0), "22 exactly when no job is late");
+        expect((answer.status == JYRMEKKO_IN_TIME) == (answer.second == 0),
+               "22 is answered exactly when no job is late");
         expect_log(log, script, answer.second);
     } else if (refuses_table(answer.status)) {
         expect_table_refusal(answer, table.length);
@@ -225,8 +227,8 @@ static struct answer replay_with(struct bytes table, struct bytes script, size_t
 }
 
 /*
- * The most lengths that a search from 1 up has to look at before it has the verdict; 0 for a table that is refused. The
- * rules promise that the verdict comes, and not how soon, so long searches are not tried here.
+ * Returns how many lengths a search from 1 up has to look at, at most, before it has the verdict. For a table that is
+ * refused this is 0. The rules promise that the verdict comes, and not how soon, so long searches are not tried here.
  */
 static uint64_t search_of(struct bytes table)
 {
@@ -257,7 +259,7 @@ static uint64_t search_of(struct bytes table)
     }
     if (per_period <= period)
         return period + longest;
-    /* A row's demand in L is above units * (L - d) / period, so the table's is above L at this length. */
+    /* A row's demand in L is above units * (L - d) / period, so at this length L the table's demand is above L. */
     return spared / (per_period - period) + 1;
 }
 
@@ -267,11 +269,11 @@ struct answers call_on(struct bytes table, struct bytes script, size_t log_lengt
     struct answer whole = replay_with(table, script, JYRMEKKO_LOG_SIZE(script.length));
     struct answer given = replay_with(table, script, log_length);
     struct answer judged = {0, 0, 0};
-    expect(whole.status != JYRMEKKO_LOG_TOO_SHORT, "a log of ten times the script's length is always long enough");
+    expect(whole.status != JYRMEKKO_NO_ROOM, "no log is longer than ten times its script");
     if (is_replayed(whole.status) && log_length < whole.first)
-        expect(given.status == JYRMEKKO_LOG_TOO_SHORT, "12 where only the log's buffer is too short");
+        expect(given.status == JYRMEKKO_NO_ROOM, "12 is answered where only the log is longer than its buffer");
     else
-        expect(same(given, whole), "the length of the log buffer decides on 12 alone");
+        expect(same(given, whole), "the length of the log buffer decides about 12 only");
     replay_once(table, script, log_length, JYRMEKKO_ANSWER_SIZE - 1, 0xA5, NULL);
     replay_once(table, script, log_length, JYRMEKKO_ANSWER_SIZE + 1, 0xA5, NULL);
     if (search_of(table) < LONG_SEARCH) {

@@ -1,15 +1,15 @@
 # shellcheck shell=bash
-# For the test scripts here: each check is counted, and 'finish' says the last line 'N passed, M failed'.
+# The test scripts use this file. Each check is counted, and 'finish' says the last line 'N passed, M failed'.
 passed=0
 failed=0
 
-# check WHAT STATUS PATTERN COMMAND..: the command exits with STATUS, and all that it says matches PATTERN
+# check WHAT STATUS PATTERN COMMAND..: checks that the command exits with STATUS, and that all it says matches PATTERN.
 check() {
   local what=$1 status=$2 pattern=$3 said got
   shift 3
   said=$("$@" 2>&1)
   got=$?
-  # shellcheck disable=SC2053 # a pattern, and not a text
+  # shellcheck disable=SC2053 # The right side is a pattern, and not a text.
   if [ "$got" -eq "$status" ] && [[ $said == $pattern ]]; then
     passed=$((passed + 1))
   else
@@ -18,7 +18,7 @@ check() {
   fi
 }
 
-# need WHAT COMMAND..: a check without which the others are worth nothing
+# need WHAT COMMAND..: makes a check without which the others are worth nothing, and ends the test where it fails.
 need() {
   local failed_before=$failed
   check "$1" 0 '*' "${@:2}"
@@ -33,10 +33,10 @@ finish() {
   [ "$failed" -eq 0 ]
 }
 
-# bytes HEX..: these bytes, on standard output
+# bytes HEX..: writes these bytes to standard output.
 bytes() {
   local all
   printf -v all '\\x%s' "$@"
-  # shellcheck disable=SC2059 # the bytes are the format
+  # shellcheck disable=SC2059 # The bytes are the format.
   [ $# -eq 0 ] || printf "$all"
 }

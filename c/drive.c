@@ -1,6 +1,6 @@
 /*
- * drive TABLE SCRIPT: the suspicious caller on a table and a script, with a log of every length, and on what damage
- * makes of the two files: each cut short at every byte, and each byte replaced.
+ * drive TABLE SCRIPT: runs the suspicious caller on a table and a script, with a log buffer of every length. Then it
+ * runs it on damaged copies of the two files: each is cut short at every byte, and each of its bytes is replaced.
  */
 #include "caller.h"
 
@@ -23,10 +23,10 @@ static void try_logs(void)
         try(log_length);
 }
 
-/* damaged is the table or the script. */
+/* `damaged` is the table or the script. */
 static void try_damage(struct bytes *damaged)
 {
-    static const uint8_t bytes[] = {0x00, 0x01, 0x7F, 0x80, 0x81, 0xFF}; /* each end of a group, last or not */
+    static const uint8_t bytes[] = {0x00, 0x01, 0x7F, 0x80, 0x81, 0xFF}; /* The ends of a group, last or not. */
     size_t length = damaged->length;
     for (damaged->length = 0; damaged->length < length; damaged->length++)
         try(script.length);
@@ -43,7 +43,7 @@ static void try_damage(struct bytes *damaged)
 int main(int words, char **word)
 {
     if (words != 3)
-        stop(RIG_USAGE, "drive TABLE SCRIPT");
+        stop(RIG_USAGE, "drive is used as: drive TABLE SCRIPT");
     table = read_file(word[1], SIZE_MAX);
     script = read_file(word[2], SIZE_MAX);
     try_logs();

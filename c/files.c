@@ -12,7 +12,7 @@
 void stop(int status, const char *format, ...)
 {
     va_list values;
-    fflush(stdout); /* what was said before comes first, where both go to one place */
+    fflush(stdout); /* What was said before comes first where both streams go to one place. */
     fputs("rig: ", stderr);
     va_start(values, format);
     vfprintf(stderr, format, values);
@@ -21,7 +21,7 @@ void stop(int status, const char *format, ...)
     exit(status);
 }
 
-/* How many bytes the printable character at the start of a text takes in UTF-8; 0 where there is none. */
+/* Returns how many bytes the printable character at the start of a text takes in UTF-8, and 0 where there is none. */
 static size_t printable(const unsigned char *text)
 {
     if (text[0] < 0x80)
@@ -31,12 +31,12 @@ static size_t printable(const unsigned char *text)
     for (size_t i = 1; i < length; i++)
         if (text[i] < 0x80 || text[i] > 0xBF)
             return 0;
-    return length == 2 && text[0] == 0xC2 && text[1] < 0xA0 ? 0 : length; /* C2 80 to C2 9F are control characters */
+    return length == 2 && text[0] == 0xC2 && text[1] < 0xA0 ? 0 : length; /* C2 80 to C2 9F are control characters. */
 }
 
 const char *shown(const char *name)
 {
-    static char names[3][4 * 4096]; /* as many as one message shows */
+    static char names[3][4 * 4096]; /* One message shows at most three names. */
     static size_t next;
     char *out = names[next++ % 3];
     size_t length = 0;
@@ -56,7 +56,7 @@ void *resize(void *block, size_t size)
 {
     void *resized = realloc(block, size > 0 ? size : 1);
     if (resized == NULL)
-        stop(RIG_NO_MEMORY, "no memory for %zu bytes", size);
+        stop(RIG_NO_MEMORY, "there is no memory for %zu bytes", size);
     return resized;
 }
 
@@ -70,7 +70,7 @@ bool is_standard(const char *path)
     return strcmp(path, "-") == 0;
 }
 
-/* The files that were opened to be read. */
+/* These files were opened to be read. */
 enum { MOST_READ = 4 };
 static struct stat files_read[MOST_READ];
 static size_t count_read;
@@ -84,14 +84,14 @@ struct source open_source(const char *path)
     return source;
 }
 
-/* Not by asking for the size first: pipes have none, and a file may grow. */
+/* The size is not asked for first, since pipes have none and a file may grow. */
 void read_on(struct source *source, size_t length)
 {
     struct bytes *content = &source->content;
     while (content->length < length && !source->ended) {
         if (content->length == source->room) {
             if (source->room > SIZE_MAX / 2)
-                stop(RIG_NO_MEMORY, "%s is too long to hold", shown(source->path));
+                stop(RIG_NO_MEMORY, "%s is too long to be held in memory", shown(source->path));
             source->room = source->room > 0 ? 2 * source->room : 4096;
             content->at = resize(content->at, source->room);
         }
@@ -103,7 +103,7 @@ void read_on(struct source *source, size_t length)
         }
         source->ended = feof(source->file) != 0;
     }
-    /* Exactly as long as the content, so that a memory checker sees any step past its end. */
+    /* The block is exactly as long as the content, so that a memory checker sees any step past its end. */
     content->at = resize(content->at, content->length);
     source->room = content->length;
 }
@@ -126,13 +126,13 @@ void expect_not_read(const char *path)
 {
     struct stat file;
     if ((is_standard(path) ? fstat(STDOUT_FILENO, &file) : stat(path, &file)) != 0 || !S_ISREG(file.st_mode))
-        return; /* there is no such file yet, or it is a device or a pipe */
+        return; /* There is no such file yet, or it is a device or a pipe. */
     for (size_t i = 0; i < count_read; i++)
         if (files_read[i].st_dev == file.st_dev && files_read[i].st_ino == file.st_ino)
             stop(RIG_USAGE, "%s is a file that is read here: it is not written over", shown(path));
 }
 
-/* Writes all of content to a file that is open, and closes it. */
+/* Writes all of the content to an open file and closes it. Returns whether all of it was written. */
 static bool written(FILE *file, struct bytes content)
 {
     bool all = fwrite(content.at, 1, content.length, file) == content.length;
@@ -140,7 +140,7 @@ static bool written(FILE *file, struct bytes content)
     return all && kept;
 }
 
-/* A file beside another, with its permissions, to be renamed to it once all is written. The name is in *beside. */
+/* Opens a file beside another, with its permissions, to be renamed to it once all is written. *beside gets its name. */
 static FILE *open_beside(const char *path, char **beside)
 {
     struct stat there;
@@ -160,7 +160,7 @@ void write_file(const char *path, struct bytes content)
 {
     struct stat there;
     bool in_place = is_standard(path) || (stat(path, &there) == 0 && !S_ISREG(there.st_mode));
-    char *target = in_place ? NULL : realpath(path, NULL); /* where a link leads; null where there is no file yet */
+    char *target = in_place ? NULL : realpath(path, NULL); /* A link's target, or null where there is no file yet. */
     char *beside = NULL;
     FILE *file = is_standard(path) ? stdout
                : in_place ? fopen(path, "wb") : open_beside(target != NULL ? target : path, &beside);
@@ -170,7 +170,7 @@ void write_file(const char *path, struct bytes content)
         int why = errno;
         if (!in_place)
             unlink(beside);
-        stop(RIG_NOT_WRITTEN, "can't write %s to its end: %s", shown(path), strerror(why));
+        stop(RIG_NOT_WRITTEN, "can't write all of %s: %s", shown(path), strerror(why));
     }
     free(beside);
     free(target);

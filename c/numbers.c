@@ -8,13 +8,13 @@ bool read_number(struct bytes bytes, size_t *at, uint64_t *value)
         sum |= (uint64_t)(byte & 0x7F) << 7 * group;
         if (byte < 0x80) {
             if (byte == 0 && group > 0)
-                return false; /* a superfluous zero group */
+                return false; /* The last group of a longer number is zero. */
             *at += group + 1;
             *value = sum;
             return true;
         }
     }
-    return false; /* cut off, or the sixth group asks for more */
+    return false; /* The number is cut off, or its sixth group asks for more. */
 }
 
 size_t write_number(uint8_t *out, uint64_t value)

@@ -4,7 +4,7 @@
 #include <stdlib.h>
 #include <string.h>
 
-/* All volatile, so that the compiler neither sees what comes of it nor leaves it out. */
+/* Both are volatile, so that the compiler neither sees what comes of a fault nor leaves it out. */
 static volatile int number = 1;
 static volatile char *volatile block;
 

@@ -1,6 +1,6 @@
 /*
- * The library's two calls on files. A file is read only as far as it can matter: a table as far as the longest table
- * goes, and a script as far as the first thing in it that is refused.
+ * The library's two calls on files. A file is read only as far as it matters: a table up to the length of the longest
+ * table, and a script up to the first thing in it that is refused.
  */
 #include "rig.h"
 
@@ -9,27 +9,30 @@
 #include <inttypes.h>
 #include <stdlib.h>
 
-/* The refusals of the two calls (docs/RULES.md, 10.3): which file the place is in, and what is wrong with it. */
+/*
+ * The refusals of the two calls. Each has the file that its place is in, and says when it is given in the words of the
+ * rules (docs/RULES.md, 10.3).
+ */
 static const struct refusal {
     uint32_t number;
     const char *file;
     const char *why;
 } refusals[] = {
-    {JYRMEKKO_TABLE_MISSPELLED, "table", "a number is misspelled, too long or cut off"},
-    {JYRMEKKO_TOO_MANY_ROWS, "table", "more than 16 rows"},
-    {JYRMEKKO_VALUE_OUT_OF_RANGE, "table", "a row's value is out of range"},
-    {JYRMEKKO_BYTES_AFTER_TABLE, "table", "bytes after the last row"},
-    {JYRMEKKO_PERIOD_TOO_LONG, "table", "the least common multiple of all y is above 1,048,576"},
-    {JYRMEKKO_NO_SUCH_ROW, "script", "the table has no such row"},
+    {JYRMEKKO_MISSPELLED, "table", "a number is misspelled, too long or cut off"},
+    {JYRMEKKO_TOO_MANY_ROWS, "table", "the row count is above 16"},
+    {JYRMEKKO_VALUE_OUT_OF_RANGE, "table", "an x, y, d or c is out of its range"},
+    {JYRMEKKO_EXTRA_BYTES, "table", "there are bytes after the last row"},
+    {JYRMEKKO_PERIOD_TOO_LONG, "table", "H, the least common multiple of all y, is above 1,048,576"},
+    {JYRMEKKO_NO_SUCH_ROW, "script", "the row number is not in use"},
     {JYRMEKKO_COST_OUT_OF_RANGE, "script", "the cost is 0 or above the row's c"},
-    {JYRMEKKO_NO_FREE_PLACE, "script", "64 jobs are pending, and there is no place for one more"},
-    {JYRMEKKO_DUE_TOO_LATE, "script", "the job would be due after tick 2^40"},
-    {JYRMEKKO_TIME_TOO_LATE, "script", "the script or its jobs go on after tick 2^40"},
-    {JYRMEKKO_LOG_TOO_SHORT, "script", "the log is longer than its buffer"},
+    {JYRMEKKO_PLACES_FULL, "script", "64 jobs are pending at this release"},
+    {JYRMEKKO_DUE_TOO_LATE, "script", "the due time would be above 2^40"},
+    {JYRMEKKO_TIME_TOO_LATE, "script", "a script time is above 2^40, or a job is pending at 2^40 after the script"},
+    {JYRMEKKO_NO_ROOM, "script", "the log is longer than its buffer"},
     {JYRMEKKO_SCRIPT_MISSPELLED, "script", "a number is misspelled, too long or cut off"},
 };
 
-/* A status that is no refusal either must never be the exit status: it could read as a pass, or as another answer. */
+/* A status that is no refusal must never be the exit status: it could read as a pass, or as another answer. */
 void say_refusal(FILE *out, const char *call, struct answer answer)
 {
     for (size_t i = 0; i < sizeof refusals / sizeof refusals[0]; i++)
@@ -41,7 +44,7 @@ void say_refusal(FILE *out, const char *call, struct answer answer)
     stop(RIG_NO_ANSWER, "the library's %s says %" PRIu32 ", which is no answer", call, answer.status);
 }
 
-/* As far as a table is ever looked at: a count and four values a row, each at its longest, and one byte too many. */
+/* No more bytes of a table matter: a count and four values for each row, each at its longest, and one extra byte. */
 #define LONGEST_TABLE ((size_t)MOST_GROUPS * (1 + 4 * JYRMEKKO_MOST_ROWS) + 1)
 
 struct answer judge_file(const char *table_path)
@@ -62,29 +65,29 @@ static struct answer replayed(struct bytes table, struct bytes script, struct by
 }
 
 /*
- * Whether what is answered for the first bytes of a script holds for the whole: something that stands in them is
- * refused. Bytes that only end too early are none of that: more may follow.
+ * Returns whether the answer for the first bytes of a script holds for the whole script. It does where something that
+ * stands in them is refused. It does not where these bytes only end too early, since more may follow.
  */
 static bool is_settled(struct answer answer, size_t length)
 {
     switch (answer.status) {
     case JYRMEKKO_IN_TIME:
     case JYRMEKKO_LATE:
-    case JYRMEKKO_LOG_TOO_SHORT:
+    case JYRMEKKO_NO_ROOM:
         return false;
-    case JYRMEKKO_TIME_TOO_LATE: /* at the length: jobs are pending after the last record so far */
+    case JYRMEKKO_TIME_TOO_LATE: /* At the length it only says that jobs are pending after the last record so far. */
         return answer.first < length;
-    case JYRMEKKO_SCRIPT_MISSPELLED: /* at the number's start: it is settled by the longest number's bytes */
+    case JYRMEKKO_SCRIPT_MISSPELLED: /* It is settled once as many bytes as the longest number has are there. */
         return answer.first + MOST_GROUPS <= length;
     default:
         return true;
     }
 }
 
-/* All of the script can be played: so many jobs in time or late, or only no room for their log. */
+/* Returns whether all of the script can be played: its jobs are in time or late, or only their log has no room. */
 static bool is_played(uint32_t status)
 {
-    return status == JYRMEKKO_IN_TIME || status == JYRMEKKO_LATE || status == JYRMEKKO_LOG_TOO_SHORT;
+    return status == JYRMEKKO_IN_TIME || status == JYRMEKKO_LATE || status == JYRMEKKO_NO_ROOM;
 }
 
 struct replayed replay_files(const char *table_path, const char *script_path, const char *out_path)
@@ -96,7 +99,7 @@ struct replayed replay_files(const char *table_path, const char *script_path, co
     struct source script = open_source(script_path);
     if (out_path != NULL)
         expect_not_read(out_path);
-    /* First with no room for a log: that takes no memory, and hides no other refusal. */
+    /* The script is replayed first with no room for a log: that takes no memory, and hides no other refusal. */
     for (size_t look = 1 << 16;; look = look > SIZE_MAX / 2 ? SIZE_MAX : 2 * look) {
         read_on(&script, look);
         result.answer = replayed(table, script.content, result.log);
@@ -106,7 +109,7 @@ struct replayed replay_files(const char *table_path, const char *script_path, co
     close_source(&script);
     if (is_played(result.answer.status)) {
         if (script.content.length > SIZE_MAX / JYRMEKKO_LOG_SIZE(1))
-            stop(RIG_NO_MEMORY, "%s is too long to hold its log", shown(script_path));
+            stop(RIG_NO_MEMORY, "%s is so long that its log can't be held in memory", shown(script_path));
         size_t room = JYRMEKKO_LOG_SIZE(script.content.length);
         result.log = (struct bytes){allocate(room), room};
         result.answer = replayed(table, script.content, result.log);

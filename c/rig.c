@@ -1,6 +1,6 @@
 /*
- * rig: the technician's program, over the library's two calls. Of verdict and replay the exit status is the answer's
- * own number. It never exits with 0, so that no silence reads as a pass.
+ * rig: the technician's program, over the library's two calls. The exit status of verdict and replay is the number of
+ * the answer. The program never exits with 0, so that no silence reads as a pass.
  */
 #include "rig.h"
 
@@ -12,45 +12,45 @@
 #include <string.h>
 
 static const char help[] =
-    "rig verdict TABLE                can the jobs of the table always be done in time?\n"
-    "rig replay TABLE SCRIPT [LOG]    runs the script's releases; LOG gets one record for each job\n"
-    "rig show table|script|log FILE   the numbers of a file, as columns\n"
-    "rig show log LOG TABLE SCRIPT    the same, and whether it is the whole log of that replay\n"
-    "rig spell TEXT OUT               decimal numbers, with # comments, to the bytes of a table or a script\n"
-    "rig demo                         all of it on examples/ (of the script ./rig only)\n"
-    "rig --help                       this page\n"
+    "rig verdict TABLE                says whether the jobs of a table can always be run in time\n"
+    "rig replay TABLE SCRIPT [LOG]    runs the releases of a script, and writes a record for each job to LOG\n"
+    "rig show table|script|log FILE   shows the numbers of a file in columns\n"
+    "rig show log LOG TABLE SCRIPT    shows a log, and says whether it is the whole log of that replay\n"
+    "rig spell TEXT OUT               turns decimal numbers, with # comments, into the bytes of a table or a script\n"
+    "rig demo                         shows all of this on examples/ (only as ./rig demo)\n"
+    "rig --help                       shows this page\n"
     "\n"
-    "For '-' a file is read from standard input, or written to standard output. The bytes of a file are counted from\n"
-    "0. LOG is written only if the answer is 22 or 23. A file that is read is never written over.\n"
+    "A file named '-' is read from standard input, or written to standard output. The bytes of a file are counted\n"
+    "from 0. LOG is written only if the answer is 22 or 23. A file that is read is never written over.\n"
     "\n"
     "Exit status: never 0, so that no silence reads as a pass.\n"
     "\n"
     "  verdict, replay: the number of the answer\n"
-    "    20  feasible                         1 to 5        refused: the table\n"
-    "    21  overloaded                       6 to 10, 14   refused: the script\n"
-    "    22  replayed, all jobs in time\n"
-    "    23  replayed, with late jobs\n"
+    "    20  feasible                         1 to 5        the table is refused\n"
+    "    21  overloaded                       6 to 10, 14   the script is refused\n"
+    "    22  replayed, all in time\n"
+    "    23  replayed, with a finish after its due time\n"
     "    61  replay: the script releases no job, so nothing was played and nothing was tested\n"
     "  show, spell, demo, --help\n"
-    "    60  done; this says nothing about any table\n"
+    "    60  done, which says nothing about any table\n"
     "  all of them\n"
-    "    64  wrong usage\n"
+    "    64  the command is not used as this page says\n"
     "    65  show, spell: the file is not what it was said to be\n"
     "    66  a file can't be read\n"
     "    69  the program can't be built\n"
     "    70  the library gave no answer that it may give, or the demo went wrong\n"
-    "    71  no memory\n"
-    "    74  a file, or what is to be said, can't be written\n";
+    "    71  there is not enough memory\n"
+    "    74  a file or standard output can't be written\n";
 
 static int judge(const char *table_path)
 {
     struct answer answer = judge_file(table_path);
     switch (answer.status) {
     case JYRMEKKO_FEASIBLE:
-        printf("feasible %" PRIu32 ": no length of time has more units due than ticks\n", answer.status);
+        printf("feasible %" PRIu32 ": no length of time has more demand than length\n", answer.status);
         break;
     case JYRMEKKO_OVERLOADED:
-        printf("overloaded %" PRIu32 ": in %" PRIu64 " tick%s, %" PRIu64 " units are due\n", answer.status,
+        printf("overloaded %" PRIu32 ": the demand in %" PRIu64 " tick%s is %" PRIu64 " units\n", answer.status,
                answer.first, answer.first == 1 ? "" : "s", answer.second);
         break;
     default:
@@ -68,7 +68,7 @@ static void say_replayed(FILE *out, struct answer answer, uint64_t jobs)
         fprintf(out, "%" PRIu64 " late\n", answer.second);
 }
 
-/* log_path may be null. */
+/* The path of the log may be null, and then no log is written. */
 static int play(const char *table_path, const char *script_path, const char *log_path)
 {
     struct replayed replayed = replay_files(table_path, script_path, log_path);
@@ -111,7 +111,7 @@ int main(int words, char **word)
     else if (strcmp(command, "--help") == 0 && words == 2)
         fputs(help, stdout);
     else
-        stop(RIG_USAGE, "no such command, or not as it is used; rig --help lists them");
+        stop(RIG_USAGE, "there is no such command, or it is used in another way; rig --help lists the commands");
     if (fflush(stdout) != 0 || ferror(stdout))
         stop(RIG_NOT_WRITTEN, "can't write to standard output: %s", strerror(errno));
     return status;

@@ -1,6 +1,6 @@
 /*
- * The parts of the technician's program. What it says about tables and scripts comes from the library's two calls
- * (include/jyrmekko.h); everything here is about files, numbers and words.
+ * The parts of the technician's program. What the program says about tables and scripts comes from the library's two
+ * calls (include/jyrmekko.h). Everything here is about files, numbers and words.
  */
 #ifndef RIG_H
 #define RIG_H
@@ -11,25 +11,25 @@
 #include <stdio.h>
 
 /*
- * Exit statuses that are no answer of the library. The rules use 1 to 26, and 0 would read as a pass, so none of these
- * is among them. 69 is the script's that builds this program.
+ * These exit statuses are no answers of the library. The rules use 1 to 26, and 0 would read as a pass, so these are
+ * other numbers. 69 belongs to the script that builds this program.
  */
 enum {
-    RIG_DONE = 60,        /* shown, spelled or explained; nothing is said about any table */
-    RIG_NOTHING = 61,     /* replay: the script releases no job, so nothing was tested */
-    RIG_USAGE = 64,
-    RIG_CONTENT = 65,     /* show, spell: the file's content can't be read as what it was said to be */
-    RIG_UNREADABLE = 66,
-    RIG_NO_ANSWER = 70,   /* the library's status is no number of the rules */
-    RIG_NO_MEMORY = 71,
-    RIG_NOT_WRITTEN = 74
+    RIG_DONE = 60,        /* Something was shown, spelled or explained. Nothing is said about any table. */
+    RIG_NOTHING = 61,     /* replay: the script releases no job, so nothing was tested. */
+    RIG_USAGE = 64,       /* The command is not used as the help says. */
+    RIG_CONTENT = 65,     /* show, spell: the file is not what it was said to be. */
+    RIG_UNREADABLE = 66,  /* A file can't be read. */
+    RIG_NO_ANSWER = 70,   /* The library's status is no answer that it may give. */
+    RIG_NO_MEMORY = 71,   /* There is not enough memory. */
+    RIG_NOT_WRITTEN = 74  /* A file or standard output can't be written. */
 };
 
-/* Says why on standard error, and exits. */
+/* Says why on standard error, and exits with the status. */
 __attribute__((noreturn, format(printf, 2, 3)))
 void stop(int status, const char *format, ...);
 
-/* A name as it can be printed: control characters, and bytes that are no text, are written as \xNN. */
+/* Returns a name as it can be printed: control characters, and bytes that are no text, are written as \xNN. */
 const char *shown(const char *name);
 
 struct bytes {
@@ -37,9 +37,9 @@ struct bytes {
     size_t length;
 };
 
-/* files.c: files. Each call stops the program where it can't do what it says. */
+/* files.c: files. Each function stops the program where it can't do what it says. */
 
-/* Never null, for size 0 too. */
+/* These two never return null, not even for size 0. */
 void *allocate(size_t size);
 void *resize(void *block, size_t size);
 
@@ -47,45 +47,45 @@ void *resize(void *block, size_t size);
 struct source {
     const char *path;
     FILE *file;
-    struct bytes content; /* what has been read so far */
+    struct bytes content; /* This has been read so far. */
     size_t room;
-    bool ended; /* content is the whole file */
+    bool ended; /* The content is the whole file. */
 };
 
-/* '-' is standard input. */
+/* Opens a file to be read. '-' is standard input. */
 struct source open_source(const char *path);
 
-/* Reads on until content has so many bytes, or the file ends. */
+/* Reads on until the content has this many bytes, or the file ends. */
 void read_on(struct source *source, size_t length);
 
 void close_source(struct source *source);
 
-/* The whole file, or its first bytes where it has more than `most`. */
+/* Reads the whole file, or its first `most` bytes where it has more. */
 struct bytes read_file(const char *path, size_t most);
 
-/* Stops the program where a file that is to be written is one that was read, whatever its name. */
+/* Stops the program where the file to be written is one that was read, whatever its name. */
 void expect_not_read(const char *path);
 
-/* '-' is standard output. Another file gets its whole content at once, or stays as it was. */
+/* Writes a file. '-' is standard output. Any other file gets its whole content at once, or stays as it was. */
 void write_file(const char *path, struct bytes content);
 
 bool is_standard(const char *path);
 
-/* numbers.c: numbers as bytes (docs/RULES.md, section 2 and 9.4), for people to see. The library uses its own. */
+/* numbers.c: numbers as bytes (docs/RULES.md, 2.1 and 9.4), for people to see. The library has functions of its own. */
 
 enum { MOST_GROUPS = 6 };
 #define LARGEST_NUMBER ((UINT64_C(1) << 7 * MOST_GROUPS) - 1)
 
-/* Reads the number at *at and moves *at past it. False, with both as they were, where none is spelled there. */
+/* Reads the number at *at and moves *at past it. Returns false, with both as they were, where none is spelled there. */
 bool read_number(struct bytes bytes, size_t *at, uint64_t *value);
 
-/* Writes a value of at most LARGEST_NUMBER at the start of out, and returns how many bytes that took. */
+/* Writes a value of at most LARGEST_NUMBER at the start of out, and returns the length of its spelling. */
 size_t write_number(uint8_t *out, uint64_t value);
 
-/* How many numbers well spelled bytes hold: each has one byte with a clear top bit. */
+/* Returns how many numbers well spelled bytes hold. Each number has one byte with a clear top bit. */
 uint64_t count_numbers(struct bytes bytes);
 
-/* What a call of the library answered: its status, and the two numbers of the answer buffer. */
+/* The answer of a call of the library: its status, and the two numbers of the answer buffer. */
 struct answer {
     uint32_t status;
     uint64_t first;
@@ -100,20 +100,20 @@ struct answer judge_file(const char *table_path);
 
 struct replayed {
     struct answer answer;
-    struct bytes log; /* with 22 and 23 exactly the log; else empty */
+    struct bytes log; /* With 22 and 23 this is exactly the log, and else it is empty. */
 };
 
-/* out_path is what will be written, and must be none of the files that are read; it may be null. */
+/* The file at out_path will be written later. It must be none of the files that are read, and the path may be null. */
 struct replayed replay_files(const char *table_path, const char *script_path, const char *out_path);
 
-/* Says a refusal in words. A status that is no refusal stops the program. */
+/* Says a refusal in the words of the rules. A status that is no refusal stops the program. */
 void say_refusal(FILE *out, const char *call, struct answer answer);
 
-enum { LOG_NUMBERS = 5 }; /* in each record of a log */
+enum { LOG_NUMBERS = 5 }; /* Each record of a log has this many numbers. */
 
-/* show.c and spell.c: these two commands. */
+/* show.c and spell.c: the commands show and spell. */
 
-/* table_path and script_path are null, or those of the replay that a log is held to. */
+/* The log is compared with the replay of the table and the script. These two paths are null where there is none. */
 void show(const char *kind, const char *path, const char *table_path, const char *script_path);
 void spell(const char *text, const char *out);
 

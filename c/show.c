@@ -1,4 +1,4 @@
-/* `rig show`: the numbers of a table, a script or a log as columns. */
+/* `rig show`: shows the numbers of a table, a script or a log in columns. */
 #include "rig.h"
 
 #include "jyrmekko.h"
@@ -9,13 +9,13 @@
 
 enum { MOST_COLUMNS = 5 };
 
-/* What the first column shows: a number of the file, the record's own number, or the byte where the record starts. */
+/* The first column shows a number of the file, the record's own number, or the byte where the record starts. */
 enum first_column { FROM_FILE, RECORD_NUMBER, RECORD_PLACE };
 
 struct kind {
     const char *name;
     const char *record;
-    bool counted; /* the file starts with its number of records */
+    bool counted; /* The file starts with its number of records. */
     enum first_column first;
     size_t columns;
     const char *heads[MOST_COLUMNS];
@@ -34,17 +34,17 @@ static const struct kind *kind_named(const char *name)
     for (size_t i = 0; i < sizeof kinds / sizeof kinds[0]; i++)
         if (strcmp(kinds[i].name, name) == 0)
             return &kinds[i];
-    stop(RIG_USAGE, "show what? table, script or log, and not '%s'", shown(name));
+    stop(RIG_USAGE, "show takes a table, a script or a log, and not '%s'", shown(name));
 }
 
-/* A file being read record by record. */
+/* A file that is being read record by record. */
 struct reading {
     const struct kind *kind;
     struct bytes bytes;
     size_t at;
-    uint64_t records; /* read so far */
-    uint64_t wanted;  /* in all, of a counted kind */
-    bool damaged;     /* at stands on a number that can't be read */
+    uint64_t records; /* So many records have been read. */
+    uint64_t wanted;  /* A file that starts with its number of records has so many. */
+    bool damaged;     /* The number at `at` can't be read. */
 };
 
 static struct reading start_reading(const struct kind *kind, struct bytes bytes)
@@ -55,7 +55,7 @@ static struct reading start_reading(const struct kind *kind, struct bytes bytes)
     return reading;
 }
 
-/* Reads one more record into cells. False at the end, and where the record can't be read to its end. */
+/* Reads one more record into cells. Returns false at the end, and where the record can't be read to its end. */
 static bool read_record(struct reading *reading, uint64_t cells[MOST_COLUMNS])
 {
     const struct kind *kind = reading->kind;
@@ -88,7 +88,7 @@ static void measure(struct reading reading, int widths[MOST_COLUMNS])
         }
 }
 
-/* Prints the records that can be read, late jobs marked, and how many they are. */
+/* Prints the records that can be read, with late jobs marked, and then how many they are. */
 static void print(struct reading *reading)
 {
     const struct kind *kind = reading->kind;
@@ -113,7 +113,7 @@ static void print(struct reading *reading)
         printf(", %" PRIu64 " late", late);
 }
 
-/* Holds a log to the one that the replay gives: a log by itself can't tell whether it was cut between two records. */
+/* Compares a log with the one that the replay gives. A log by itself can't tell whether it was cut between records. */
 static void hold_to_replay(const char *path, struct bytes log, const char *table_path, const char *script_path)
 {
     struct replayed replayed = replay_files(table_path, script_path, NULL);
@@ -122,7 +122,7 @@ static void hold_to_replay(const char *path, struct bytes log, const char *table
     if (replayed.answer.status != JYRMEKKO_IN_TIME && replayed.answer.status != JYRMEKKO_LATE) {
         putchar('\n');
         say_refusal(stdout, "replay", replayed.answer);
-        stop(RIG_CONTENT, "%s can't be held to a replay that is refused", shown(path));
+        stop(RIG_CONTENT, "%s can't be compared with a replay that is refused", shown(path));
     }
     while (at < log.length && at < whole.length && log.at[at] == whole.at[at])
         at++;

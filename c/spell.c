@@ -1,4 +1,4 @@
-/* `rig spell`: decimal numbers, written by hand, to the bytes of a table or a script. */
+/* `rig spell`: turns decimal numbers, written by hand, into the bytes of a table or a script. */
 #include "rig.h"
 
 #include <stdlib.h>
@@ -13,19 +13,19 @@ static bool is_space(uint8_t byte)
     return byte == ' ' || (byte >= '\t' && byte <= '\r');
 }
 
-/* What is being spelled, byte by byte of its text. */
+/* The bytes that are being spelled while their text is read byte by byte. */
 struct spelling {
     struct bytes spelled;
     size_t room;
     size_t line;
-    uint64_t value;   /* of the number that the text is in */
+    uint64_t value;   /* This is the value so far of the number that the text is in. */
     bool in_number;
     bool in_comment;
-    bool after_cr;    /* CR and LF end one line together, and either ends one alone */
+    bool after_cr;    /* CR and LF together end one line, and either of them alone does too. */
     const char *problem;
 };
 
-/* The number that the text was in has ended. */
+/* Spells the number that the text was in, if there is one, since it has ended. */
 static void end_number(struct spelling *spelling)
 {
     if (!spelling->in_number)

@@ -1,6 +1,6 @@
 /*
  * The library's two calls, tampered with in the one way that the environment variable TAMPER names, to show that a test
- * sees it. A program is linked with this file and -Wl,--wrap=verdict,--wrap=replay.
+ * sees it. A program that is to be tampered with is linked with this file and -Wl,--wrap=verdict,--wrap=replay.
  */
 #include "jyrmekko.h"
 
@@ -13,9 +13,9 @@ uint32_t __wrap_verdict(const uint8_t *, size_t, uint8_t *, size_t);
 uint32_t __real_replay(const uint8_t *, size_t, const uint8_t *, size_t, uint8_t *, size_t, uint8_t *, size_t);
 uint32_t __wrap_replay(const uint8_t *, size_t, const uint8_t *, size_t, uint8_t *, size_t, uint8_t *, size_t);
 
-enum { FIRST = 0, SECOND = 8 }; /* where the answer's numbers start */
+enum { FIRST = 0, SECOND = 8 }; /* The answer's two numbers start here. */
 
-/* A name that is none of these ends the program: a test that tampers with nothing by mistake would show nothing. */
+/* Any other name ends the program, since a test that tampers with nothing by mistake would show nothing. */
 static bool tampering(const char *name)
 {
     static const char *const names[] = {"nothing", "status", "answer-past-its-end", "answer-beside-13", "second-number",
@@ -34,7 +34,7 @@ static bool is_refusal(uint32_t status)
     return status < JYRMEKKO_FEASIBLE || status > JYRMEKKO_LATE;
 }
 
-/* What can be done to both calls; before is what the answer buffer had for its first byte. */
+/* Tampers in the ways that both calls have. `before` is the first byte of the answer buffer before the call. */
 static uint32_t tampered(uint32_t status, const uint8_t *table, size_t table_len, uint8_t *answer, size_t answer_len,
                          uint8_t before)
 {

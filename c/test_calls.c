@@ -1,6 +1,6 @@
 /*
- * Tests the two calls of jyrmekko.h as a host in C makes them, and as one in C++ does: the file is compiled as both.
- * The last line is 'N passed, M failed'.
+ * Tests the two calls of jyrmekko.h as a host in C and a host in C++ make them. This file is compiled as both. The last
+ * line is 'N passed, M failed'.
  */
 #include "jyrmekko.h"
 
@@ -9,10 +9,10 @@
 
 #define COUNT(array) (sizeof(array) / sizeof((array)[0]))
 
-/* What buffers are filled with beforehand, so that every byte that is written shows. */
+/* Buffers are filled with this byte beforehand, so that every byte that is written shows. */
 #define UNTOUCHED 0xA5
 
-/* 2^40 and numbers near it. */
+/* These are the spellings of 2^40 and of numbers near it. */
 #define LAST_TICK 0x80, 0x80, 0x80, 0x80, 0x80, 0x20
 #define LAST_TICK_PLUS_1 0x81, 0x80, 0x80, 0x80, 0x80, 0x20
 #define LAST_TICK_MINUS_2 0xFE, 0xFF, 0xFF, 0xFF, 0xFF, 0x1F
@@ -59,7 +59,7 @@ static uint64_t number(const uint8_t *eight_bytes)
     return value;
 }
 
-/* A buffer to lend, from bytes + FENCE, with bytes around it that nobody may touch. */
+/* A buffer to lend. It starts at bytes + FENCE, and around it stand bytes that nobody may touch. */
 struct fenced {
     uint8_t bytes[FENCE + MOST_LOG + FENCE];
 };
@@ -82,7 +82,7 @@ static void check_answer(const char *name, const uint8_t *answer, uint64_t first
     check(number(answer + 8) == second, name, "second number");
 }
 
-/* Verdicts. */
+/* ---- verdicts */
 
 struct verdict_case {
     const char *name;
@@ -103,11 +103,11 @@ static const struct verdict_case verdict_cases[] = {
     {"V8", {1, 1, 2, 10, 3}, 5, JYRMEKKO_OVERLOADED, 26, 27},
     {"longest period, 1023 and 1025", {2, 1, 0xFF, 0x07, 1, 1, 1, 0x81, 0x08, 2, 1}, 11, JYRMEKKO_FEASIBLE, 0, 0},
     {"y 4096", {1, 1, 0x80, 0x20, 1, 1}, 6, JYRMEKKO_FEASIBLE, 0, 0},
-    {"no table", {0}, 0, JYRMEKKO_TABLE_MISSPELLED, 0, 0},
-    {"count 80 00", {0x80, 0x00}, 2, JYRMEKKO_TABLE_MISSPELLED, 0, 0},
-    {"cut before x", {1}, 1, JYRMEKKO_TABLE_MISSPELLED, 1, 0},
-    {"cut in d", {1, 1, 2, 0x86}, 4, JYRMEKKO_TABLE_MISSPELLED, 3, 0},
-    {"y of seven groups", {1, 1, 0x81, 0x81, 0x81, 0x81, 0x81, 0x81, 1, 1, 1}, 11, JYRMEKKO_TABLE_MISSPELLED, 2, 0},
+    {"no table", {0}, 0, JYRMEKKO_MISSPELLED, 0, 0},
+    {"count 80 00", {0x80, 0x00}, 2, JYRMEKKO_MISSPELLED, 0, 0},
+    {"cut before x", {1}, 1, JYRMEKKO_MISSPELLED, 1, 0},
+    {"cut in d", {1, 1, 2, 0x86}, 4, JYRMEKKO_MISSPELLED, 3, 0},
+    {"y of seven groups", {1, 1, 0x81, 0x81, 0x81, 0x81, 0x81, 0x81, 1, 1, 1}, 11, JYRMEKKO_MISSPELLED, 2, 0},
     {"17 rows", {17}, 1, JYRMEKKO_TOO_MANY_ROWS, 0, 0},
     {"x 0", {1, 0, 2, 6, 1}, 5, JYRMEKKO_VALUE_OUT_OF_RANGE, 1, 0},
     {"x 65", {1, 65, 2, 6, 1}, 5, JYRMEKKO_VALUE_OUT_OF_RANGE, 1, 0},
@@ -115,7 +115,7 @@ static const struct verdict_case verdict_cases[] = {
     {"d 16385", {1, 1, 2, 0x81, 0x80, 0x01, 1}, 7, JYRMEKKO_VALUE_OUT_OF_RANGE, 3, 0},
     {"c 0", {1, 1, 2, 6, 0}, 5, JYRMEKKO_VALUE_OUT_OF_RANGE, 4, 0},
     {"a bad x beats a misspelled y", {1, 0, 0x80, 0x00}, 4, JYRMEKKO_VALUE_OUT_OF_RANGE, 1, 0},
-    {"bytes after the last row", {1, 1, 2, 6, 1, 0x80, 0x00}, 7, JYRMEKKO_BYTES_AFTER_TABLE, 5, 0},
+    {"bytes after the last row", {1, 1, 2, 6, 1, 0x80, 0x00}, 7, JYRMEKKO_EXTRA_BYTES, 5, 0},
     {"period too long, 1141 and 919", {2, 1, 0xF5, 0x08, 1, 1, 1, 0x97, 0x07, 2, 1}, 11, JYRMEKKO_PERIOD_TOO_LONG, 11, 0},
 };
 
@@ -131,7 +131,7 @@ static void test_verdict(const struct verdict_case *c)
     check(same_bytes(table, c->table, sizeof table), c->name, "table afterwards");
 }
 
-/* Replays. */
+/* ---- replays */
 
 #define V2 {1, 1, 2, 6, 1}, 5
 #define V3 {2, 1, 4, 4, 2, 1, 6, 6, 3}, 9
@@ -149,7 +149,7 @@ struct replay_case {
     size_t log_len;
     uint32_t status;
     uint64_t first, second;
-    /* With 22 and 23: the log, whose length is the first number. */
+    /* With 22 and 23 this is the log, and its length is the first number. */
     uint8_t log[20];
 };
 
@@ -160,29 +160,29 @@ static const struct replay_case replay_cases[] = {
     {"no jobs and no log", {0}, 1, {0}, 0, 0, JYRMEKKO_IN_TIME, 0, 0, {0}},
     {"one job in time", V7, {0, 0, 1}, 3, 9, JYRMEKKO_IN_TIME, 5, 0, {0, 0, 0, 1, 1}},
     {"one of two late", V7, {0, 0, 1, 0, 0, 1}, 6, 20, JYRMEKKO_LATE, 10, 1, {0, 0, 0, 1, 1, 1, 0, 0, 1, 2}},
-    {"due at the last tick", V2, {LAST_TICK_MINUS_6, 0, 1}, 8, 20, JYRMEKKO_IN_TIME, 20, 0,
+    {"due at 2^40", V2, {LAST_TICK_MINUS_6, 0, 1}, 8, 20, JYRMEKKO_IN_TIME, 20, 0,
      {0, 0, LAST_TICK_MINUS_6, LAST_TICK, LAST_TICK_MINUS_5}},
 
-    {"table misspelled", {1, 0x80, 0x00}, 3, R1, 20, JYRMEKKO_TABLE_MISSPELLED, 1, 0, {0}},
+    {"table misspelled", {1, 0x80, 0x00}, 3, R1, 20, JYRMEKKO_MISSPELLED, 1, 0, {0}},
     {"too many rows", {17}, 1, R1, 20, JYRMEKKO_TOO_MANY_ROWS, 0, 0, {0}},
     {"value out of range", {1, 1, 2, 6, 0}, 5, R1, 20, JYRMEKKO_VALUE_OUT_OF_RANGE, 4, 0, {0}},
-    {"bytes after the table", {0, 0}, 2, R1, 20, JYRMEKKO_BYTES_AFTER_TABLE, 1, 0, {0}},
+    {"bytes after the last row", {0, 0}, 2, R1, 20, JYRMEKKO_EXTRA_BYTES, 1, 0, {0}},
     {"period too long", {2, 1, 0xF5, 0x08, 1, 1, 1, 0x97, 0x07, 2, 1}, 11, R1, 20, JYRMEKKO_PERIOD_TOO_LONG, 11, 0, {0}},
 
     {"gap misspelled", V2, {0, 0, 1, 0x80, 0x00, 0, 1}, 7, 20, JYRMEKKO_SCRIPT_MISSPELLED, 3, 0, {0}},
     {"cut before the cost", V2, {0, 0}, 2, 20, JYRMEKKO_SCRIPT_MISSPELLED, 2, 0, {0}},
-    {"time above the last tick", V2, {0, 0, 1, LAST_TICK_PLUS_1}, 9, 20, JYRMEKKO_TIME_TOO_LATE, 3, 0, {0}},
-    {"time at the last tick", V2, {LAST_TICK, 0, 1}, 8, 20, JYRMEKKO_DUE_TOO_LATE, 0, 0, {0}},
-    {"no such row", V2, {0, 1, 1}, 3, 20, JYRMEKKO_NO_SUCH_ROW, 1, 0, {0}},
+    {"script time above 2^40", V2, {0, 0, 1, LAST_TICK_PLUS_1}, 9, 20, JYRMEKKO_TIME_TOO_LATE, 3, 0, {0}},
+    {"script time of 2^40", V2, {LAST_TICK, 0, 1}, 8, 20, JYRMEKKO_DUE_TOO_LATE, 0, 0, {0}},
+    {"row number not in use", V2, {0, 1, 1}, 3, 20, JYRMEKKO_NO_SUCH_ROW, 1, 0, {0}},
     {"no rows at all", {0}, 1, {0, 0, 1}, 3, 20, JYRMEKKO_NO_SUCH_ROW, 1, 0, {0}},
     {"cost 0", V2, {0, 0, 0}, 3, 20, JYRMEKKO_COST_OUT_OF_RANGE, 2, 0, {0}},
     {"cost above c", V2, {0, 0, 1, 1, 0, 2}, 6, 20, JYRMEKKO_COST_OUT_OF_RANGE, 5, 0, {0}},
-    {"due after the last tick", V2, {0, 0, 1, LAST_TICK_MINUS_5, 0, 1}, 11, 20, JYRMEKKO_DUE_TOO_LATE, 3, 0, {0}},
-    {"clock stops the final ticks", HOPELESS, {LAST_TICK_MINUS_2, 0, 3}, 8, 40, JYRMEKKO_TIME_TOO_LATE, 8, 0, {0}},
-    {"log one byte short", V3, R1, 14, JYRMEKKO_LOG_TOO_SHORT, 9, 0, {0}},
-    {"no log", V3, R1, 0, JYRMEKKO_LOG_TOO_SHORT, 9, 0, {0}},
-    {"short log and cut script", V3, {0, 0, 2, 5, 0}, 5, 4, JYRMEKKO_SCRIPT_MISSPELLED, 5, 0, {0}},
-    {"short log and stopped clock", HOPELESS, {0, 0, 1, LAST_TICK_MINUS_2, 0, 3}, 11, 4, JYRMEKKO_TIME_TOO_LATE, 11, 0, {0}},
+    {"due after 2^40", V2, {0, 0, 1, LAST_TICK_MINUS_5, 0, 1}, 11, 20, JYRMEKKO_DUE_TOO_LATE, 3, 0, {0}},
+    {"clock at 2^40 in the final ticks", HOPELESS, {LAST_TICK_MINUS_2, 0, 3}, 8, 40, JYRMEKKO_TIME_TOO_LATE, 8, 0, {0}},
+    {"log one byte short", V3, R1, 14, JYRMEKKO_NO_ROOM, 9, 0, {0}},
+    {"no log", V3, R1, 0, JYRMEKKO_NO_ROOM, 9, 0, {0}},
+    {"short log and script cut off", V3, {0, 0, 2, 5, 0}, 5, 4, JYRMEKKO_SCRIPT_MISSPELLED, 5, 0, {0}},
+    {"short log and clock at 2^40", HOPELESS, {0, 0, 1, LAST_TICK_MINUS_2, 0, 3}, 11, 4, JYRMEKKO_TIME_TOO_LATE, 11, 0, {0}},
 };
 
 static void test_replay(const struct replay_case *c)
@@ -210,7 +210,7 @@ static void test_replay(const struct replay_case *c)
     check(same_bytes(script, c->script, sizeof script), c->name, "script afterwards");
 }
 
-/* The 64th pending job is taken, the 65th is not. */
+/* The 64th pending job is accepted, and the 65th is refused with 8. */
 static void test_places(void)
 {
     static const uint8_t table[] = {1, 64, 1, 1, 1};
@@ -226,13 +226,13 @@ static void test_places(void)
     check(replay(table, sizeof table, script, 3 * 64, log, MOST_LOG, answer, sizeof answer) == JYRMEKKO_LATE,
           "64 jobs", "status");
     check_answer("64 jobs", answer, 64 * 5, 63);
-    check(replay(table, sizeof table, script, 3 * 65, log, MOST_LOG, answer, sizeof answer) == JYRMEKKO_NO_FREE_PLACE,
+    check(replay(table, sizeof table, script, 3 * 65, log, MOST_LOG, answer, sizeof answer) == JYRMEKKO_PLACES_FULL,
           "65 jobs", "status");
     check_answer("65 jobs", answer, 3 * 64, 0);
     check(all_bytes(log, MOST_LOG, 0), "65 jobs", "log, which should be zeros");
 }
 
-/* An answer buffer of another size comes before everything else, and nothing is written. */
+/* An answer buffer that is not 16 bytes long is refused with 13 before every other test, and nothing is written. */
 static void test_answer_size(void)
 {
     static const size_t sizes[] = {0, 1, 8, 15, 17, 32};
@@ -260,7 +260,7 @@ static void test_null(void)
 {
     static const uint8_t empty_table[] = {0};
     uint8_t answer[JYRMEKKO_ANSWER_SIZE];
-    check(verdict(NULL, 0, answer, sizeof answer) == JYRMEKKO_TABLE_MISSPELLED, "null table", "status");
+    check(verdict(NULL, 0, answer, sizeof answer) == JYRMEKKO_MISSPELLED, "null table", "status");
     check_answer("null table", answer, 0, 0);
     check(verdict(empty_table, 1, NULL, 0) == JYRMEKKO_ANSWER_NOT_16_BYTES, "null answer", "status");
     check(replay(empty_table, 1, NULL, 0, NULL, 0, answer, sizeof answer) == JYRMEKKO_IN_TIME,

@@ -1,4 +1,7 @@
-/* The suspicious caller on what libFuzzer makes up. An input is how long a log, how long a table, table, script. */
+/*
+ * Runs the suspicious caller on inputs that libFuzzer makes up. An input has one byte for the length of the log buffer,
+ * one byte for the length of the table, and then the table and the script.
+ */
 #include "caller.h"
 
 #include <stdio.h>
@@ -10,8 +13,8 @@ int LLVMFuzzerTestOneInput(const uint8_t *data, size_t size);
 enum { STATUSES = 32, BITS = 64 };
 
 /*
- * The library is not compiled for the fuzzer, which can't see what an input reaches inside it. So an answer is told as
- * if it were code that was reached: which status, and a first number of how many bits.
+ * The library is not compiled for the fuzzer, which can't see what an input reaches inside it. So each answer is
+ * reported as if it were code that was reached: its status, and how many bits its first number has.
  */
 __attribute__((section("__libfuzzer_extra_counters"))) static uint8_t reached[STATUSES * BITS];
 
@@ -26,7 +29,7 @@ static void note(struct answer answer)
     answered[answer.status]++;
 }
 
-/* A run that only ever saw one refusal has shown little, so it says what it saw. */
+/* Says which answers were seen, since a run that only ever saw one refusal has shown little. */
 static void say_answered(void)
 {
     fputs("answered:", stderr);
@@ -48,7 +51,7 @@ int LLVMFuzzerTestOneInput(const uint8_t *data, size_t size)
     enum { HEAD = 2 };
     if (size < HEAD)
         return 0;
-    uint8_t *rest = (uint8_t *)data + HEAD; /* only read */
+    uint8_t *rest = (uint8_t *)data + HEAD; /* These bytes are only read. */
     size_t rest_length = size - HEAD;
     size_t table_length = data[1] < rest_length ? data[1] : rest_length;
     struct bytes table = {rest, table_length};

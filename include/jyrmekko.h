@@ -1,34 +1,42 @@
 /*
  * jyrmekko.h: the rig's scheduler, for a host in C or C++
  *
- * verdict() says of a table of work whether it can be served in time at every load that it allows. replay() plays a
- * script of releases on a table and writes a log of the jobs. Both end with a status, one of the numbers below. Zero
- * is none of them, and no refusal looks like a yes: test for the status that you want, never against the others.
+ * verdict() says whether a table is feasible: whether its jobs can all be run in time at every load that it allows.
+ * replay() runs a script of releases on a table and writes a log of the jobs. Both return a status, which is one of the
+ * numbers below. Zero is none of them, and no refusal looks like a yes. Test for the status that you want, and never
+ * for the absence of another.
  *
- * Buffers. Each is lent as a pointer and a length in bytes. Buffers of one call must not overlap. A null pointer is
- * allowed with length 0 only. Any bytes may be handed in: nothing has to be checked beforehand. The calls read and
- * write inside these buffers only, keep nothing from one call to the next and share no state, so any number of threads
- * may call at once, each with buffers of its own.
+ * Buffers. Each buffer is lent as a pointer and a length in bytes. The buffers of one call must not overlap. A null
+ * pointer is allowed only with length 0. Any bytes may be handed in, and nothing has to be checked beforehand. The
+ * calls read and write only inside these buffers. They keep nothing from one call to the next and share no state, so
+ * any number of threads may call at once, each with buffers of its own.
  *
- * Numbers in tables, scripts and logs are groups of seven bits, the lowest first, one to a byte; the top bit of a byte
- * is set when another follows. At most 6 groups; the last group of a longer number is not zero. So every number has
- * one spelling: 0 is 00, 127 is 7F, 128 is 80 01, 300 is AC 02. Time is in ticks, from 0 to 2^40.
+ * Numbers. A number in a table, a script or a log is spelled in groups of seven bits, one group a byte, the lowest
+ * group first. The top bit of a byte is set when another byte of the same number follows. A number has at most 6
+ * groups, and the last group of a number with more than one group is not zero. So one number has one spelling: 0 is
+ * 00, 127 is 7F, 128 is 80 01, 300 is AC 02. Time is counted in ticks, from 0 to 2^40.
  *
- * A table is a count of 0 to 16 rows, then x, y, d, c of each row, and nothing after: x executions are expected in any
- * y ticks, each due d ticks after its release, at a cost of at most c ticks. x is 1 to 64, y 1 to 4,096, d 1 to
- * 16,384, c 1 to 4,096; the least common multiple of all y is at most 1,048,576.
+ * Tables. A table is its row count, from 0 to 16, then x, y, d and c of each row, and nothing after. In a row, x
+ * executions are expected in any y ticks, each is due d ticks after its release, and each costs at most c units. One
+ * unit is one tick of the processor. x is 1 to 64, y is 1 to 4,096, d is 1 to 16,384 and c is 1 to 4,096. H, the least
+ * common multiple of the y of all rows, is at most 1,048,576.
  *
- * A script is any number of records of three numbers: gap in ticks since the record before (the first: since 0), row
- * from 0, cost. Each releases one job. At most 64 may be pending at a time. Jobs get their serials from 0 in order of
- * release. The j-th job of a row, released at t, is due at t + d; if j is above x, at the later of that and y after the
- * due time of job j - x. Each tick goes to the pending job that is due first, to the lowest serial among equals.
+ * Scripts. A script is any number of records of three numbers: the gap, which is the time since the last record (for
+ * the first record since 0); the row number, counted from 0; and the cost. A row number is in use when it is below the
+ * table's row count. A record's script time is the sum of all gaps up to and including its own. Each record releases
+ * one job at its script time, and at most 64 jobs may be pending at a time. Jobs get their serials from 0 on, in the
+ * order of release. The j-th job of a row, released at t, is due at t + d. Where j is above x, it is due at the later
+ * of t + d and y ticks after the due time of job j - x. Each tick gives one unit to the pending job with the earliest
+ * due time, and among equal due times to the lowest serial.
  *
- * A log has, per job in order of finishing, five numbers: serial, row, release, due, finish. A job is late if it
- * finishes after it is due; at its due time it is not. A log record takes at most 30 bytes and a script record at
- * least 3, so a log of JYRMEKKO_LOG_SIZE(script_len) bytes is always long enough.
+ * Logs. A log has one record of five numbers for each job, in the order of finishing: serial, row number, release, due
+ * time, finish. A job that finishes after its due time is late, and one that finishes exactly at it is not. A record of
+ * a log takes at most 30 bytes and a record of a script at least 3. So a log buffer of JYRMEKKO_LOG_SIZE(script_len)
+ * bytes is always long enough.
  *
- * The answer buffer has 16 bytes and takes two numbers of eight bytes each, the lowest byte first. For a refusal they
- * are a place and 0. The place counts bytes from the start of the table for 1 to 5, of the script for the others.
+ * Answers. The answer buffer has exactly 16 bytes and takes two numbers of eight bytes each, the lowest byte first. For
+ * a refusal they are its place and 0. A place counts bytes from 0. For 1 to 5 it is a place in the table, and for every
+ * other refusal a place in the script.
  *
  * Example:
  *
@@ -49,67 +57,78 @@ extern "C" {
 #endif
 
 #define JYRMEKKO_ANSWER_SIZE 16
-#define JYRMEKKO_MOST_ROWS 16 /* in a table */
+#define JYRMEKKO_MOST_ROWS 16 /* A table has no more rows than this. */
 #define JYRMEKKO_LOG_SIZE(script_len) (10 * (script_len))
 
 /*
- * The statuses, each with the answer's two numbers or, for a refusal, its place. A number never changes its meaning.
+ * The statuses. The comment on an answer says what the two numbers of the answer buffer are. The comment on a refusal
+ * says when it is given, and then its place. A number never changes its meaning.
  */
 enum jyrmekko_status {
-    /* verdict(): yes and no */
-    JYRMEKKO_FEASIBLE = 20,            /* no length of time has more demand than length: 0, 0 */
-    JYRMEKKO_OVERLOADED = 21,          /* one has: the smallest such length, its demand */
+    /* The answers of verdict(). */
+    JYRMEKKO_FEASIBLE = 20,            /* No length of time has more demand than length. Numbers: 0 and 0. */
+    JYRMEKKO_OVERLOADED = 21,          /* Some length has. Numbers: the smallest such length and its demand. */
 
-    /* replay(): yes and no */
-    JYRMEKKO_IN_TIME = 22,             /* every job finished in time: log length, 0 */
-    JYRMEKKO_LATE = 23,                /* every job finished, but some late: log length, jobs late */
+    /* The answers of replay(). */
+    JYRMEKKO_IN_TIME = 22,             /* All jobs are in time. Numbers: the log's length in bytes, and 0. */
+    JYRMEKKO_LATE = 23,                /* A job is late. Numbers: the log's length in bytes, and how many are late. */
 
-    /* both: the table is refused */
-    JYRMEKKO_TABLE_MISSPELLED = 1,     /* number misspelled, too long or cut off: start of the number */
-    JYRMEKKO_TOO_MANY_ROWS = 2,        /* more than 16 rows: 0 */
-    JYRMEKKO_VALUE_OUT_OF_RANGE = 3,   /* x, y, d or c out of range: start of the number */
-    JYRMEKKO_BYTES_AFTER_TABLE = 4,    /* bytes after the last row: the first of them */
-    JYRMEKKO_PERIOD_TOO_LONG = 5,      /* least common multiple of all y above 1,048,576: table length */
+    /* The refusals of a table, by both calls. */
+    JYRMEKKO_MISSPELLED = 1,           /* A number is misspelled, too long or cut off. Place: the number's start. */
+    JYRMEKKO_TOO_MANY_ROWS = 2,        /* The row count is above 16. Place: 0, the count's start. */
+    JYRMEKKO_VALUE_OUT_OF_RANGE = 3,   /* An x, y, d or c is out of its range. Place: the number's start. */
+    JYRMEKKO_EXTRA_BYTES = 4,          /* There are bytes after the last row. Place: the first extra byte. */
+    JYRMEKKO_PERIOD_TOO_LONG = 5,      /* H is above 1,048,576. Place: the table's length. */
 
-    /* replay(): the script is refused */
-    JYRMEKKO_NO_SUCH_ROW = 6,          /* no such row: start of the row number */
-    JYRMEKKO_COST_OUT_OF_RANGE = 7,    /* cost 0 or above the row's c: start of the cost */
-    JYRMEKKO_NO_FREE_PLACE = 8,        /* 64 jobs pending: start of the record */
-    JYRMEKKO_DUE_TOO_LATE = 9,         /* due time above 2^40: start of the record */
-    JYRMEKKO_TIME_TOO_LATE = 10,       /* record's time above 2^40: start of its gap; */
-                                       /* or jobs still pending at 2^40 after the last record: script length */
-    JYRMEKKO_SCRIPT_MISSPELLED = 14,   /* number misspelled, too long or cut off: start of the number */
+    /* The refusals of a script, by replay(). */
+    JYRMEKKO_NO_SUCH_ROW = 6,          /* The row number is not in use. Place: the row number's start. */
+    JYRMEKKO_COST_OUT_OF_RANGE = 7,    /* The cost is 0 or above the row's c. Place: the cost's start. */
+    JYRMEKKO_PLACES_FULL = 8,          /* 64 jobs are pending at a release. Place: the record's start. */
+    JYRMEKKO_DUE_TOO_LATE = 9,         /* The due time would be above 2^40. Place: the record's start. */
+    JYRMEKKO_TIME_TOO_LATE = 10,       /* A script time is above 2^40. Place: the gap's start. */
+                                       /* Or, after the last record, the clock is at 2^40 with a job pending. Place: */
+                                       /* the script's length. */
+    JYRMEKKO_SCRIPT_MISSPELLED = 14,   /* A number is misspelled, too long or cut off. Place: the number's start. */
 
-    /* a buffer is refused */
-    JYRMEKKO_LOG_TOO_SHORT = 12,       /* replay(): the log is longer than its buffer: script length */
-    JYRMEKKO_ANSWER_NOT_16_BYTES = 13, /* both: nothing is written, no place either */
+    /* The refusals of a buffer. */
+    JYRMEKKO_NO_ROOM = 12,             /* replay(): the log is longer than its buffer. Place: the script's length. */
+    JYRMEKKO_ANSWER_NOT_16_BYTES = 13, /* Both calls: the answer buffer is not 16 bytes long. Nothing is written. */
 
-    /* refusals inside the scheduler, which these two calls never return */
-    JYRMEKKO_RUN_NOT_SOUND = 11,
-    JYRMEKKO_NUMBER_TOO_LARGE = 25
+    /* The refusals inside the scheduler, which these two calls never return. */
+    JYRMEKKO_RUN_NOT_SOUND = 11,       /* The run is not sound. */
+    JYRMEKKO_NUMBER_TOO_BIG = 25       /* A number to write is above 2^42 - 1. */
 };
 
+/* Earlier names of five statuses. They stay, so that a program that uses them still compiles. */
+#define JYRMEKKO_TABLE_MISSPELLED JYRMEKKO_MISSPELLED
+#define JYRMEKKO_BYTES_AFTER_TABLE JYRMEKKO_EXTRA_BYTES
+#define JYRMEKKO_NO_FREE_PLACE JYRMEKKO_PLACES_FULL
+#define JYRMEKKO_LOG_TOO_SHORT JYRMEKKO_NO_ROOM
+#define JYRMEKKO_NUMBER_TOO_LARGE JYRMEKKO_NUMBER_TOO_BIG
+
 /*
- * Is the table feasible?
+ * Says whether the table is feasible.
  *
- * Returns 20 or 21, or a refusal: 13 first, then 1 to 5. The table is tested from left to right, each number as it is
- * read (1, then 2 or 3); then 4; then 5. Writes the answer, but for 13. The table is only read.
+ * It returns 20 or 21, or a refusal. 13 comes first, and then 1 to 5. The table is tested from left to right, each
+ * number as it is read: the row count for 1 and 2, and each x, y, d and c for 1 and 3. After the last row comes 4, and
+ * then 5. Every status but 13 writes the answer buffer. The table is only read.
  *
- * In a length of time L a row can ask for nothing if L is below d, else for ((L - d) / y + 1) * x * c ticks, with the
- * division rounded down. That is its demand; the table's is the sum.
+ * The demand of a row in a length of time L is 0 if L is below d, and otherwise ((L - d) / y + 1) * x * c units, with
+ * the division rounded down. The demand of a table is the sum over its rows.
  */
 uint32_t verdict(const uint8_t *table, size_t table_len, uint8_t *answer, size_t answer_len);
 
 /*
- * Plays a script from clock 0 until its last job has finished. An overloaded table is played as well as a feasible one.
+ * Runs a script from clock 0 until its last job has finished. Overloaded tables are replayed too.
  *
- * Returns 22 or 23, or a refusal: 13 first, then those of the table as in verdict(), then record by record 14 and 10
- * for the gap, 14 and 6 for the row, 14 and 7 for the cost, then 8, 9; after the last record 10; 12 last of all, so a
- * log that is too short hides no other refusal.
+ * It returns 22 or 23, or a refusal. 13 comes first, and then those of the table as in verdict(). Then each record is
+ * tested in turn: the gap for 14 and 10, the row number for 14 and 6, the cost for 14 and 7, and then the release for 8
+ * and 9. After the last record comes 10. 12 comes last of all, so a log buffer that is too short hides no other
+ * refusal.
  *
- * Writes the answer and the log, but for 13, which leaves both as they were. With 22 and 23 the log is written from its
- * start and its bytes past the log length stay as they were. With every other refusal the whole log buffer is filled
- * with zeros. Table and script are only read.
+ * 13 writes nothing, and every other status writes the answer buffer. With 22 and 23 the log stands at the start of its
+ * buffer, and the bytes past the log's length stay as they were. With every refusal but 13 the whole log buffer is
+ * filled with zeros. The table and the script are only read.
  */
 uint32_t replay(const uint8_t *table, size_t table_len,
                 const uint8_t *script, size_t script_len,

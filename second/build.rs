@@ -16,7 +16,7 @@ fn link(variable: &str, file: &str) {
     let library = env::var_os(variable).map_or(beside, PathBuf::from);
     println!("cargo:rerun-if-changed={}", library.display());
     if !library.is_file() {
-        println!("cargo:warning=no static library at {}; build it or set {variable}", library.display());
+        println!("cargo:warning=there is no static library at {}; build it or set {variable}", library.display());
     }
     println!("cargo:rustc-link-arg-tests={}", library.display());
 }

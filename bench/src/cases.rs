@@ -1,22 +1,22 @@
-//! What is measured: tables and scripts, each with the status that it has to end in.
+//! The cases that are measured: tables and scripts, each with the status that it has to end in.
 
 pub struct Case {
     pub group: &'static str,
     pub name: &'static str,
-    /// How much there is to do, in words.
+    /// This says in words how much there is to do.
     pub size: String,
     pub work: Work,
     pub status: u32,
-    /// The answer's first number, where the case is about it.
+    /// This is the answer's first number, where the case is about it.
     pub first: Option<u64>,
-    /// The most that the proved program may take, in times of the plain one.
+    /// The proved program may take at most this many times as long as the plain one.
     pub target: f64,
 }
 
 pub enum Work {
-    /// The verdict on each of these tables.
+    /// Each of these tables gets its verdict.
     Verdicts(Vec<Vec<u8>>),
-    /// A script replayed on a table.
+    /// A script is replayed on a table.
     Replay { table: Vec<u8>, script: Vec<u8> },
 }
 
@@ -33,11 +33,11 @@ pub fn all() -> Vec<Case> {
 }
 
 fn verdicts() -> Vec<Case> {
-    // H = 1,048,575 in both; each row is due in its y, so a sum of x * c / y of at most 1 is feasible.
+    // H is 1,048,575 in both tables. The d of each row is its y, so a sum of x * c / y of at most 1 is feasible.
     let two = [[1, 1023, 1023, 511], [1, 1025, 1025, 512]];
     let periods = [1023, 1025, 825, 775, 615, 465, 451, 341, 275, 205, 165, 155, 123, 93, 75, 33];
     let sixteen: Vec<Row> = periods.iter().map(|&y| [1, y, y, y / 16]).collect();
-    // The sum is 65/64, and no row asks for anything before 16,384: the witness comes late.
+    // The sum of x * c / y is 65/64, and no row has any demand in a length below 16,384, so the witness is long.
     let two_late = [[1, 64, 16_384, 32], [1, 64, 16_384, 33]];
     let mut sixteen_late = [[1, 64, 16_384, 4]; 16];
     sixteen_late[15][3] = 5;
@@ -49,12 +49,12 @@ fn verdicts() -> Vec<Case> {
     ]
 }
 
-/// All lengths are looked at, up to H and the largest d.
+/// The verdict looks at all lengths up to H + the largest d.
 fn feasible(name: &'static str, rows: &[Row], lengths: u64) -> Case {
     Case { status: 20, first: Some(0), ..verdict(name, rows, lengths) }
 }
 
-/// The lengths are looked at up to the witness.
+/// The verdict looks at the lengths up to the witness.
 fn overloaded(name: &'static str, rows: &[Row], witness: u64) -> Case {
     Case { status: 21, first: Some(witness), ..verdict(name, rows, witness) }
 }
@@ -71,16 +71,16 @@ fn replays() -> Vec<Case> {
     let wide = [[64, 1024, 1024, 1]; 16];
     let slow = [[4, 1024, 1024, 16]; 16];
 
-    // Four jobs every eight ticks, two ticks each.
+    // There are four jobs every eight ticks, and each costs two units.
     let few_busy: Vec<_> = (0..n).map(|i| (if i > 0 && i % 4 == 0 { 8 } else { 0 }, i % 4, 2)).collect();
-    // As many jobs as there are places, and one more for each that finishes.
+    // 64 jobs are released at once, and then one more for each that finishes.
     let many_busy: Vec<_> = (0..n).map(|i| (if i < 64 { 0 } else { 1 }, i % 16, 1)).collect();
     let many_slow: Vec<_> = (0..n).map(|i| (if i < 64 { 0 } else { 16 }, i % 16, 16)).collect();
-    // One job at a time, every tick, on sixteen rows that keep 64 due times each.
+    // One job is released every tick, on sixteen rows that keep 64 due times each.
     let wide_busy: Vec<_> = (0..n).map(|i| (if i > 0 { 1 } else { 0 }, i % 16, 1)).collect();
-    // One job at a time, and nothing to do for most of the time.
+    // One job is released at a time, and nothing is pending for most of the time.
     let few_sparse: Vec<_> = (0..n).map(|i| (1_000, i % 4, 2)).collect();
-    // As many jobs as there are places at once, and then nothing to do for most of the time.
+    // 64 jobs are released at once, and then nothing is pending for most of the time.
     let many_sparse: Vec<_> = (0..n).map(|i| (if i % 64 == 0 { 10_000 } else { 0 }, i % 16, 1)).collect();
 
     vec![
@@ -106,7 +106,7 @@ fn replay(name: &'static str, rows: &[Row], records: &[(u64, u64, u64)]) -> Case
     Case { group: "replay", name, size, work, status: 22, first: None, target: 2.0 }
 }
 
-/// Numbers are read in tables of 65 with a byte too many: all are read and tested, and then comes refusal 4.
+/// Numbers are read in tables of 65 numbers with one extra byte. All are read and tested, and then comes refusal 4.
 fn readings() -> Vec<Case> {
     vec![
         reading("numbers of 1 byte", [64, 127, 127, 127]),
@@ -148,7 +148,7 @@ fn spell(bytes: &mut Vec<u8>, mut number: u64) {
     bytes.push(number as u8);
 }
 
-/// 1,048,576 for 1048576.
+/// Writes 1048576 as 1,048,576.
 fn grouped(number: u64) -> String {
     let digits = number.to_string();
     let mut said = String::new();

@@ -1,4 +1,4 @@
-//! The proved program's two calls, as include/jyrmekko.h has them.
+//! These are the proved program's two calls, as include/jyrmekko.h has them.
 
 mod calls {
     extern "C" {

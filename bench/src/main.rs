@@ -1,6 +1,6 @@
-//! Times of the proved program beside those of plain ones: each pair on the same input, by turns in one run, the best
-//! of several rounds of each. Prints a Markdown table. A pair is timed only after its answers were found the same.
-//! What is measured is processor time, so that other programs on the machine count for less.
+//! Measures the proved program beside plain programs, and prints a Markdown table. Each pair gets the same input, by
+//! turns in one run, and the best of several rounds counts. A pair is timed only after its answers were found the same.
+//! Processor time is measured, so that other programs on the machine count for less.
 
 mod cases;
 mod clock;
@@ -12,10 +12,10 @@ use std::env;
 use std::hint::black_box;
 use std::time::Duration;
 
-/// The least number of rounds, and the least time that the rounds of a pair take together.
+/// A pair has at least this many rounds, and its rounds together take at least this time.
 const ROUNDS: usize = 11;
 const TOGETHER: Duration = Duration::from_millis(1_000);
-/// Where this still stands in a log, nothing was written.
+/// A byte of a log buffer that still has this value was not written.
 const UNTOUCHED: u8 = 0xA5;
 
 /// The two calls of one of the programs.
@@ -27,7 +27,7 @@ struct Program {
 const LIBRARY: Program = Program { verdict: library::verdict, replay: library::replay };
 const PLAIN: Program = Program { verdict: plain::verdict, replay: plain::replay };
 
-/// What the calls answered: the status and the answer of each, and the log.
+/// The answers of the calls: the status and the answer buffer of each, and the log.
 #[derive(PartialEq)]
 struct Said {
     answers: Vec<(u32, [u8; 16])>,
@@ -60,7 +60,7 @@ fn main() {
     println!("\nBest of at least {rounds} rounds, by turns; processor time.");
 }
 
-/// One line of the table.
+/// Measures one case, and returns its line of the table.
 fn measure(case: &Case, rounds: usize) -> String {
     let mut proved = Said::nothing(&case.work);
     let mut plain = Said::nothing(&case.work);
@@ -97,7 +97,7 @@ fn time(program: &Program, work: &Work, said: &mut Said) -> Duration {
     clock::now() - start
 }
 
-/// Makes the calls.
+/// Makes the calls of one case on one program.
 fn make(program: &Program, work: &Work, said: &mut Said) {
     match work {
         Work::Verdicts(tables) => {

@@ -1,8 +1,8 @@
 /*
- * The library's calls on a machine whose processor it was not compiled for. The archive is made for x86-64. Elsewhere
- * the tests link client.c in its place, which has the same functions: each hands its arguments to server.c, a program
- * for x86-64 that is linked with the archive and run by an emulator, and hands back what the archive's call answered
- * and wrote. So what is tested is the archive itself.
+ * The library's calls on a machine whose processor it was not compiled for. The archive is made for x86-64. On other
+ * machines the tests link client.c in its place, which has the same functions. Each hands its arguments to server.c, a
+ * program for x86-64 that is linked with the archive and run by an emulator. It hands back what the archive's call
+ * answered and wrote. So the archive itself is tested.
  */
 #ifndef EMULATED_CALLS_H
 #define EMULATED_CALLS_H
@@ -14,17 +14,17 @@ enum call { VERDICT, REPLAY, TRACE, WRITE_NUMBER, CHOOSE };
 
 enum { MOST_LENT = 4, MOST_NUMBERS = 2 };
 
-/* A buffer that a call is lent. */
+/* A buffer that is lent to a call. */
 struct lent {
     uint64_t length;
     uint32_t is_null;
-    uint32_t is_written; /* the call may write to it */
+    uint32_t is_written; /* The call may write to it. */
 };
 
-/* What is handed over ahead of the buffers' bytes. */
+/* A request is handed over ahead of the buffers' bytes. */
 struct request {
     uint32_t call;
-    uint32_t count; /* of buffers */
+    uint32_t count; /* There are so many buffers. */
     uint64_t numbers[MOST_NUMBERS];
     struct lent lent[MOST_LENT];
 };

@@ -1,6 +1,6 @@
 /*
- * The functions of one library, HOST or PROBE as the compiler is told, each handed to the server. SERVER and EMULATOR
- * are their paths.
+ * The functions of one library. The compiler is told which one, HOST or PROBE. Each call is handed to the server.
+ * SERVER and EMULATOR are the paths of the two programs.
  */
 #define _POSIX_C_SOURCE 200809L
 
@@ -14,7 +14,7 @@
 #include <string.h>
 #include <unistd.h>
 
-/* One server for the whole program, and one call at a time. */
+/* There is one server for the whole program, and it takes one call at a time. */
 static pthread_mutex_t one_call = PTHREAD_MUTEX_INITIALIZER;
 static int to_server = -1, from_server = -1;
 
@@ -24,16 +24,16 @@ static void broken(const char *what)
     abort();
 }
 
-/* A pipe whose ends are never the program's standard ones, also where it has closed those. */
+/* Opens a pipe whose ends are never the program's standard streams, even where the program has closed those. */
 static void open_pipe(int ends[2])
 {
     int lower[2];
     if (pipe(lower) != 0)
-        broken("no pipe");
+        broken("no pipe could be opened");
     for (int i = 0; i < 2; i++) {
         ends[i] = fcntl(lower[i], F_DUPFD, STDERR_FILENO + 1);
         if (ends[i] < 0)
-            broken("no pipe");
+            broken("no pipe could be opened");
     }
     close(lower[0]), close(lower[1]);
 }
@@ -45,7 +45,7 @@ static void start_server(void)
     open_pipe(up);
     pid_t child = fork();
     if (child < 0)
-        broken("no process");
+        broken("no process could be started");
     if (child == 0) {
         dup2(down[0], STDIN_FILENO);
         dup2(up[1], STDOUT_FILENO);
@@ -78,11 +78,11 @@ static void receive_all(void *into, size_t length)
     }
 }
 
-/* A buffer of the caller's. */
+/* A buffer that the caller lends. */
 struct buffer {
     const uint8_t *at;
     size_t length;
-    uint8_t *written; /* null where it is only read */
+    uint8_t *written; /* This is null where the buffer is only read. */
 };
 
 static uint32_t call(enum call which, uint64_t first, uint64_t second, const struct buffer *buffers, uint32_t count)
@@ -95,7 +95,7 @@ static uint32_t call(enum call which, uint64_t first, uint64_t second, const str
     }
     uint8_t *message = malloc(length);
     if (message == NULL)
-        broken("no memory");
+        broken("there is not enough memory");
     uint8_t *end = message + sizeof request;
     memcpy(message, &request, sizeof request);
     for (uint32_t i = 0; i < count; i++)

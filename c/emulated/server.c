@@ -1,6 +1,6 @@
 /*
- * Takes calls from standard input until it ends, makes them, and answers on standard output. Around each buffer stand
- * guards, so that a call that writes outside what it was lent is seen.
+ * Takes calls from standard input until that ends, makes them, and answers on standard output. Guards stand around each
+ * buffer, so that a call that writes outside what it was lent is seen.
  */
 #include "calls.h"
 
@@ -22,8 +22,8 @@ uint32_t choose(const uint8_t *, size_t, const uint8_t *, size_t, uint64_t, uint
 enum { GUARD = 64, GUARD_BYTE = 0xA5 };
 
 struct held {
-    uint8_t *block; /* guard, bytes, guard */
-    uint8_t *at;    /* null where the caller's is */
+    uint8_t *block; /* A guard, the bytes, and a guard stand here. */
+    uint8_t *at;    /* This is null where the caller's pointer is. */
     size_t length;
 };
 
@@ -49,7 +49,7 @@ static struct held hold(struct lent lent)
 {
     struct held held = {malloc(lent.length + 2 * GUARD), NULL, lent.length};
     if (held.block == NULL)
-        broken("no memory");
+        broken("there is not enough memory");
     memset(held.block, GUARD_BYTE, lent.length + 2 * GUARD);
     receive(held.block + GUARD, lent.length);
     if (!lent.is_null)
@@ -84,7 +84,7 @@ static uint64_t make(enum call call, const uint64_t *numbers, const struct held 
                       b[3].length);
 #endif
     default:
-        broken("no such call");
+        broken("there is no such call");
         return 0;
     }
 }
@@ -98,7 +98,7 @@ int main(void)
             held[i] = hold(request.lent[i]);
             original[i].block = malloc(held[i].length + 1);
             if (original[i].block == NULL)
-                broken("no memory");
+                broken("there is not enough memory");
             memcpy(original[i].block, held[i].block + GUARD, held[i].length);
         }
         uint64_t result = make((enum call)request.call, request.numbers, held);

@@ -1,4 +1,4 @@
-//! Two scripts read side by side: whose next record comes first?
+//! The chooser says which of two scripts has the record that comes next.
 
 use crate::refusal::{Reason, Refusal};
 use crate::run::LAST_TICK;
@@ -10,11 +10,11 @@ pub enum Which {
     Second = 2,
 }
 
-/// Whose record comes next, and the record's bytes, a part of that script: nobody's, and an empty part of the first,
-/// when both have ended.
+/// This says which script's record comes next, with the record's bytes as a part of that script. When both scripts have
+/// ended it is no script, with an empty part of the first.
 pub type Next<'a> = (Option<Which>, &'a [u8]);
 
-/// Times are tested before spelling, and the first script before the second.
+/// Returns the record that comes next. Times are tested before spelling, and the first script before the second.
 pub fn choose<'a>(
     first: &'a [u8],
     second: &'a [u8],

@@ -2,8 +2,8 @@
 
 use crate::table::Row;
 
-/// When a row's next job is due, released at `release`, after a whole history of accepted jobs with the due times
-/// `earlier`: the job x places before it keeps it y ticks away.
+/// Returns the due time of a row's next job, which is released at `release`. The due times of all accepted jobs of the
+/// row are `earlier`. The job is due at least y ticks after the job that came x jobs before it.
 pub fn due(row: &Row, earlier: &[u64], release: u64) -> u64 {
     let by_release = release + row.d;
     match earlier.len().checked_sub(row.x as usize) {

@@ -1,4 +1,4 @@
-//! The two calls of the rig's host, on byte buffers: a status number and a 16-byte answer.
+//! The host's two calls. They take byte buffers, return a status number and fill an answer buffer of 16 bytes.
 
 use crate::refusal::{Reason, Refusal};
 use crate::replay;
@@ -69,7 +69,7 @@ mod tests {
         (number(&answer[..8]), number(&answer[8..]))
     }
 
-    /// Status and the answer's two numbers.
+    /// Returns the status and the answer's two numbers.
     fn judged(table: &[u8]) -> (u32, u64, u64) {
         let mut answer = [0xee; 16];
         let status = verdict(table, &mut answer);
@@ -159,7 +159,7 @@ mod tests {
 
     #[test]
     fn an_overflow_is_not_undone_by_a_shorter_record() {
-        // Job 0 waits for 140 others, whose records grow to 9 bytes, and ends the log with one of 7.
+        // Job 0 waits for 140 other jobs. Their records grow to 9 bytes, and its own, which comes last, has 7.
         let table = spell(&[[1, 1, 16_000, 1], [64, 1, 1, 1]]);
         let script = [vec![0, 0, 1, 0, 1, 1], [1, 1, 1].repeat(139)].concat();
         let mut whole = vec![0xee; 10 * script.len()];

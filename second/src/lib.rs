@@ -1,7 +1,7 @@
-//! The rules of the rig a second time: written from the rules alone, in the plainest Rust, to be compared byte for
-//! byte with the proved program. It shares no code, no table of constants and no design with it.
+//! The second program: the rules of the rig once more, written from the rules alone in the plainest Rust. It is
+//! compared with the proved program byte for byte, and shares no code, no table of constants and no design with it.
 //!
-//! Times, costs, serials and row numbers are plain `u64` here: the comparison, not the types, keeps them apart.
+//! Times, costs, serials and row numbers are plain `u64` here. The comparison keeps them apart, and not the types.
 
 pub mod chooser;
 pub mod due;

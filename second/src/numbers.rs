@@ -1,13 +1,14 @@
-//! The spelling of numbers: groups of seven bits, lowest first, the top bit of a byte set when another follows.
+//! The spelling of numbers. A number is spelled in groups of seven bits, one group a byte, the lowest group first. The
+//! top bit of a byte is set when another byte of the same number follows.
 
 use crate::refusal::{Reason, Refusal};
 
 pub const MOST_GROUPS: usize = 6;
 pub const LARGEST: u64 = (1 << (7 * MOST_GROUPS)) - 1;
 
-/// The number that starts at `place`, and the place after it.
+/// Reads the number that starts at `place`. Returns its value and the place right after it.
 pub fn read(bytes: &[u8], place: usize) -> Result<(u64, usize), Refusal> {
-    let misspelled = Reason::NumberMisspelled.at(place);
+    let misspelled = Reason::Misspelled.at(place);
     let rest = bytes.get(place..).ok_or(misspelled)?;
     let last = rest.iter().take(MOST_GROUPS).position(|byte| byte & 0x80 == 0).ok_or(misspelled)?;
     if last > 0 && rest[last] == 0 {
@@ -17,10 +18,10 @@ pub fn read(bytes: &[u8], place: usize) -> Result<(u64, usize), Refusal> {
     Ok((number, place + last + 1))
 }
 
-/// The one spelling of a number.
+/// Returns the one spelling of a number.
 pub fn spell(number: u64) -> Result<Vec<u8>, Reason> {
     if number > LARGEST {
-        return Err(Reason::NumberTooLarge);
+        return Err(Reason::NumberTooBig);
     }
     let mut bytes = vec![];
     let mut rest = number;
@@ -32,7 +33,7 @@ pub fn spell(number: u64) -> Result<Vec<u8>, Reason> {
     Ok(bytes)
 }
 
-/// Spells a number at the start of a buffer and answers its length. A refusal leaves the buffer as it was.
+/// Writes a number's spelling at the start of a buffer and returns its length. A refusal leaves the buffer unchanged.
 pub fn write(number: u64, buffer: &mut [u8]) -> Result<usize, Reason> {
     let bytes = spell(number)?;
     let start = buffer.get_mut(..bytes.len()).ok_or(Reason::NoRoom)?;
@@ -45,7 +46,7 @@ mod tests {
     use super::*;
 
     fn misspelled_at(place: usize) -> Result<(u64, usize), Refusal> {
-        Err(Reason::NumberMisspelled.at(place))
+        Err(Reason::Misspelled.at(place))
     }
 
     #[test]
@@ -97,8 +98,8 @@ mod tests {
     #[test]
     fn the_writer_refuses_25_before_12_and_keeps_the_buffer() {
         let mut buffer = [7; 5];
-        assert_eq!(write(LARGEST + 1, &mut []), Err(Reason::NumberTooLarge));
-        assert_eq!(write(LARGEST + 1, &mut buffer), Err(Reason::NumberTooLarge));
+        assert_eq!(write(LARGEST + 1, &mut []), Err(Reason::NumberTooBig));
+        assert_eq!(write(LARGEST + 1, &mut buffer), Err(Reason::NumberTooBig));
         assert_eq!(write(LARGEST, &mut buffer), Err(Reason::NoRoom));
         assert_eq!(buffer, [7; 5]);
         assert_eq!(write(0, &mut []), Err(Reason::NoRoom));

@@ -1,24 +1,38 @@
-//! How the rig says no: a number for the rule, and the place in the bytes that broke it.
+//! The refusals: each has a number, and a place in the bytes.
 
-/// The rules, by their numbers. Refusal 11, a run that is not sound, is missing: a run of this program is changed by
-/// its own calls only, and those keep it sound.
+/// The reasons of the refusals, by their numbers. Refusal 11, a run that is not sound, is missing: a run of this
+/// program is changed only by its own calls, and those keep it sound.
 #[derive(Clone, Copy, Debug, PartialEq, Eq)]
 #[repr(u32)]
 pub enum Reason {
-    NumberMisspelled = 1,
+    /// A number of a table, or one for the number reader, is misspelled, too long or cut off.
+    Misspelled = 1,
+    /// The row count is above 16.
     TooManyRows = 2,
+    /// An x, y, d or c is out of its range.
     ValueOutOfRange = 3,
-    BytesAfterLastRow = 4,
+    /// There are bytes after the last row.
+    ExtraBytes = 4,
+    /// H is above 1,048,576.
     PeriodTooLong = 5,
+    /// The row number is not in use.
     NoSuchRow = 6,
+    /// The cost is 0 or above the row's c.
     CostOutOfRange = 7,
-    NoFreePlace = 8,
+    /// 64 jobs are pending at a release.
+    PlacesFull = 8,
+    /// The due time would be above 2^40.
     DueTooLate = 9,
+    /// A script time or a time reached is above 2^40, or the clock is at 2^40 at a tick.
     TimeTooLate = 10,
+    /// A number or the log is longer than its buffer.
     NoRoom = 12,
+    /// The answer buffer is not 16 bytes long.
     AnswerNot16Bytes = 13,
+    /// A number of a script is misspelled, too long or cut off.
     ScriptMisspelled = 14,
-    NumberTooLarge = 25,
+    /// A number to write is above 2^42 - 1.
+    NumberTooBig = 25,
 }
 
 impl Reason {

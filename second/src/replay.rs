@@ -1,4 +1,4 @@
-//! Replay: a script's releases at their times, and a log of the jobs in order of finishing.
+//! Replay makes a script's releases at their times, and a log of the jobs in the order of finishing.
 
 use crate::numbers;
 use crate::refusal::{Reason, Refusal};
@@ -8,9 +8,10 @@ use crate::table::Table;
 
 #[derive(Clone, Debug, Default, PartialEq, Eq)]
 pub struct Replayed {
-    /// Per job in order of finishing, the bytes of serial, row, release, due, finish.
+    /// There is one record for each job, in the order of finishing: the spellings of its serial, row number, release,
+    /// due time and finish.
     pub records: Vec<Vec<u8>>,
-    /// Jobs that finished after their due time.
+    /// This many jobs finished after their due time.
     pub late: u64,
 }
 
@@ -20,8 +21,8 @@ impl Replayed {
     }
 }
 
-/// Plays a whole script and spells the whole log, however long. Whether it fits a buffer is the caller's question:
-/// that refusal comes after all others.
+/// Plays a whole script and spells the whole log, however long it is. The caller tests whether the log fits its buffer,
+/// since that refusal comes last of all.
 pub fn replay(table: &Table, script: &[u8]) -> Result<Replayed, Refusal> {
     let mut player = Player { run: Run::fresh(table.clone()), jobs: vec![], replayed: Replayed::default() };
     let mut time = 0;
@@ -51,7 +52,7 @@ pub fn replay(table: &Table, script: &[u8]) -> Result<Replayed, Refusal> {
 
 struct Player {
     run: Run,
-    /// All jobs, by serial.
+    /// The jobs stand at the places that their serials name.
     jobs: Vec<Job>,
     replayed: Replayed,
 }
@@ -63,7 +64,7 @@ impl Player {
             let job = &self.jobs[serial as usize];
             let finish = self.run.clock();
             let numbers = [serial, job.row, job.release, job.due, finish];
-            let spelled = numbers.map(|number| numbers::spell(number).expect("serials and times are in range"));
+            let spelled = numbers.map(|number| numbers::spell(number).expect("serials and times can be spelled"));
             self.replayed.records.push(spelled.concat());
             if finish > job.due {
                 self.replayed.late += 1;
@@ -77,7 +78,7 @@ impl Player {
             if self.run.pending().is_empty() {
                 self.run.idle_until(time);
             } else {
-                self.tick().expect("a script's time is at most the last tick");
+                self.tick().expect("a script time is at most 2^40");
             }
         }
     }

@@ -1,4 +1,4 @@
-//! A run: jobs are released, and each tick gives one unit to the pending job that is due first.
+//! Runs. Jobs are released, and each tick gives one unit to the pending job with the earliest due time.
 
 use crate::due::due;
 use crate::refusal::{Reason, Refusal};
@@ -23,7 +23,7 @@ pub struct Run {
     clock: u64,
     pending: Vec<Job>,
     next_serial: u64,
-    /// Of each row, the due times of all jobs that it ever had.
+    /// For each row these are the due times of all its accepted jobs.
     dues: Vec<Vec<u64>>,
 }
 
@@ -36,7 +36,7 @@ pub enum Given {
 #[derive(Clone, Copy, Debug, PartialEq, Eq)]
 pub struct Ticked {
     pub given: Given,
-    /// How many jobs became late at this tick.
+    /// This many jobs became late in this tick.
     pub late: u64,
 }
 
@@ -46,7 +46,8 @@ impl Run {
         Run { table, clock: 0, pending: vec![], next_serial: 0, dues }
     }
 
-    /// A fresh run on the bytes of a table; of the empty table, with the refusal, where they are none.
+    /// Starts a fresh run on the bytes of a table. Where they are refused, it is the fresh run of the empty table, with
+    /// the refusal.
     pub fn start(bytes: &[u8]) -> (Run, Option<Refusal>) {
         match table::read(bytes) {
             Ok(table) => (Run::fresh(table), None),
@@ -62,14 +63,14 @@ impl Run {
         &self.pending
     }
 
-    /// Adds a job, released now.
+    /// Adds a job that is released at the clock.
     pub fn release(&mut self, row: u64, cost: u64) -> Result<Job, Reason> {
         let rule = self.table.row(row).ok_or(Reason::NoSuchRow)?;
         if cost < 1 || cost > rule.c {
             return Err(Reason::CostOutOfRange);
         }
         if self.pending.len() == PLACES {
-            return Err(Reason::NoFreePlace);
+            return Err(Reason::PlacesFull);
         }
         let earlier = &mut self.dues[row as usize];
         let due = due(rule, earlier, self.clock);
@@ -101,7 +102,7 @@ impl Run {
         Ok(Ticked { given, late })
     }
 
-    /// Ticks up to a later time in one go, where every tick would be idle.
+    /// Takes the clock to a later time in one go, where every tick would be idle.
     pub fn idle_until(&mut self, time: u64) {
         assert!(self.pending.is_empty() && self.clock <= time && time <= LAST_TICK);
         self.clock = time;
@@ -202,7 +203,7 @@ mod tests {
             assert_eq!(run.release(0, 1).unwrap().due, LAST_TICK);
         }
         assert_eq!(run.release(0, 3), Err(Reason::CostOutOfRange));
-        assert_eq!(run.release(0, 1), Err(Reason::NoFreePlace));
+        assert_eq!(run.release(0, 1), Err(Reason::PlacesFull));
         assert_eq!(run.tick(), ran(0, true, 0));
         assert_eq!(run.release(0, 1), Err(Reason::DueTooLate));
     }
@@ -222,7 +223,7 @@ mod tests {
         for serial in 0..64 {
             assert_eq!(released(&mut run, 0, 1), (serial, 9));
         }
-        assert_eq!(run.release(0, 1), Err(Reason::NoFreePlace));
+        assert_eq!(run.release(0, 1), Err(Reason::PlacesFull));
         assert_eq!(run.tick(), ran(0, true, 0));
         assert_eq!(released(&mut run, 0, 1), (64, 18));
     }

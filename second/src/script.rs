@@ -1,4 +1,4 @@
-//! Scripts: records of three numbers, gap, row and cost.
+//! Scripts. A script is records of three numbers: the gap, the row number and the cost.
 
 use crate::numbers;
 use crate::refusal::{Reason, Refusal};
@@ -8,16 +8,16 @@ pub struct Record {
     pub gap: u64,
     pub row: u64,
     pub cost: u64,
-    /// The place after the record.
+    /// This is the place right after the record.
     pub after: usize,
 }
 
-/// One number of a script, and the place after it.
+/// Reads one number of a script. Returns its value and the place right after it.
 pub fn number(script: &[u8], place: usize) -> Result<(u64, usize), Refusal> {
     numbers::read(script, place).map_err(|refusal| Reason::ScriptMisspelled.at(refusal.place))
 }
 
-/// The record at a place, of which only the spelling is looked at; none at the script's end.
+/// Reads the record at a place, and looks at its spelling only. Returns none at the script's end.
 pub fn record(script: &[u8], place: usize) -> Result<Option<Record>, Refusal> {
     if place > script.len() {
         return Err(Reason::ScriptMisspelled.at(script.len()));

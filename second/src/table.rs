@@ -1,4 +1,4 @@
-//! The rig's table: its row count, then x, y, d and c of each row, and nothing after.
+//! Tables. A table is its row count, then x, y, d and c of each row, and nothing after.
 
 use crate::numbers;
 use crate::refusal::{Reason, Refusal};
@@ -10,7 +10,7 @@ pub const MOST_D: u64 = 16_384;
 pub const MOST_C: u64 = 4_096;
 pub const LONGEST_PERIOD: u64 = 1_048_576;
 
-/// x executions expected in any y ticks, each due d after its release, at a cost of at most c.
+/// In a row, x executions are expected in any y ticks. Each is due d ticks after its release, and costs at most c.
 #[derive(Clone, Copy, Debug, PartialEq, Eq)]
 pub struct Row {
     pub x: u64,
@@ -22,7 +22,7 @@ pub struct Row {
 #[derive(Clone, Debug, PartialEq, Eq)]
 pub struct Table {
     pub rows: Vec<Row>,
-    /// H, the least common multiple of all y.
+    /// The period is H, the least common multiple of the y of all rows.
     pub period: u64,
 }
 
@@ -58,7 +58,7 @@ pub fn read(bytes: &[u8]) -> Result<Table, Refusal> {
         rows.push(Row { x: value(MOST_X)?, y: value(MOST_Y)?, d: value(MOST_D)?, c: value(MOST_C)? });
     }
     if place < bytes.len() {
-        return Err(Reason::BytesAfterLastRow.at(place));
+        return Err(Reason::ExtraBytes.at(place));
     }
     let mut period = 1;
     for row in &rows {
@@ -86,7 +86,7 @@ fn greatest_common_divisor(a: u64, b: u64) -> u64 {
 pub mod tests {
     use super::*;
 
-    /// The bytes of a table, in range or not.
+    /// Spells a table, whether its values are in range or not.
     pub fn spell(rows: &[[u64; 4]]) -> Vec<u8> {
         let numbers = [rows.len() as u64].into_iter().chain(rows.iter().flatten().copied());
         numbers.flat_map(|number| numbers::spell(number).unwrap()).collect()

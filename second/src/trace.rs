@@ -1,4 +1,4 @@
-//! A list of calls played on one run, with every answer as numbers.
+//! A trace: a list of calls is played on one run, and every answer is given as numbers.
 
 use crate::run::{Given, Run};
 
@@ -8,25 +8,26 @@ pub enum Call {
     Tick,
 }
 
-/// What an answer's first number says of the other three.
+/// An answer has four numbers. The first is one of these kinds, which says what the other three are.
 pub mod kind {
-    /// A run was started: 0, 0, 0.
+    /// A run was started. The other three are 0, 0 and 0.
     pub const STARTED: u64 = 1;
-    /// A job was released: serial, due, 0.
+    /// A job was released. The other three are its serial, its due time and 0.
     pub const RELEASED: u64 = 2;
-    /// A tick found nothing pending: 0, 0, jobs that became late.
+    /// A tick found nothing pending. The other three are 0, 0 and the late count.
     pub const IDLE: u64 = 3;
-    /// A tick gave a unit and the job goes on: serial, 0, jobs that became late.
+    /// A tick gave a unit to a job that did not finish. The other three are the job's serial, 0 and the late count.
     pub const RAN: u64 = 4;
-    /// A tick gave a unit and the job finished: serial, 0, jobs that became late.
+    /// A tick gave a job its last unit. The other three are the job's serial, 0 and the late count.
     pub const FINISHED: u64 = 5;
-    /// The call was refused: number, place, 0. Place is 0 but where a table is refused.
+    /// The call was refused. The other three are the refusal's number, its place and 0. The place is 0 unless a table
+    /// is refused.
     pub const REFUSED: u64 = 6;
 }
 
 pub type Answer = [u64; 4];
 
-/// One answer for the start of the run, then one for each call.
+/// Returns one answer for the start of the run, and then one for each call.
 pub fn trace(table: &[u8], calls: &[Call]) -> Vec<Answer> {
     let (mut run, refusal) = Run::start(table);
     let started = match refusal {

@@ -1,18 +1,18 @@
-//! Demand and verdict: is there a length of time with more demand than length?
+//! Demand and verdict. A table is overloaded where a length of time has more demand than length.
 
 use crate::table::{Row, Table};
 
 #[derive(Clone, Copy, Debug, PartialEq, Eq)]
 pub enum Verdict {
     Feasible,
-    /// The smallest length with demand above it, and that demand.
+    /// The answer is the smallest length whose demand is above it, and that demand.
     Overloaded {
         length: u64,
         demand: u64,
     },
 }
 
-/// The rule itself: what the rows can ask of the processor in a length of time.
+/// Returns the rows' demand in a length of time, as the rule has it.
 pub fn demand(rows: &[Row], length: u64) -> u64 {
     let of_row = |row: &Row| {
         if length < row.d {
@@ -24,11 +24,12 @@ pub fn demand(rows: &[Row], length: u64) -> u64 {
     rows.iter().map(of_row).sum()
 }
 
-/// Demand only grows where a row's step falls, at d, d + y, d + 2y and so on, so the smallest length that fails is a
-/// step. The steps are taken in order, and the demand is kept up to date from one to the next.
+/// Returns the verdict. A row's demand grows only at the lengths d, d + y, d + 2y and so on, which are its steps. So
+/// the smallest length that fails is a step. The steps are taken in order, and the demand is kept up to date from one
+/// to the next.
 ///
-/// From the largest d on everything repeats: a period H later there is the same step again, with a fixed demand more.
-/// So one period's steps tell of every later period whether and when that step fails.
+/// From the largest d on everything repeats: one period H later there is the same step again, and the demand is higher
+/// by a fixed number. So the steps of one period say for every later period whether and when that step fails.
 pub fn verdict(table: &Table) -> Verdict {
     let per_period: u64 = table.rows.iter().map(|row| row.x * row.c * (table.period / row.y)).sum();
     let gain = per_period.saturating_sub(table.period);
@@ -92,7 +93,7 @@ mod tests {
         assert_eq!([at(1), at(3), at(4), at(5), at(6), at(8), at(12)], [0, 0, 2, 2, 5, 7, 12]);
     }
 
-    /// From the definitions: every length from 1 up, to the bound past which nothing new can happen.
+    /// Returns the verdict by the definition: it looks at every length from 1 up to the bound that settles it.
     fn verdict_by_definition(table: &Table) -> Verdict {
         let per_period: u64 = table.rows.iter().map(|row| row.x * row.c * table.period / row.y).sum();
         let periods = if per_period <= table.period { 1 } else { table.largest_d() + 1 };
@@ -119,7 +120,7 @@ mod tests {
 
     #[test]
     fn the_latest_witness_costs_no_more_than_one_period() {
-        // y = 1023 and 1025 take 1023 / 1023 and 1 / 1025 of the processor: above 1 by 1 / 1025.
+        // The two rows take 1023 / 1023 and 1 / 1025 of the processor, which is above 1 by 1 / 1025.
         let Verdict::Overloaded { length, demand: stated } =
             verdict(&table_of(&[[1, 1_023, 16_384, 1_023], [1, 1_025, 16_384, 1]]))
         else {

@@ -10,13 +10,13 @@ use support::fenced::Fenced;
 use support::random::Random;
 use support::{damage, scripts, settings};
 
-/// At least: with fewer some answers might not be met.
+/// There are at least this many choices, since with fewer some answers might not be met.
 const CHOICES: u64 = 100_000;
 
-/// All that this file knows of the library's side. It returns 1 with a record, whose bytes it puts at the start of
-/// the buffer for the part, or the refusal. The answer's two numbers, eight bytes each, lowest byte first, are the
-/// part's length and which script it is of, 1 or 2, or 0 and 0 when both have ended; of a refusal, place and which
-/// script.
+/// This is all that this file knows about the library's side. The call returns 1, or the refusal's number. With 1 it
+/// puts the record's bytes at the start of the buffer for the part. The answer's two numbers have eight bytes each, the
+/// lowest byte first. With 1 they are the part's length and its script, 1 or 2, and they are 0 and 0 when both scripts
+/// have ended. With a refusal they are its place and its script.
 mod library {
     extern "C" {
         pub fn choose(
@@ -36,7 +36,7 @@ mod library {
 
 const A_RECORD: u32 = 1;
 
-/// Number returned, the answer's two numbers, and the buffer for the part.
+/// An outcome is the number returned, the answer's two numbers, and the buffer for the part.
 type Outcome = (u32, [u64; 2], Vec<u8>);
 
 fn by_library(lent: &[Vec<u8>; 2], times: [u64; 2], buffer: &[u8], random: &mut Random) -> Outcome {
@@ -44,7 +44,7 @@ fn by_library(lent: &[Vec<u8>; 2], times: [u64; 2], buffer: &[u8], random: &mut 
     let [mut first, mut second, mut part, mut answer] =
         [fenced(&lent[0]), fenced(&lent[1]), fenced(buffer), fenced(&[0xee; 16])];
     let before = [first.clone(), second.clone(), part.clone(), answer.clone()];
-    // SAFETY: each pointer and length is of a buffer of its own, or null and 0.
+    // SAFETY: each pointer and length belong to a buffer of its own, or are null and 0.
     let number = unsafe {
         library::choose(
             first.pointer(),
@@ -92,7 +92,8 @@ fn random_script(random: &mut Random) -> Vec<u8> {
     }
 }
 
-/// Now and then the same bytes twice, where only the answer's second number tells whose record comes next.
+/// Makes two scripts. Now and then they have the same bytes, and only the answer's second number tells whose record
+/// comes next.
 fn random_scripts(random: &mut Random) -> [Vec<u8>; 2] {
     let first = random_script(random);
     let second = if random.one_in(5) { first.clone() } else { random_script(random) };

@@ -1,5 +1,5 @@
-//! Compares the proved program with the second one, byte for byte: status, answer, log, and that nothing else was
-//! touched. The first difference ends it, with everything that is needed to repeat it.
+//! Compares the proved program with the second one, byte for byte: the status, the answer and the log. It also checks
+//! that nothing else was touched. The first difference ends it, with everything that is needed to repeat it.
 
 mod support;
 
@@ -40,7 +40,7 @@ fn main() {
 
 struct Compared {
     seed: u64,
-    /// How many families of calls went through without a difference.
+    /// This many families of calls went through without a difference.
     families: u64,
     all: Tally,
 }

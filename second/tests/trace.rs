@@ -11,12 +11,12 @@ use support::random::Random;
 use support::tables::Row;
 use support::{damage, settings, tables};
 
-/// At least: with fewer some answers might not be met.
+/// There are at least this many traces, since with fewer some answers might not be met.
 const TRACES: u64 = 20_000;
 
-/// All that this file knows of the library's side. Numbers take eight bytes each, lowest byte first. A call is three
-/// of them: 1, row, cost for a release; 2, 0, 0 for a tick. The answers are of four each, as the second program gives
-/// them, and their count is returned.
+/// This is all that this file knows about the library's side. Numbers have eight bytes each, the lowest byte first. A
+/// call has three numbers: 1, row and cost for a release, and 2, 0 and 0 for a tick. An answer has four numbers, as in
+/// the second program. The call returns how many answers there are.
 mod library {
     extern "C" {
         pub fn trace(
@@ -46,7 +46,7 @@ fn by_library(table: &[u8], calls: &[Call], random: &mut Random) -> (u32, Vec<u8
     let mut spelled = Fenced::around(&bytes_of(calls.iter().flat_map(numbers_of)), random);
     let mut answers = Fenced::around(&random.bytes((calls.len() + 1) * size_of::<Answer>()), random);
     let before = [table.clone(), spelled.clone(), answers.clone()];
-    // SAFETY: each pointer and length is of a buffer of its own, or null and 0.
+    // SAFETY: each pointer and length belong to a buffer of its own, or are null and 0.
     let count = unsafe {
         library::trace(table.pointer(), table.len(), spelled.pointer(), spelled.len(), answers.pointer(), answers.len())
     };
@@ -55,7 +55,7 @@ fn by_library(table: &[u8], calls: &[Call], random: &mut Random) -> (u32, Vec<u8
     (count, answers.content())
 }
 
-/// Releases and ticks by turns of random length, so that places fill up and empty again.
+/// Makes releases and ticks by turns of random length, so that places fill up and empty again.
 fn random_calls(rows: &[Row], random: &mut Random) -> Vec<Call> {
     let mut calls = vec![];
     for _ in 0..random.within(1, 12) {
@@ -98,7 +98,7 @@ fn single_calls() {
         met.extend(expected.iter().map(|answer| (answer[0], if answer[0] == kind::REFUSED { answer[1] } else { 0 })));
     }
     for kind in [kind::STARTED, kind::RELEASED, kind::IDLE, kind::RAN, kind::FINISHED] {
-        assert!(met.contains(&(kind, 0)), "no answer of kind {kind}");
+        assert!(met.contains(&(kind, 0)), "no answer of kind {kind} was met");
     }
     for number in [1, 2, 3, 4, 6, 7, 8] {
         assert!(met.contains(&(kind::REFUSED, number)), "no refusal {number}");

@@ -9,10 +9,11 @@ use support::fenced::Fenced;
 use support::random::Random;
 use support::settings;
 
-/// At least: with fewer some answers might not be met.
+/// There are at least this many numbers, since with fewer some answers might not be met.
 const NUMBERS: u64 = 200_000;
 
-/// All that this file knows of the library's side: the spelling's length, 1 to 6, is returned, or the refusal.
+/// This is all that this file knows about the library's side. The call returns the spelling's length, 1 to 6, or the
+/// refusal's number.
 mod library {
     extern "C" {
         pub fn write_number(number: u64, buffer: *mut u8, buffer_len: usize) -> u32;
@@ -22,7 +23,7 @@ mod library {
 fn by_library(number: u64, buffer: &[u8], random: &mut Random) -> (u32, Vec<u8>) {
     let mut lent = Fenced::around(buffer, random);
     let before = lent.clone();
-    // SAFETY: pointer and length are of one buffer, or null and 0.
+    // SAFETY: pointer and length belong to one buffer, or are null and 0.
     let answer = unsafe { library::write_number(number, lent.pointer(), lent.len()) };
     assert!(lent.same_fence_as(&before), "{number} into {}", hex(buffer));
     (answer, lent.content())

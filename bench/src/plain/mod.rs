@@ -1,12 +1,12 @@
 //! The plain programs: the two calls as one would write them in Rust without a proof in mind. They keep every rule and
-//! every refusal, so that they do the same work, and take no short cut that the rules don't name.
+//! every refusal, so that they do the same work. They take no short cut that the rules don't name.
 
 mod numbers;
 mod replay;
 mod table;
 mod verdict;
 
-/// A refusal: its number, and its place.
+/// A refusal has its number and its place.
 pub struct Refused(pub u32, pub usize);
 
 pub fn verdict(table: &[u8], answer: &mut [u8]) -> u32 {

@@ -1,8 +1,8 @@
-//! Numbers in groups of seven bits, the lowest first.
+//! Numbers are spelled in groups of seven bits, the lowest group first.
 
 const GROUPS: usize = 6;
 
-/// The number at a place and the place after it, or none where it is misspelled, too long or cut off.
+/// Returns the number at a place and the place after it, or none where it is misspelled, too long or cut off.
 pub fn read(bytes: &[u8], at: usize) -> Option<(u64, usize)> {
     let mut value = 0;
     for i in 0..GROUPS {
@@ -18,7 +18,7 @@ pub fn read(bytes: &[u8], at: usize) -> Option<(u64, usize)> {
     None
 }
 
-/// Writes a number at the start of a buffer, and says how long it is.
+/// Writes a number at the start of a buffer, and returns the length of its spelling.
 pub fn write(buffer: &mut [u8], mut value: u64) -> usize {
     let mut i = 0;
     while value >= 128 {

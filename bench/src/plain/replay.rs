@@ -1,4 +1,5 @@
-//! Replay: pending jobs in a vector, the due times of each row in a queue, a linear scan for the job that is due first.
+//! Replay. Pending jobs stand in a vector, and the due times of each row in a queue. A linear scan finds the job with
+//! the earliest due time.
 
 use super::numbers::{read, write};
 use super::table::{read_table, Row};
@@ -7,7 +8,7 @@ use std::collections::VecDeque;
 
 const LATEST: u64 = 1 << 40;
 const PLACES: usize = 64;
-/// Five numbers of six groups.
+/// The longest log record has five numbers of six groups.
 const RECORD: usize = 30;
 
 struct Job {
@@ -27,7 +28,7 @@ struct Run<'a> {
     late: u64,
 }
 
-/// The log's length, and how many jobs were late.
+/// Returns the log's length, and how many jobs were late.
 pub fn replay(table: &[u8], script: &[u8], log: &mut [u8]) -> Result<(usize, u64), Refused> {
     let rows = read_table(table)?.rows;
     let mut kept: Vec<VecDeque<u64>> = rows.iter().map(|_| VecDeque::new()).collect();
@@ -84,7 +85,7 @@ fn number(script: &[u8], at: &mut usize) -> Result<u64, Refused> {
     Ok(value)
 }
 
-/// The due time of a row's next job, which is kept; none where it is too late.
+/// Returns the due time of a row's next job and keeps it, or returns none where it would be above 2^40.
 fn due_time(row: &Row, kept: &mut VecDeque<u64>, release: u64) -> Option<u64> {
     let mut due = release + row.d;
     let spaced = kept.len() as u64 == row.x;
@@ -102,7 +103,7 @@ fn due_time(row: &Row, kept: &mut VecDeque<u64>, release: u64) -> Option<u64> {
 }
 
 impl Run<'_> {
-    /// One unit for the pending job that is due first, the lowest serial among equals.
+    /// Gives one unit to the pending job with the earliest due time, and to the lowest serial among equal due times.
     fn tick(&mut self) {
         self.clock += 1;
         let mut at = 0;

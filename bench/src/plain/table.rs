@@ -1,4 +1,4 @@
-//! Tables.
+//! Tables are read and tested here.
 
 use super::numbers::read;
 use super::Refused;
@@ -20,7 +20,7 @@ pub struct Row {
 
 pub struct Table {
     pub rows: Vec<Row>,
-    /// H, the least common multiple of every y.
+    /// The period is H, the least common multiple of the y of all rows.
     pub period: u64,
 }
 

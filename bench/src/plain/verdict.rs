@@ -1,16 +1,16 @@
-//! The verdict: the demand at every length, from 1 up.
+//! The verdict looks at the demand in every length, from 1 up.
 
 use super::table::{read_table, Row};
 use super::Refused;
 
-/// None where the table is feasible; else the smallest length with more demand than length, and that demand.
+/// Returns none where the table is feasible, and else the smallest length whose demand is above it, and that demand.
 pub fn judge(bytes: &[u8]) -> Result<Option<(u64, u64)>, Refused> {
     let table = read_table(bytes)?;
     let growth: u64 = table.rows.iter().map(|row| table.period / row.y * row.x * row.c).sum();
     let last = if growth <= table.period {
         table.period + table.rows.iter().map(|row| row.d).max().unwrap_or(0)
     } else {
-        // Some length fails.
+        // Some length fails, so the search comes to its end.
         u64::MAX
     };
     for length in 1..=last {

@@ -6,9 +6,9 @@ use Rattle.kinds.proofs.Apart.{impossible}
 use Rattle.kinds.proofs.Numbering.{never-zero, plain-refusals-apart}
 use Rattle.columns.specs.declared.PutAnswer.the-variants as put
 use Rattle.columns.specs.declared.WorkAnswer.the-variants as work
-use Rattle.columns.specs.Answers.{putSays, workSays, ColumnsNeverZero, ColumnsSaidApart}
+use Rattle.columns.specs.Answers.{putInSays, workSays, ColumnsNeverZero, ColumnsSaidApart}
 
-put-never-zero : NeverNumberedZero putSays
+put-never-zero : NeverNumberedZero putInSays
 put-never-zero (put.Count n) = tt
 put-never-zero (put.Refused r) = never-zero r
 
@@ -19,13 +19,13 @@ work-never-zero work.Nobody = tt
 pub columns-never-zero : ColumnsNeverZero
 columns-never-zero = (put-never-zero, work-never-zero)
 
-put-apart : SaysApart putSays
+put-apart : SaysApart putInSays
 put-apart (put.Count m) (put.Count n) e = let same : m ≡ n = cc in ap put.Count same
 put-apart (put.Count m) (put.Refused r) e = impossible cc
 put-apart (put.Refused q) (put.Count n) e = impossible cc
 put-apart (put.Refused q) (put.Refused r) e = ap put.Refused (plain-refusals-apart q r e)
 
--- Records of finished jobs are the same where their five numbers are.
+-- Two finished jobs are equal where their five numbers are.
 same-finish : (f g : Finish) → f .serial .0 ≡ g .serial .0 → f .row .0 ≡ g .row .0 → f .release .0 ≡ g .release .0 → f .due .0 ≡ g .due .0
     → f .finish .0 ≡ g .finish .0 → work.Finished f ≡ work.Finished g
 same-finish f g a b c d e = rw (a, b, c, d, e)

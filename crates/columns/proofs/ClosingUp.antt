@@ -1,4 +1,4 @@
--- An entry of a list taken out by moving the later ones down. (docs/RULES.md, 6.13.)
+-- An entry is taken out of a list by moving the later entries down by one place. (docs/RULES.md, 6.13.)
 use Prim.Native.Nat.{ℕ, zero, suc, _+_, _≤_, _<_}
 use mathlib.Core.Path.{_≡_, refl, ap}
 use mathlib.Core.List.{List, [], _∷_, map}
@@ -7,16 +7,16 @@ use native.Mathlib.Numerals.{add-one}
 use native.Mathlib.Omega.{arith}
 use lib.ListN.{length, take, getD, set}
 use Rattle.jobs.specs.Places.{without}
-use Rattle.columns.specs.Inside.{closedUp}
+use Rattle.columns.specs.FirstAndClosing.{closedUp}
 
--- None has moved.
+-- A list that is closed up from a place to the same place has not changed.
 pub closed-none : (l : List ℕ) (at : ℕ) → l ≡ closedUp at at l
 closed-none [] zero = refl
 closed-none [] (suc at) = refl
 closed-none (a ∷ l) zero = refl
 closed-none (a ∷ l) (suc at) = ap (_∷_ a) (closed-none l at)
 
--- One more moves down, with the next place as `suc i`.
+-- After one more entry has moved down, the list is closed up to the next place, written as `suc i`.
 closed-suc : (l : List ℕ) (at i : ℕ) → at ≤ i → suc i < length l → set (closedUp at i l) i (getD (closedUp at i l) (suc i) 0) ≡ closedUp at (suc i) l
 closed-suc [] at i h k = absurd (not-suc-le-zero k)
 closed-suc (a ∷ []) at i h k = absurd (not-suc-le-zero (le-of-suc-le-suc k))
@@ -25,11 +25,11 @@ closed-suc (a ∷ b ∷ l) zero (suc i) h k = ap (_∷_ b) (closed-suc (b ∷ l)
 closed-suc (a ∷ b ∷ l) (suc at) zero h k = absurd (not-suc-le-zero h)
 closed-suc (a ∷ b ∷ l) (suc at) (suc i) h k = ap (_∷_ a) (closed-suc (b ∷ l) at i (le-of-suc-le-suc h) (le-of-suc-le-suc k))
 
--- One more moves down, with the next place as the code has it.
+-- After one more entry has moved down, the list is closed up to the next place, written as `i + 1`, as the code has it.
 pub closed-more : (l : List ℕ) (at i : ℕ) → at ≤ i → i + 1 < length l → set (closedUp at i l) i (getD (closedUp at i l) (i + 1) 0) ≡ closedUp at (i + 1) l
 closed-more l at i h k = rw add-one (closed-suc l at i h (omega arith))
 
--- The first entries of a list without one are the first without it, one more of them.
+-- The first n entries of a list without the entry at `at` are its first n + 1 entries without that entry.
 pub take-without : {A : Type 0} (l : List A) (at n : ℕ) → at ≤ n → take n (without l at) ≡ without (take (suc n) l) at
 take-without [] at zero h = refl
 take-without [] at (suc n) h = refl

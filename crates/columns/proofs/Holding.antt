@@ -1,4 +1,4 @@
--- What columns hold: the same jobs with one worked on, taken out or put in, and the rest of each list as it was. (docs/RULES.md, section 6.)
+-- What columns hold after a job was worked on, taken out or put in, with the rest of each list as it was. (docs/RULES.md, section 6.)
 use Prim.Native.Nat.{ℕ, zero, suc, _+_, _-_, _≤_, _<_, min}
 use mathlib.Core.Path.{_≡_, refl, sym, ap, _∙_}
 use mathlib.Core.List.{List, [], _∷_, _++_, map}
@@ -10,11 +10,11 @@ use borrow.Author.Tests.{lt-ltb, le-ltb}
 use Rattle.kinds.proofs.Lists.{take-as-many}
 use Rattle.jobs.specs.declared.Job.{Job}
 use Rattle.jobs.specs.Places.{maxPlaces, noJob, without}
-use Rattle.jobs.proofs.Laws.{without-is-one-less}
-use Rattle.columns.specs.Columns.{Columns, columns, Holds, over, holding, putIn}
+use Rattle.jobs.proofs.Changes.{without-is-one-less}
+use Rattle.columns.specs.Columns.{Columns, columns, ColumnsHold, over, holding, putIn}
 use Rattle.columns.specs.Ticks.{workedBy}
-use Rattle.columns.specs.Inside.{closedUp}
-use Rattle.columns.specs.Laws as laws
+use Rattle.columns.specs.FirstAndClosing.{closedUp}
+use Rattle.columns.specs.ColumnLaws.{AlwaysHeld, FullStays, HeldAreCounted, HoldingHolds, NothingIsHeld, PutInAddsOne}
 use Rattle.columns.proofs.ClosingUp.{take-without, map-without}
 
 -- ---- one list
@@ -28,28 +28,28 @@ map-more : {A B : Type 0} (f : A → B) (l : List A) (a : A) → map f (l ++ (a 
 map-more f [] a = refl
 map-more f (b ∷ l) a = ap (_∷_ (f b)) (map-more f l a)
 
--- A field of jobs stands in the first entries of a list, as many as a count says.
+-- In this part, one field of some jobs stands in the first n entries of a list.
 module _ (f : Job → ℕ) (js : List Job) (l : List ℕ) (n : ℕ) (are : map f js ≡ take n l) where
-  -- With the same in its first entries the list is as it was.
+  -- Laying the same field of the same jobs over the list changes nothing.
   over-same : over (map f js) l ≡ l
   over-same = rw are (ap (λ (first : List ℕ). first ++ drop (length (take n l)) l) (sym (take-as-many n l)) ∙ take-append-drop (length (take n l)) l)
 
-  -- What stands at the place of a job is that field of it.
+  -- The entry at a job's place is that field of the job.
   pub field-at : (i : ℕ) → i < n → getD l i (f noJob) ≡ f (getD js i noJob)
   field-at i h = sym (getD-take n l i (f noJob) h) ∙ rw (← are) (List·getD-map f js i noJob)
 
-  -- One job is another, with the same field.
+  -- Where a job is replaced by one with the same field, the list stays as it was.
   over-other : (at : ℕ) (j : Job) → f j ≡ f (getD js at noJob) → l ≡ over (map f (set js at j)) l
   over-other at j e = rw (map-set-same f js at j noJob e) (sym over-same)
 
-  -- One job is another, with another field.
+  -- Where a job is replaced by one with another field, the entry at its place is set.
   over-set : (at : ℕ) (j : Job) → at < length js → set l at (f j) ≡ over (map f (set js at j)) l
   over-set at j h =
       ap (λ (k : List ℕ). set k at (f j)) (sym over-same)
       ∙ set-append-left (map f js) (drop (length (map f js)) l) at (f j) (omega (arith, length-map js f))
       ∙ simp (map-set, length-set)
 
-  -- One job is taken out.
+  -- Where a job is taken out, the list is closed up at its place.
   over-without : (at last : ℕ) → at ≤ last → length js ≡ last + 1 → closedUp at last l ≡ over (map f (without js at)) l
   over-without at last h e =
       let many : length (take n l) ≡ suc last = sym (ap length are) ∙ length-map js f ∙ e ∙ add-one last in
@@ -57,11 +57,11 @@ module _ (f : Job → ℕ) (js : List Job) (l : List ℕ) (n : ℕ) (are : map f
       let size : length (map f (without js at)) ≡ last = omega (arith, length-map (without js at) f, without-is-one-less js at (omega arith)) in
       rw (size, take-without l at last h, firsts, ← map-without)
 
-  -- One job more comes last.
+  -- Where a job is added, its field is set in the entry after the first n.
   more-are : (j : Job) → n < length l → map f (js ++ (j ∷ [])) ≡ take (n + 1) (set l n (f j))
   more-are j h = map-more f js j ∙ rw (are, add-one) (sym (take-suc-set l n (f j) h))
 
--- A field of jobs laid over the first entries of a list stands there, and the list is as long as before.
+-- A field of jobs that is laid over the first entries of a list stands there, and the list is as long as before.
 module _ (f : Job → ℕ) (js : List Job) (l : List ℕ) where
   over-firsts : map f js ≡ take (length js) (over (map f js) l)
   over-firsts = sym (take-at (map f js) (drop (length (map f js)) l) (length js) (length-map js f))
@@ -69,7 +69,7 @@ module _ (f : Job → ℕ) (js : List Job) (l : List ℕ) where
   over-long : length js ≤ maxPlaces → length l ≡ maxPlaces → length (over (map f js) l) ≡ maxPlaces
   over-long few size = simp (length-append, length-drop, length-map) (omega arith)
 
--- As many entries of a list as are in use are those that the count says.
+-- A count above 64 means 64: the first entries are the same ones.
 pub in-use-are : (l : List ℕ) (n count : ℕ) → length l ≡ maxPlaces → n ≡ min count maxPlaces → take n l ≡ take count l
 in-use-are l n count e many =
     let size : length (take count l) ≡ n = length-take count l ∙ ap (min count) e ∙ sym many in
@@ -77,21 +77,21 @@ in-use-are l n count e many =
 
 -- ---- all five lists
 
--- Columns are the same where each list and the count are.
+-- Columns are equal where their five lists and their counts are.
 same-columns : {s s' r r' l l' d d' f f' : List ℕ} {n n' : ℕ} → s ≡ s' → r ≡ r' → l ≡ l' → d ≡ d' → f ≡ f' → n ≡ n'
     → columns s r l d f n ≡ columns s' r' l' d' f' n'
 same-columns a b c d e f = rw (a, b, c, d, e, f)
 
-pub held-are-counted : laws.HeldAreCounted
+pub held-are-counted : HeldAreCounted
 held-are-counted c js h =
     sym (length-map js (λ (j : Job). j .serial .0)) ∙ ap length (h .serials-are) ∙ length-take (c .count) (c .serials)
     ∙ ap (min (c .count)) (h .all-places .of-serials)
 
-module _ {c : Columns} {js : List Job} (h : Holds c js) {n : ℕ} (many : n ≡ min (c .count) maxPlaces) where
+module _ {c : Columns} {js : List Job} (h : ColumnsHold c js) {n : ℕ} (many : n ≡ min (c .count) maxPlaces) where
   pub held-counted : length js ≡ n
   held-counted = held-are-counted c js h ∙ sym many
 
-  -- Nothing has changed.
+  -- Columns that hold some jobs stay as they were when the same jobs are laid over them.
   pub held-stay : columns (c .serials) (c .rows) (c .releases) (c .dues) (c .left) n ≡ holding js c
   unfolding holding
   held-stay = same-columns
@@ -102,7 +102,7 @@ module _ {c : Columns} {js : List Job} (h : Holds c js) {n : ℕ} (many : n ≡ 
       (sym (over-same _ js _ (c .count) (h .left-are)))
       (sym held-counted)
 
-  -- The job at a place has n units less to get.
+  -- Setting the units left of one job gives the columns that hold the jobs with that job worked on.
   pub held-worked : (at m : ℕ) → at < n
       → columns (c .serials) (c .rows) (c .releases) (c .dues) (set (c .left) at (getD js at noJob .left - m)) n
       ≡ holding (set js at (workedBy m (getD js at noJob))) c
@@ -117,7 +117,7 @@ module _ {c : Columns} {js : List Job} (h : Holds c js) {n : ℕ} (many : n ≡ 
       (over-set _ js _ (c .count) (h .left-are) at j (omega (arith, held-counted)))
       (sym (length-set js at j ∙ held-counted))
 
-  -- The job at a place is taken out.
+  -- Closing up every list at one place gives the columns that hold the jobs without the job at that place.
   pub held-without : (at last : ℕ) → at ≤ last → n ≡ last + 1
       → columns (closedUp at last (c .serials)) (closedUp at last (c .rows)) (closedUp at last (c .releases)) (closedUp at last (c .dues))
       (closedUp at last (c .left)) last
@@ -135,11 +135,11 @@ module _ {c : Columns} {js : List Job} (h : Holds c js) {n : ℕ} (many : n ≡ 
 
 -- ---- the laws
 
-pub nothing-is-held : laws.NothingIsHeld
+pub nothing-is-held : NothingIsHeld
 nothing-is-held c all e =
     record { all-places = all; serials-are = rw e; rows-are = rw e; releases-are = rw e; dues-are = rw e; left-are = rw e }
 
--- The job that stands at a place, with no stated cost.
+-- The job whose fields stand at a place. Columns hold no stated cost, so 0 stands for it.
 abbrev jobAt : Columns → ℕ → Job
 jobAt c i = record {
   serial = record { 0 = getD (c .serials) i 0 };
@@ -150,23 +150,23 @@ jobAt c i = record {
   left = getD (c .left) i 0;
 }
 
--- The jobs that stand at k places from i on.
+-- The jobs whose fields stand at the k places from i on.
 abbrev jobsFrom : Columns → (i k : ℕ) → List Job
 jobsFrom c i zero = []
 jobsFrom c i (suc k) = jobAt c i ∷ jobsFrom c (suc i) k
 
--- Each of their fields stands in its list.
+-- Each field of the jobs at the k places from i on stands in its list at these places.
 from-are : (f : Job → ℕ) (c : Columns) (l : List ℕ) → ((i : ℕ) → f (jobAt c i) ≡ getD l i 0) → (i k : ℕ) → i + k ≤ length l
     → map f (jobsFrom c i k) ≡ take k (drop i l)
 from-are f c l e i zero h = refl
 from-are f c l e i (suc k) h = rw (drop-cons l i 0 (omega arith), e i, from-are f c l e (suc i) k (omega arith))
 
--- Those in the places that are in use are held.
+-- Each field of the jobs in the used places is what columns with this count hold.
 in-use-from : (f : Job → ℕ) (c : Columns) (l : List ℕ) → ((i : ℕ) → f (jobAt c i) ≡ getD l i 0) → length l ≡ maxPlaces
     → map f (jobsFrom c 0 (min (c .count) maxPlaces)) ≡ take (c .count) l
 in-use-from f c l e size = from-are f c l e 0 (min (c .count) maxPlaces) (omega arith) ∙ in-use-are l (min (c .count) maxPlaces) (c .count) size refl
 
-pub always-held : laws.AlwaysHeld
+pub always-held : AlwaysHeld
 always-held c all = record {
   jobs = jobsFrom c 0 (min (c .count) maxPlaces);
   held = record {
@@ -179,7 +179,7 @@ always-held c all = record {
   };
 }
 
-pub holding-holds : laws.HoldingHolds
+pub holding-holds : HoldingHolds
 unfolding holding
 holding-holds c js all few = record {
   all-places = record {
@@ -196,9 +196,9 @@ holding-holds c js all few = record {
   left-are = over-firsts _ js (c .left);
 }
 
-pub put-adds-one : laws.PutAddsOne
+pub put-in-adds-one : PutInAddsOne
 unfolding putIn
-put-adds-one c js j h free =
+put-in-adds-one c js j h free =
     let all = h .all-places in
     rw (lt-ltb (c .count) maxPlaces free)
     (record {
@@ -216,6 +216,6 @@ put-adds-one c js j h free =
       left-are = more-are _ js _ (c .count) (h .left-are) j (omega (arith, all .of-left));
     })
 
-pub full-stays : laws.FullStays
+pub full-stays : FullStays
 unfolding putIn
 full-stays c j full = rw (le-ltb (c .count) maxPlaces full)

@@ -3,5 +3,5 @@ pub mod ClosingUp
 pub mod Strides
 pub mod Holding
 pub mod Working
-pub mod Laws
+pub mod WorkContract
 pub mod Answers

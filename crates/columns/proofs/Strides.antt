@@ -1,4 +1,4 @@
--- Ticks on pending jobs, and that the job that goes first has all of them until it finishes. (docs/RULES.md, 6.10 to 6.13.)
+-- Ticks on pending jobs: the chosen job gets all of them until it finishes. (docs/RULES.md, 6.10 to 6.13.)
 use Prim.Native.Nat.{ℕ, zero, suc, _+_, _-_, _≤_, _<_}
 use mathlib.Core.Path.{_≡_, refl, sym, ap, _∙_}
 use mathlib.Core.Bool.{true, false}
@@ -15,59 +15,59 @@ use Rattle.jobs.specs.Places.{noJob, without}
 use Rattle.jobs.specs.Choice.{firstPlace}
 use Rattle.jobs.specs.Units.{lastUnit, worked}
 use Rattle.jobs.specs.Turns.{finishAt}
-use Rattle.jobs.proofs.Laws.{choice-is-first, without-is-one-less}
+use Rattle.jobs.proofs.Changes.{choice-is-first, without-is-one-less}
 use Rattle.columns.specs.Ticks.{nobodyAt, finishedAt, firstOf, afterTick, workedFor, unitsToGo, workedBy}
-use Rattle.columns.specs.Laws as laws
+use Rattle.columns.specs.ColumnLaws.{FinishedMeans, FinishedStays, FirstFinishes, FirstGoesOn, InTwoParts, NoMoreThanItsUnits, NobodyMeans, NothingToWorkOn, TickFinishes, TickGoesOn}
 use Rattle.columns.proofs.Order.{first-alike}
 
 -- ---- one tick
 
-pub nothing-to-work-on : laws.NothingToWorkOn
+pub nothing-to-work-on : NothingToWorkOn
 unfolding workedFor
 nothing-to-work-on zero clock js h = refl
 nothing-to-work-on (suc n) clock js h = rw (eq-eqb (length js) 0 h)
 
-pub tick-finishes : laws.TickFinishes
+pub tick-finishes : TickFinishes
 unfolding workedFor
 tick-finishes n clock js h e = rw (ne-eqb (length js) 0 (λ z. omega arith), e)
 
-pub tick-goes-on : laws.TickGoesOn
+pub tick-goes-on : TickGoesOn
 unfolding workedFor
 tick-goes-on n clock js h e = rw (ne-eqb (length js) 0 (λ z. omega arith), e)
 
--- ---- the job that goes first has all ticks
+-- ---- the chosen job gets all ticks
 
--- A job that has had one unit still goes first.
+-- After a job has had a unit, the same job is chosen as before.
 still-first : (js : List Job) (at : ℕ) → firstPlace (set js at (worked (getD js at noJob))) ≡ firstPlace js
 still-first js at =
     let j = worked (getD js at noJob) in
     first-alike (set js at j) js (map-set-same (λ (i : Job). i .due .0) js at j noJob refl) (map-set-same (λ (i : Job). i .serial .0) js at j noJob refl)
 
--- A list without the entry at a place does not say what stood there.
+-- Taking out the entry at a place gives the same list, whatever that entry was set to before.
 without-set : {A : Type 0} (l : List A) (at : ℕ) (a : A) → without (set l at a) at ≡ without l at
 without-set [] at a = refl
 without-set (b ∷ l) zero a = refl
 without-set (b ∷ l) (suc at) a = ap (_∷_ b) (without-set l at a)
 
--- A job with some units left gets as many until it finishes.
+-- A job with at least one unit left gets as many units as it has left.
 pub to-go-all : (left : ℕ) → 1 ≤ left → unitsToGo left ≡ left
 to-go-all left h = elim (decLe left 1) [
   | yes k ↦ rw (le-leb left 1 k) (omega arith)
   | no k ↦ rw (lt-leb left 1 (omega arith))
 ]
 
--- A job with at most one unit left finishes with the next.
+-- A job with at most one unit left gets one unit before it finishes.
 to-go-one : (left : ℕ) → left ≤ 1 → unitsToGo left ≡ 1
 to-go-one left h = rw (le-leb left 1 h)
 
--- A job gets some units until it finishes. Where it gets more than one, it has more than one left.
+-- A job gets at least one unit before it finishes. A job that gets more than one has more than one left.
 pub to-go-some : (left : ℕ) → (1 ≤ unitsToGo left) × (1 < unitsToGo left → 1 < left)
 to-go-some left = elim (decLe left 1) [
   | yes k ↦ (omega (arith, to-go-one left k), λ l. absurd (omega (arith, to-go-one left k)))
   | no k ↦ (omega (arith, to-go-all left (omega arith)), λ l. omega arith)
 ]
 
--- What is known of the job that goes first, where it stands at a place.
+-- The job j stands at a place, and is the chosen one of these jobs.
 record First (js : List Job) (at : ℕ) (j : Job) : Type 0 where
   here : getD js at noJob ≡ j
   first : firstPlace js ≡ at
@@ -84,7 +84,7 @@ module _ (js : List Job) (at : ℕ) (j : Job) (f : First js at j) where
   its-job = rw (f .first) (f .here)
 
   module _ (more : 1 < j .left) where
-    -- It goes first after a unit that is not its last.
+    -- A chosen job is chosen again after a unit that is not its last.
     first-after : First (set js at (worked j)) at (worked j)
     first-after = record {
       here = getD-set-same js at (worked j) noJob (f .inside);
@@ -98,7 +98,7 @@ module _ (js : List Job) (at : ℕ) (j : Job) (f : First js at j) where
   last-tick : j .left ≤ 1 → (n clock : ℕ) → workedFor (suc n) clock js ≡ finishedAt (clock + 1) j (without js at)
   last-tick h n clock = tick-finishes n clock js some (rw its-job (le-leb (j .left) 1 h)) ∙ rw (f .first, f .here, le-leb (j .left) 1 h)
 
--- It has n ticks, which are too few to finish.
+-- The chosen job gets all n ticks where they are too few for it to finish.
 goes-on : (n clock : ℕ) (js : List Job) (at : ℕ) (j : Job) → First js at j → n < unitsToGo (j .left)
     → workedFor n clock js ≡ nobodyAt (clock + n) (set js at (workedBy n j))
 unfolding workedFor
@@ -115,7 +115,7 @@ goes-on (suc n) clock js at j f h =
     one-tick js at j f more n clock ∙ goes-on n (clock + 1) (set js at (worked j)) at (worked j) (first-after js at j f more) fewer
     ∙ rw (set-set, later, less)
 
--- It has as many ticks as it needs.
+-- The chosen job finishes where there are as many ticks as it needs.
 finishes : (n clock : ℕ) (js : List Job) (at : ℕ) (j : Job) → First js at j → unitsToGo (j .left) ≤ n
     → workedFor n clock js ≡ finishedAt (clock + unitsToGo (j .left)) j (without js at)
 finishes zero clock js at j f h = absurd (omega (arith, to-go-some (j .left) .0))
@@ -130,15 +130,15 @@ finishes (suc n) clock js at j f h = elim (decLe (j .left) 1) [
       ∙ rw (without-set, end)
 ]
 
-pub first-goes-on : laws.FirstGoesOn
+pub first-goes-on : FirstGoesOn
 first-goes-on n clock js h l = goes-on n clock js (firstPlace js) (firstOf js) (first-is-there js h) l
 
-pub first-finishes : laws.FirstFinishes
+pub first-finishes : FirstFinishes
 first-finishes n clock js h l = finishes n clock js (firstPlace js) (firstOf js) (first-is-there js h) l
 
 -- ---- many ticks
 
--- Nothing is pending, the first has too few ticks to finish, or it has enough.
+-- There are three cases: nothing is pending, there are too few ticks for the chosen job to finish, or there are enough.
 by-ticks : {G : Type 0} (n : ℕ) (js : List Job) → (length js ≡ 0 → G) → (1 ≤ length js → n < unitsToGo (firstOf js .left) → G)
     → (1 ≤ length js → unitsToGo (firstOf js .left) ≤ n → G) → G
 by-ticks n js nothing few enough = elim (decLe 1 (length js)) [
@@ -149,22 +149,22 @@ by-ticks n js nothing few enough = elim (decLe 1 (length js)) [
   ]
 ]
 
--- A unit is a job's last or not.
+-- The next unit of a job is its last or it is not.
 by-unit : {G : Type 0} (j : Job) → (lastUnit j ≡ true → G) → (lastUnit j ≡ false → G) → G
 by-unit j last more = elim (decLe (j .left) 1) [
   | yes k ↦ last (le-leb (j .left) 1 k)
   | no k ↦ more (lt-leb (j .left) 1 (omega arith))
 ]
 
-pub never-more : laws.NeverMore
-never-more n clock js =
+pub no-more-than-its-units : NoMoreThanItsUnits
+no-more-than-its-units n clock js =
     by-ticks n js
     (λ none. rw (nothing-to-work-on n clock js none) (omega arith))
     (λ some few. rw (first-goes-on n clock js some few, length-set) (omega arith))
     (λ some enough.
     rw (first-finishes n clock js some enough) (omega (arith, without-is-one-less js (firstPlace js) (choice-is-first js some .inside))))
 
-pub in-two-parts : laws.InTwoParts
+pub in-two-parts : InTwoParts
 unfolding workedFor
 in-two-parts zero m clock js e = let same : 0 + m ≡ m = omega arith in rw same
 in-two-parts (suc n) m clock js e =
@@ -181,21 +181,21 @@ in-two-parts (suc n) m clock js e =
           (in-two-parts n m (clock + 1) (afterTick js) (rw (tick-goes-on n clock js k more) at e)))
     ]
 
-pub finished-stays : laws.FinishedStays
+pub finished-stays : FinishedStays
 finished-stays n m clock js f e =
     by-ticks n js
     (λ none. let z = rw (nothing-to-work-on n clock js none) at e in impossible cc)
     (λ some few. let z = rw (first-goes-on n clock js some few) at e in impossible cc)
     (λ some enough. first-finishes (n + m) clock js some (omega arith) ∙ sym (first-finishes n clock js some enough))
 
-pub nobody-means : laws.NobodyMeans
+pub nobody-means : NobodyMeans
 nobody-means n clock js e =
     by-ticks n js
     (λ none. rw (nothing-to-work-on n clock js none) (record { as-many = refl; by-n = λ some. absurd (omega arith) }))
     (λ some few. rw (first-goes-on n clock js some few) (record { as-many = length-set js _ _; by-n = λ h. refl }))
     (λ some enough. let z = rw (first-finishes n clock js some enough) at e in impossible cc)
 
-pub finished-means : laws.FinishedMeans
+pub finished-means : FinishedMeans
 finished-means n clock js f e =
     by-ticks n js
     (λ none. let z = rw (nothing-to-work-on n clock js none) at e in impossible cc)

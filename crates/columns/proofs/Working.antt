@@ -1,4 +1,4 @@
--- What `work` makes of columns is what ticks make of the jobs that they hold. (docs/RULES.md, 6.10 to 6.13.)
+-- What `work` does to columns is what ticks do to the jobs that the columns hold. (docs/RULES.md, 6.10 to 6.13.)
 use Prim.Native.Nat.{ℕ, _+_, _-_, _≤_, _<_, min}
 use mathlib.Core.Path.{_≡_, sym, ap, _∙_}
 use mathlib.Core.List.{List}
@@ -10,15 +10,15 @@ use Rattle.jobs.specs.declared.Job.{Job}
 use Rattle.jobs.specs.Places.{maxPlaces, noJob, without}
 use Rattle.jobs.specs.Choice.{firstPlace}
 use Rattle.jobs.specs.Turns.{finishAt}
-use Rattle.jobs.proofs.Laws.{without-is-one-less}
+use Rattle.jobs.proofs.Changes.{without-is-one-less}
 use Rattle.columns.specs.declared.WorkAnswer.the-variants as answer
-use Rattle.columns.specs.Columns.{Columns, columns, Holds, serialsOf, duesOf}
+use Rattle.columns.specs.Columns.{Columns, columns, ColumnsHold, serialsOf, duesOf}
 use Rattle.columns.specs.Ticks.{nobodyAt, finishedAt, firstOf, workedFor, unitsToGo, workedBy, WorksOn}
-use Rattle.columns.specs.Inside.{IsFirstOf, ClosesUp}
+use Rattle.columns.specs.FirstAndClosing.{IsFirstOf, ClosesUp}
 use Rattle.columns.proofs.Holding.{in-use-are, field-at, held-counted, held-stay, held-worked, held-without}
 use Rattle.columns.proofs.Strides.{nothing-to-work-on, to-go-all, to-go-some, first-goes-on, first-finishes}
 
--- What is recorded of the job at a place, where it finishes at a time.
+-- The finish record of the job at a place, where the job finishes at the time `end`.
 abbrev recordedAt : Columns → (at end : ℕ) → Finish
 recordedAt c at end = record {
   serial = record { 0 = getD (c .serials) at 0 };
@@ -28,19 +28,19 @@ recordedAt c at end = record {
   finish = record { 0 = end };
 }
 
-module _ {c : Columns} {js : List Job} (h : Holds c js) (n : ℕ) (clock until : Tick) (many : n ≡ min (c .count) maxPlaces) where
-  -- Nobody finished, and nothing has changed.
+module _ {c : Columns} {js : List Job} (h : ColumnsHold c js) (n : ℕ) (clock until : Tick) (many : n ≡ min (c .count) maxPlaces) where
+  -- Where the ticks change nothing, `work` is right to leave the columns as they are and to answer that no job finished.
   works-not : workedFor (until .0 - clock .0) (clock .0) js ≡ nobodyAt (clock .0) js
       → WorksOn js c (clock .0) (until .0) (columns (c .serials) (c .rows) (c .releases) (c .dues) (c .left) n)
       (record { clock = clock; count = n; answer = answer.Nobody })
   works-not e = record { says = rw (e, held-counted h many); holds = rw e (held-stay h many) }
 
-  -- So it is where nothing is pending.
+  -- `work` is right to change nothing where nothing is pending.
   pub works-nothing : n ≡ 0 → WorksOn js c (clock .0) (until .0) (columns (c .serials) (c .rows) (c .releases) (c .dues) (c .left) n)
       (record { clock = clock; count = n; answer = answer.Nobody })
   works-nothing e = works-not (nothing-to-work-on (until .0 - clock .0) (clock .0) js (held-counted h many ∙ e))
 
-  -- So it is where the time has come already.
+  -- `work` is right to change nothing where the clock is at `until` or past it.
   pub works-no-time : until .0 ≤ clock .0
       → WorksOn js c (clock .0) (until .0) (columns (c .serials) (c .rows) (c .releases) (c .dues) (c .left) n)
       (record { clock = clock; count = n; answer = answer.Nobody })
@@ -49,7 +49,7 @@ module _ {c : Columns} {js : List Job} (h : Holds c js) (n : ℕ) (clock until :
 
   module _ (some : 1 ≤ n) (early : clock .0 < until .0) (at : ℕ) (first : IsFirstOf (take n (c .dues)) (take n (c .serials)) n at)
       (units : ℕ) (to-go : units ≡ unitsToGo (getD (c .left) at 0)) where
-    -- The place is that of the job that goes first.
+    -- The place that was found is that of the chosen job.
     at-first : at ≡ firstPlace js
     at-first =
         let dues-so : duesOf js ≡ take n (c .dues) = h .dues-are ∙ sym (in-use-are (c .dues) n (c .count) (h .all-places .of-dues) many) in
@@ -60,7 +60,7 @@ module _ {c : Columns} {js : List Job} (h : Holds c js) (n : ℕ) (clock until :
     inside : at < c .count
     inside = omega (arith, first .inside)
 
-    -- The lists have its fields at that place.
+    -- The lists have the fields of the chosen job at its place.
     left-here : getD (c .left) at 0 ≡ getD js at noJob .left
     left-here = field-at (λ (j : Job). j .left) js (c .left) (c .count) (h .left-are) at inside
 
@@ -75,14 +75,14 @@ module _ {c : Columns} {js : List Job} (h : Holds c js) (n : ℕ) (clock until :
     pending : 1 ≤ length js
     pending = omega (arith, held-counted h many)
 
-    -- It needs so many units.
+    -- `units` is how many units the chosen job gets before it finishes.
     units-here : units ≡ unitsToGo (getD js at noJob .left)
     units-here = to-go ∙ ap unitsToGo left-here
 
     units-first : unitsToGo (firstOf js .left) ≡ units
     units-first = rw (← at-first) (sym units-here)
 
-    -- The job needs more units than there are ticks.
+    -- `work` is right where the chosen job needs more units than there are ticks.
     pub works-on : until .0 - clock .0 < units
         → WorksOn js c (clock .0) (until .0)
         (columns (c .serials) (c .rows) (c .releases) (c .dues) (set (c .left) at (units - (until .0 - clock .0))) n)
@@ -97,7 +97,7 @@ module _ {c : Columns} {js : List Job} (h : Holds c js) (n : ℕ) (clock until :
         let less : units - ticks ≡ j .left - ticks = omega (arith, units-here, to-go-all (j .left) (omega arith)) in
         record { says = rw (reached, length-set, held-counted h many); holds = rw (reached, less) (held-worked h many at ticks (first .inside)) }
 
-    -- There are as many ticks as it needs.
+    -- `work` is right where there are as many ticks as the chosen job needs, and the job finishes.
     pub works-finished : units ≤ until .0 - clock .0 → {serials rows releases dues left : List ℕ}
         → ClosesUp at (n - 1) (c .serials) serials → ClosesUp at (n - 1) (c .rows) rows → ClosesUp at (n - 1) (c .releases) releases
         → ClosesUp at (n - 1) (c .dues) dues → ClosesUp at (n - 1) (c .left) left

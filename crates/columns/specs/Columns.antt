@@ -1,4 +1,4 @@
--- Pending jobs in lists of numbers, a field to a list: which jobs the lists hold, other jobs in their place, and a job put in. (docs/RULES.md, section 6.)
+-- Pending jobs in five lists of numbers, one list for each field of a job: which jobs the lists hold, and how a job is put in. (docs/RULES.md, section 6.)
 use Prim.Native.Nat.{ℕ, _+_}
 use mathlib.Core.Path.{_≡_}
 use mathlib.Core.Bool.{cond}
@@ -11,7 +11,7 @@ use Rattle.jobs.specs.Places.{maxPlaces}
 use Rattle.columns.specs.declared.PutAnswer.{PutAnswer}
 use Rattle.columns.specs.declared.PutAnswer.the-variants as answer
 
--- Five lists of numbers, and how many jobs stand in their first entries. A count above the places means all of them.
+-- Columns are five lists of numbers and a count. The jobs stand in the first entries of the lists, as many as the count says. A count above 64 means 64.
 pub record Columns : Type 0 where
   pub serials : List ℕ
   pub rows : List ℕ
@@ -20,7 +20,7 @@ pub record Columns : Type 0 where
   pub left : List ℕ
   pub count : ℕ
 
--- The five lists and the count as one.
+-- The columns that five lists and a count make.
 abbrev pub columns : (serials rows releases dues left : List ℕ) (count : ℕ) → Columns
 columns serials rows releases dues left count = record {
   serials = serials;
@@ -31,8 +31,8 @@ columns serials rows releases dues left count = record {
   count = count;
 }
 
--- Every list has an entry for each place. (6.1)
-pub record AllPlaces (c : Columns) : Type 0 where
+-- Every list has an entry for each of the 64 places. (6.1)
+pub record AllColumnPlaces (c : Columns) : Type 0 where
   pub of-serials : length (c .serials) ≡ maxPlaces
   pub of-rows : length (c .rows) ≡ maxPlaces
   pub of-releases : length (c .releases) ≡ maxPlaces
@@ -44,8 +44,8 @@ abbrev pub serialsOf : List Job → List ℕ
 serialsOf js = map (λ (j : Job). j .serial .0) js
 
 -- The row numbers of jobs, in order.
-abbrev pub rowsOf : List Job → List ℕ
-rowsOf js = map (λ (j : Job). j .row .0) js
+abbrev pub rowNumbersOf : List Job → List ℕ
+rowNumbersOf js = map (λ (j : Job). j .row .0) js
 
 -- The releases of jobs, in order.
 abbrev pub releasesOf : List Job → List ℕ
@@ -59,31 +59,31 @@ duesOf js = map (λ (j : Job). j .due .0) js
 abbrev pub leftOf : List Job → List ℕ
 leftOf js = map (λ (j : Job). j .left) js
 
--- Columns hold jobs: of each list the first entries, as many as the count says, are the jobs' field of that name. A job's stated cost is not held. (6.1)
-pub record Holds (c : Columns) (js : List Job) : Type 0 where
-  pub all-places : AllPlaces c
+-- Columns hold these jobs when the first entries of each list, as many as the count says, are that field of the jobs. No list holds the stated cost. (6.1)
+pub record ColumnsHold (c : Columns) (js : List Job) : Type 0 where
+  pub all-places : AllColumnPlaces c
   pub serials-are : serialsOf js ≡ take (c .count) (c .serials)
-  pub rows-are : rowsOf js ≡ take (c .count) (c .rows)
+  pub rows-are : rowNumbersOf js ≡ take (c .count) (c .rows)
   pub releases-are : releasesOf js ≡ take (c .count) (c .releases)
   pub dues-are : duesOf js ≡ take (c .count) (c .dues)
   pub left-are : leftOf js ≡ take (c .count) (c .left)
 
--- A list with other values in its first entries. Every later entry stays as it was.
+-- The list with these values in its first entries. Every later entry stays as it was.
 abbrev pub over : (values l : List ℕ) → List ℕ
 over values l = values ++ drop (length values) l
 
--- Columns with other jobs in their first entries. Every later entry of every list stays as it was.
+-- The columns with these jobs in the first entries. Every later entry of every list stays as it was.
 unfoldable pub holding : List Job → Columns → Columns
 holding js c = record {
   serials = over (serialsOf js) (c .serials);
-  rows = over (rowsOf js) (c .rows);
+  rows = over (rowNumbersOf js) (c .rows);
   releases = over (releasesOf js) (c .releases);
   dues = over (duesOf js) (c .dues);
   left = over (leftOf js) (c .left);
   count = length js;
 }
 
--- Columns with a job put into the first unused place. Where there is none, all stays as it was. (6.7, 6.18)
+-- The columns with a job put into the first unused place. Where all 64 places are in use, nothing changes. (6.7, 10.7)
 unfoldable pub putIn : Columns → Job → Columns
 putIn c j = cond (ltb (c .count) maxPlaces) (record {
   serials = set (c .serials) (c .count) (j .serial .0);
@@ -94,11 +94,11 @@ putIn c j = cond (ltb (c .count) maxPlaces) (record {
   count = c .count + 1;
 }) c
 
--- The answer where a job is put in beside so many others: how many are pending now, or refusal 8 where all places are in use. (6.8)
+-- The answer to a job that is put in where so many are pending: how many are pending now, or refusal 8 where all 64 places are in use. (6.8, 10.7)
 abbrev pub answerBeside : (count : ℕ) → PutAnswer
 answerBeside count = cond (ltb count maxPlaces) (answer.Count (count + 1)) (answer.Refused refusal.PlacesFull)
 
--- The count after a job was put in, or refused.
+-- The number of pending jobs after a job was put in or refused.
 abbrev pub countAfter : PutAnswer → (count : ℕ) → ℕ
 countAfter (answer.Count n) count = n
 countAfter (answer.Refused r) count = count

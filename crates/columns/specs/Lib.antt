@@ -1,5 +1,6 @@
 pub mod Columns
 pub mod Ticks
-pub mod Inside
+pub mod FirstAndClosing
 pub mod Answers
-pub mod Laws
+pub mod Outcomes
+pub mod ColumnLaws

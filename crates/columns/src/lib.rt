@@ -1,5 +1,5 @@
-// Pending jobs in lent arrays, a field to an array: a job put in, and ticks until a job finishes. Nothing here knows of tables, scripts or logs, and no call
-// copies an array. (docs/RULES.md, section 6.)
+// Pending jobs in lent arrays of numbers, one array for each field of a job. A job is put in, and ticks are given until a job finishes. Nothing here depends on
+// tables, scripts or logs, and no call copies an array. (docs/RULES.md, section 6.)
 mod places;
 
 use crate::places::close_up;
@@ -17,26 +17,26 @@ ghost use mathlib.Core.Path.{_≡_};
 ghost use Rattle.columns.specs.Columns.{columns, putIn, answerBeside, countAfter};
 ghost use Rattle.columns.specs.Ticks.{Works};
 
-// A job was put in, and so many are pending now; or it was refused.
+// The answer to a job that is put in: how many jobs are pending now, or a refusal.
 pub enum PutAnswer {
     Count(usize),
     Refused(Refusal),
 }
 
-// The job that finished, or nobody did.
+// The answer of some ticks: the job that finished, or that no job did.
 pub enum WorkAnswer {
     Finished(Finish),
     Nobody,
 }
 
-// The clock that was reached, how many jobs are pending then, and who finished.
+// What some ticks have led to: the clock, how many jobs are pending, and the job that finished, if one did.
 pub struct Worked {
     pub clock: Tick,
     pub count: usize,
     pub answer: WorkAnswer,
 }
 
-// A job put into the first unused place, or refused where there is none. A count above the places means all of them.
+// Puts a job into the first unused place. Where all 64 places are in use, that is refusal 8. A count above 64 means all 64 places. (6.7, 6.8, 10.7)
 pub fn put(
     serials: &mut [u64; Pending::PLACES],
     rows: &mut [u64; Pending::PLACES],
@@ -61,8 +61,8 @@ pub fn put(
     PutAnswer::Count(count + 1)
 }
 
-// Ticks until a job finishes, until a time, or until nothing is pending. The job that goes first has all of them, since no other comes in between: so they are
-// counted in one step. A count above the places means all of them.
+// Gives ticks until a job finishes, until the clock is at `until`, or until nothing is pending. All of them go to the chosen job, since no other job comes in
+// meanwhile, so they are counted in one step. A count above 64 means all 64 places. (6.10 to 6.13)
 pub fn work(
     serials: &mut [u64; Pending::PLACES],
     rows: &mut [u64; Pending::PLACES],

@@ -1,13 +1,13 @@
-// The places of pending jobs in arrays: which are in use, which job goes first, and one taken out. (docs/RULES.md, 6.10 to 6.13.)
+// The places of pending jobs in arrays: how many are in use, which job is chosen, and how a job is taken out. (docs/RULES.md, 6.10 to 6.13.)
 use jobs::Pending;
 ghost use mathlib.Core.Path.{_≡_};
 ghost use Prim.Native.Nat.{_≤_, _<_, min};
 ghost use lib.ListN.{take};
 ghost use Rattle.jobs.specs.Places.{maxPlaces};
-ghost use Rattle.columns.specs.Inside.{before, IsFirstOf, ClosesUp};
+ghost use Rattle.columns.specs.FirstAndClosing.{dueBefore, IsFirstOf, ClosesUp};
 ghost use Rattle.columns.specs.Ticks.{unitsToGo};
 
-// A count above the places means all of them.
+// How many places are in use. A count above 64 means all 64. (6.1)
 pub(crate) fn in_use(count: usize) -> usize
     ensures { λ r. ⌜ r ≡ min count maxPlaces ⌝ }
 {
@@ -18,7 +18,7 @@ pub(crate) fn in_use(count: usize) -> usize
     }
 }
 
-// The units that a job gets until it finishes: those that it has left, and at least one.
+// The units that a job gets before it finishes: its units left, and at least one. (6.13)
 pub(crate) fn units_to_go(left: u64) -> u64
     ensures { λ r. ⌜ r ≡ unitsToGo left ⌝ }
 {
@@ -28,9 +28,9 @@ pub(crate) fn units_to_go(left: u64) -> u64
     left
 }
 
-// An earlier due time goes first, and the lower serial among equals.
+// A job is chosen before another if its due time is earlier. Among equal due times the lower serial is chosen. (6.11)
 fn goes_before(due: u64, serial: u64, other: u64, its: u64) -> bool
-    ensures { λ r. ⌜ r ≡ before due serial other its ⌝ }
+    ensures { λ r. ⌜ r ≡ dueBefore due serial other its ⌝ }
 {
     if due < other {
         return true;
@@ -41,7 +41,7 @@ fn goes_before(due: u64, serial: u64, other: u64, its: u64) -> bool
     serial < its
 }
 
-// The place of the job that goes first.
+// The place of the job that is chosen. (6.11)
 pub(crate) fn first_due(
     dues: &[u64; Pending::PLACES],
     serials: &[u64; Pending::PLACES],
@@ -67,7 +67,7 @@ pub(crate) fn first_due(
     at
 }
 
-// Takes out what stands at a place: the later ones, up to the last, move down by one.
+// Takes out the entry at a place. The later entries, up to the one at `last`, move down by one place. (6.13)
 pub(crate) fn close_up(values: &mut [u64; Pending::PLACES], at: usize, last: usize)
     requires { ⌜ (at ≤ last) × (last < maxPlaces) ⌝ }
     ensures { λ r. ⌜ ClosesUp at last (now (values .entry)) (now (values .exit)) ⌝ }

@@ -1,4 +1,4 @@
--- What each answer of due times says. No answer is numbered 0, and different answers say different things.
+-- What each answer about due times says. None has the number 0, and different answers say different things.
 use mathlib.Core.Path.{_≡_, refl, ap}
 use Rattle.kinds.specs.Numbering.{NeverNumberedZero, SaysApart}
 use Rattle.kinds.proofs.Apart.{impossible}

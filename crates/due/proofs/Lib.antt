@@ -1,5 +1,5 @@
 pub mod Lists
 pub mod Keeping
-pub mod Laws
+pub mod NewestKept
 pub mod Answers
-pub mod Exactly
+pub mod DueAnswers

@@ -1,4 +1,4 @@
--- Laws of lists that kept due times ask for: a list looked at from its end, and a list that is changed in place from its start.
+-- Laws of lists that the proofs about kept due times need: a list seen from its end, and a list that is changed in place from its start.
 use Prim.Native.Nat.{ℕ, zero, suc, _+_, _-_, _≤_, _<_}
 use mathlib.Core.Path.{_≡_, refl, sym, ap, _∙_}
 use mathlib.Core.List.{List, [], _∷_, _++_, map, reverse, reverse-cons, reverse-append}
@@ -13,7 +13,7 @@ use Rattle.due.specs.Kept.{lastOnes}
 -- ---- a list from its end
 
 module _ {A : Type 0} where
-  -- The n-th from the end stands at place n - 1 of the reversed list.
+  -- The n-th element from the end stands at place n - 1 of the reversed list.
   pub getD-reverse : (l : List A) (n : ℕ) (d : A) → 1 ≤ n → n ≤ length l → getD (reverse l) (n - 1) d ≡ getD l (length l - n) d
   getD-reverse [] n d p h = absurd (omega arith)
   getD-reverse (a ∷ l) n d p h = ap (λ r. getD r (n - 1) d) (reverse-cons a l) ∙ by-lt (length l) n
@@ -24,15 +24,15 @@ module _ {A : Type 0} where
       let further : suc (length l) - n ≡ suc (length l - n) = omega arith in
       List·getD-append (reverse l) (a ∷ []) d (n - 1) (omega (arith, length-reverse l)) ∙ getD-reverse l n d p k ∙ rw further)
 
-  -- The last n are at most n.
+  -- The last n elements are at most n.
   pub last-ones-few : (n : ℕ) (l : List A) → length (lastOnes n l) ≤ n
   last-ones-few n l = omega (arith, length-drop (length l - n) l)
 
-  -- The last n are all, where there are at most n.
+  -- If there are at most n elements, the last n are all of them.
   pub last-ones-all : (n : ℕ) (l : List A) → length l ≤ n → lastOnes n l ≡ l
   last-ones-all n l h = let none : length l - n ≡ 0 = omega arith in rw none
 
-  -- The first n of the reversed list are the last n, reversed.
+  -- The first n elements of the reversed list are the last n of the list, reversed.
   pub take-reverse : (n : ℕ) (l : List A) → take n (reverse l) ≡ reverse (lastOnes n l)
   take-reverse n l = by-lt n (length l)
       (λ h.
@@ -42,36 +42,36 @@ module _ {A : Type 0} where
       ∙ take-at (reverse (drop m l)) (reverse (take m l)) n (omega (arith, length-reverse (drop m l), length-drop m l)))
       (λ h. take-all n (reverse l) (omega (arith, length-reverse l)) ∙ ap reverse (sym (last-ones-all n l h)))
 
-  -- With one more at the end, the last n are the last n - 1 of those before it, and it.
+  -- With one more element at the end, the last n are the last n - 1 of those before it, and it.
   pub last-ones-and-one : (n : ℕ) (l : List A) (a : A) → 1 ≤ n → lastOnes n (l ++ (a ∷ [])) ≡ lastOnes (n - 1) l ++ (a ∷ [])
   last-ones-and-one n l a p =
       let same : length (l ++ (a ∷ [])) - n ≡ length l - (n - 1) = omega (arith, length-append l (a ∷ [])) in
       ap (λ m. drop m (l ++ (a ∷ []))) same ∙ drop-append-le (length l - (n - 1)) l (a ∷ []) (omega arith)
 
-  -- The first n + m without the first n are the next m.
+  -- The first n + m elements without the first n are the m elements after these.
   drop-take : (n m : ℕ) (l : List A) → n ≤ length l → drop n (take (n + m) l) ≡ take m (drop n l)
   drop-take n m l h = ap (drop n) (take-add n m l) ∙ drop-at (take n l) (take m (drop n l)) n (length-take-le n l h)
 
-  -- So the last m of the first n are the m from place n - m on.
+  -- The last m of the first n elements are the m elements from place n - m on.
   pub last-ones-take : (m n : ℕ) (l : List A) → m ≤ n → n ≤ length l → lastOnes m (take n l) ≡ take m (drop (n - m) l)
   last-ones-take m n l h k =
       let parts : n ≡ n - m + m = omega arith in
       ap (λ i. drop (i - m) (take n l)) (length-take-le n l k) ∙ ap (λ i. drop (n - m) (take i l)) parts ∙ drop-take (n - m) m l (omega arith)
 
--- What is left of a map is the map of what is left.
+-- Dropping elements of a mapped list is the same as mapping the elements that are left.
 map-drop : {A B : Type 0} (f : A → B) (n : ℕ) (l : List A) → map f (drop n l) ≡ drop n (map f l)
 map-drop f zero l = refl
 map-drop f (suc n) [] = refl
 map-drop f (suc n) (a ∷ l) = map-drop f n l
 
--- The last n of a map are the map of the last n.
+-- The last n elements of a mapped list are the mapped last n elements.
 pub map-last-ones : {A B : Type 0} (f : A → B) (n : ℕ) (l : List A) → map f (lastOnes n l) ≡ lastOnes n (map f l)
 map-last-ones f n l = map-drop f (length l - n) l ∙ ap (λ m. drop (m - n) (map f l)) (sym (length-map l f))
 
 -- ---- a list from its start
 
 module _ {A : Type 0} where
-  -- In a list that begins with m, as long as i, what is stored at place i stands behind m.
+  -- If a list begins with m, which is i long, then what is stored at place i stands right after m.
   pub stored-behind : (m l : List A) (i : ℕ) (a : A) → length m ≡ i → i < length l → set (m ++ drop i l) i a ≡ m ++ (a ∷ []) ++ drop (i + 1) l
   stored-behind m l i a e h =
       ap (λ r. set (m ++ r) i a) (drop-cons l i a h)
@@ -84,11 +84,11 @@ module _ {A : Type 0} where
   movedDown by i l = take i (drop by l) ++ drop i l
 
   module _ (by i : ℕ) (l : List A) (d : A) (inside : by + i < length l) where
-    -- All that are to be moved are there.
+    -- The list has all the elements that are to be moved.
     moved-length : length (take i (drop by l)) ≡ i
     moved-length = length-take-le i (drop by l) (omega (arith, length-drop by l))
 
-    -- What is to be moved next stands where it stood.
+    -- The element to be moved next still stands where it stood.
     next-to-move : getD (movedDown by i l) (by + i) d ≡ getD (drop by l) i d
     next-to-move =
         let place : by + i ≡ length (take i (drop by l)) + by = omega (arith, moved-length) in
@@ -99,7 +99,7 @@ module _ {A : Type 0} where
         ∙ ap (λ n. getD l n d) turned
         ∙ sym (getD-drop by l i d)
 
-    -- One more is moved.
+    -- Moving one more element fills one more place.
     pub moved-one-more : set (movedDown by i l) i (getD (movedDown by i l) (by + i) d) ≡ movedDown by (i + 1) l
     moved-one-more =
         ap (set (movedDown by i l) i) next-to-move

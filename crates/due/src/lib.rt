@@ -1,4 +1,4 @@
-// Due times of a row: what is kept of them, the due time of a release, and keeping one more. Usable without a run. (docs/RULES.md, section 4.)
+// The due times of a row: those that are kept, the due time of a release, and keeping one more. No run is needed. (docs/RULES.md, section 4.)
 use kinds::Refusal;
 use kinds::Tick;
 use table::Row;
@@ -6,41 +6,42 @@ ghost use mathlib.Core.Path.{_≡_};
 ghost use Prim.Native.Nat.{min};
 ghost use Rattle.due.specs.Kept.{maxKept, nothingKept, dueOf, keepStep, keptSound};
 
-// The due times of a row's newest accepted jobs, oldest first: the first `count`. A count above the array's length means all of it.
+// The first `count` times are the due times of a row's newest accepted jobs, oldest first. A count above the array's length means all of the array. (4.6)
 pub struct Kept {
     pub times: [Tick; Kept::MAX],
     pub count: usize,
 }
 
-// The due time of a release, or why it has none.
+// A release has a due time, or is refused. (4.7, 10.7)
 pub enum Due {
     At(Tick),
     Refused(Refusal),
 }
 
-// Whether a due time was kept.
+// A due time was kept, or it was refused. (10.7)
 pub enum KeepAnswer {
     Done,
     Refused(Refusal),
 }
 
-// What is kept afterwards, beside the answer.
+// What is kept afterwards stands beside the answer. (4.6)
 pub struct KeepStep {
     pub kept: Kept,
     pub answer: KeepAnswer,
 }
 
 impl Kept {
-    // The most that a rule needs: a row's x is at most this.
+    // The rule for due times needs at most x of them, and x is at most this. (3.2, 4.6)
     pub const MAX: usize = Row::MAX_X as usize;
 
-    // The limit of the code is that of the rules.
+    // The contract ties the limit in the code to that in the definitions.
     pub fn limit() -> usize
         ensures { λ r. ⌜ r ≡ maxKept ⌝ }
     {
         Kept::MAX
     }
 
+    // A row with no jobs yet keeps no due times. (6.3)
     pub fn empty() -> Kept
         ensures { λ r. ⌜ r ≡ nothingKept ⌝ }
     {
@@ -50,7 +51,8 @@ impl Kept {
         }
     }
 
-    // The due time of the row's next job, released at a time with a stated cost. A row out of range is refusal 3, and a due time above 2^40 is 9.
+    // The answer is the due time of the row's next job. A row out of range is refusal 3, and a due time above 2^40 is refusal 9. Asking keeps nothing, so a
+    // release that is refused takes no j and leaves every due time alone. (4.2, 4.3, 4.4, 4.7)
     pub fn due(self, row: Row, release: Tick, cost: u64) -> Due
         ensures { λ r. ⌜ r ≡ dueOf self row (release .0) cost ⌝ }
     {
@@ -81,7 +83,7 @@ impl Kept {
         Due::At(Tick(due))
     }
 
-    // One due time more: of the row's newest, as many are kept as the rule needs. For a row out of range all stays as it was, with refusal 3.
+    // One more due time is kept, and of the row's due times the newest x stay. A row out of range is refusal 3, and then nothing changes. (4.6, 10.7)
     pub fn keep(self, row: Row, due: Tick) -> KeepStep
         ensures { λ r. ⌜ r ≡ keepStep self row due ⌝ }
     {
@@ -118,7 +120,7 @@ impl Kept {
         }
     }
 
-    // Whether what is kept can be a row's: at most x due times, none above 2^40.
+    // What is kept for a row is sound if at most x due times are counted, and none of these is above 2^40. (6.24)
     pub fn sound(self, row: Row) -> bool
         ensures { λ r. ⌜ r ≡ keptSound self row ⌝ }
     {
@@ -138,7 +140,7 @@ impl Kept {
     }
 }
 
-// A count above the array's length means all of it.
+// A count above the array's length means all of the array.
 fn in_use(count: usize) -> usize
     ensures { λ r. ⌜ r ≡ min count maxKept ⌝ }
 {

@@ -1,4 +1,4 @@
--- What the two calls return and write, by the size of the answer buffer. (docs/RULES.md, sections 9.4 to 9.7.)
+-- What the two calls return and write, by the length of the answer buffer, and which statuses can come. (docs/RULES.md, sections 9.4 to 9.7.)
 use Prim.Native.Nat.{ℕ, zero, suc, _+_, _-_, _/_, _%_, _^_, _≤_, _<_}
 use mathlib.Core.Path.{_≡_, refl, sym, ap, _∙_}
 use mathlib.Core.Logic.{_≢_, _⊎_, inl, inr, ⊎-elim}
@@ -11,14 +11,14 @@ use borrow.Author.Tests.{eq-eqb, ne-eqb}
 use Rattle.kinds.specs.Numbering.{Said, refusalNumber}
 use Rattle.kinds.specs.declared.Refusal.the-variants.{NoRoom}
 use Rattle.kinds.proofs.Numbering.{numbers-differ}
-use Rattle.numbers.specs.Laws.{Bytes}
+use Rattle.numbers.specs.SpelledNumbers.{Bytes}
 use Rattle.theory.proofs.Cases.{by-lt, by-eq}
 use Rattle.table.specs.declared.TableAnswer.{TableAnswer}
 use Rattle.table.specs.declared.TableAnswer.the-variants as answer
 use Rattle.table.specs.Tables.{tableRead}
 use Rattle.table.proofs.Refusals.{refused-with-one-to-five}
 use Rattle.words.specs.Words.{wordLength, lowestFirst}
-use Rattle.words.proofs.Laws.{lowest-first-length}
+use Rattle.words.proofs.Storing.{lowest-first-length}
 use Rattle.verdict.specs.declared.Verdict.{Verdict}
 use Rattle.verdict.specs.declared.Verdict.the-variants as verdict
 use Rattle.verdict.specs.Verdict.{RightOfRead, Judged, verdictSays}
@@ -29,19 +29,20 @@ use Rattle.play.proofs.Stopping.{stopped-by}
 use Rattle.replay.proofs.Answering.{no-room-answered as no-room-means, refused-answered as refused-means}
 use Rattle.play.proofs.Lengths.{log-is-short}
 use Rattle.host.specs.Answer.{answerLength, answerBytes, wrong-size, said}
-use Rattle.host.specs.Laws.{Filled, AnswerFilled, VerdictOfAnotherSize, ReplayOfAnotherSize, VerdictOfSixteen, ReplayOfSixteen}
-use Rattle.host.specs.Laws.{ReplayIs13, ReplayNever11Or25, TenTimesIsRoom, VerdictStatuses, VerdictIs13}
+use Rattle.host.specs.Buffers.{Filled}
+use Rattle.host.specs.HostLaws.{AnswerFilled, VerdictOfAnotherSize, ReplayOfAnotherSize, VerdictOfSixteen, ReplayOfSixteen}
+use Rattle.host.specs.HostLaws.{ReplayIs13, ReplayNever11Or25, TenTimesIsRoom, VerdictStatuses, VerdictIs13}
 
 -- ---- what fills the answer buffer
 
--- The bytes of a number, lowest first.
+-- Byte i of a number's bytes is its i-th byte, counted from the lowest.
 byte-of : (k n i : ℕ) → i < k → getD (lowestFirst k n) i 0 ≡ n / 256 ^ i % 256
 unfolding lowestFirst
 byte-of zero n i h = absurd (not-suc-le-zero h)
 byte-of (suc k) n zero h = rw (div-one n)
 byte-of (suc k) n (suc i) h = byte-of k (n / 256) i (le-of-suc-le-suc h) ∙ ap (λ m. m % 256) (rw (pow-succ' 256 i, div-div-eq-div-mul n 256 (256 ^ i)))
 
--- The two numbers fill it ..
+-- The bytes that the calls write for two numbers hold these numbers.
 filled : (s : Said) → Filled s (answerBytes s)
 filled s =
     let one = lowestFirst wordLength (s .first) in
@@ -53,7 +54,7 @@ filled s =
       second = λ i h. (rw long at (getD-append-add one other i 0)) ∙ byte-of wordLength (s .second) i h;
     }
 
--- .. in one way only.
+-- Two answer buffers that hold the same two numbers have the same bytes.
 filled-once : {s : Said} {a b : List ℕ} → Filled s a → Filled s b → a ≡ b
 filled-once {s} {a} {b} f g = ext-getD 0 a b (f .sixteen ∙ sym (g .sixteen)) λ i h.
     by-lt i 8 (λ low. f .first i low ∙ sym (g .first i low))
@@ -92,7 +93,7 @@ replay-of-sixteen table script log answer status after left sixteen = rw (eq-eqb
 
 -- ---- numbers that no replay has
 
--- Of the numbers above 10, a replay has 12, 14, 22 and 23 only.
+-- Of the numbers above 10, a replay says only 12, 14, 22 and 23.
 never-said : (table script : List ℕ) (room n : ℕ) → Bytes table → Bytes script → 10 < n → n ≢ 12 → n ≢ 14 → n ≢ 22 → n ≢ 23
     → replaySays (replayOf table script room) .number ≢ n
 never-said table script room n rows records above not-12 not-14 not-22 not-23 = by-outcome (replayOf table script room) refl
@@ -120,7 +121,7 @@ replay-never-11-or-25 table script room size rows records = by-eq size answerLen
     ))
     (λ other. rw (ne-eqb size answerLength other) (λ e. omega arith, λ e. omega arith))
 
--- 12 is for a log that is longer than the room, and none is longer than ten times its script.
+-- 12 means that the log is longer than its buffer, and no log is longer than ten times its script.
 pub ten-times-is-room : TenTimesIsRoom
 ten-times-is-room table script room size rows records enough = by-eq size answerLength
     (λ same. rw (eq-eqb size answerLength same) (by-outcome (replayOf table script room) refl))
@@ -136,7 +137,7 @@ ten-times-is-room table script room size rows records enough = by-eq size answer
 
 -- ---- numbers that a verdict has
 
--- A verdict that is right of a table is known by 1 to 5, as the table is refused, or by 20 or 21.
+-- A verdict that is right for a table says a number from 1 to 5 where the table is refused, and else 20 or 21.
 verdict-says : (table : List ℕ) (v : Verdict) → Bytes table → Judged table v
     → ((1 ≤ verdictSays v .number) × (verdictSays v .number ≤ 5)) ⊎ ((20 ≤ verdictSays v .number) × (verdictSays v .number ≤ 21))
 verdict-says table verdict.Feasible bytes j = inr (omega arith, omega arith)

@@ -1,4 +1,4 @@
--- An answer buffer: two numbers fill it, and it says them. (docs/RULES.md, 9.4.)
+-- Two numbers fill an answer buffer, and its bytes settle both numbers. (docs/RULES.md, 9.4.)
 use Prim.Native.Nat.{ℕ}
 use mathlib.Core.Path.{_≡_, sym, ap, _∙_}
 use mathlib.Core.List.{List, _++_}
@@ -8,10 +8,10 @@ use lib.Seq.{take-at, drop-at, sets}
 use Rattle.kinds.specs.Numbering.{Said}
 use Rattle.words.specs.Words.{wordLength, lowestFirst}
 use Rattle.kinds.proofs.Lists.{sets-append}
-use Rattle.words.proofs.Laws.{lowest-first-length, bytes-say-the-number, sets-whole}
+use Rattle.words.proofs.Storing.{lowest-first-length, bytes-say-the-number, sets-whole}
 use Rattle.host.specs.Answer.{answerLength, answerBytes, AnswerSaysItsNumbers}
 
--- A number stored at the buffer's start and one behind it are all that is in it.
+-- After one number was written at the answer buffer's start and another behind it, the buffer holds their bytes and nothing else.
 pub both-numbers : (answer : List ℕ) (first second : ℕ) → length answer ≡ answerLength
     → sets (sets answer 0 (lowestFirst wordLength first)) wordLength (lowestFirst wordLength second)
     ≡ lowestFirst wordLength first ++ lowestFirst wordLength second
@@ -22,7 +22,7 @@ both-numbers answer first second l =
     let whole : length (one ++ other) ≡ length answer = length-append one other ∙ omega (arith, long, lowest-first-length wordLength second) in
     sym (rw long at (sets-append one other answer 0)) ∙ sets-whole (one ++ other) answer whole
 
--- Its halves are the two numbers.
+-- The two halves of an answer buffer are the bytes of the two numbers.
 halves : (s : Said)
     → (take wordLength (answerBytes s) ≡ lowestFirst wordLength (s .first)) × (drop wordLength (answerBytes s) ≡ lowestFirst wordLength (s .second))
 halves s =

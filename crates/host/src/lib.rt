@@ -1,5 +1,6 @@
-// The host's two calls: what a C program links. Each takes byte buffers, returns a status number that is never zero, and writes the two numbers of its answer into
-// the answer buffer. (docs/RULES.md, section 9; include/jyrmekko.h.)
+// The host's two calls, the verdict and the replay. The host is a C program: it calls them with byte buffers, and gets a status number back (9.1). The status
+// is never zero, and the two numbers beside it are written into the answer buffer (9.5). The caller lends buffers that don't overlap, and no null pointer
+// except with length 0 (9.8). The manual for a C program is include/jyrmekko.h. (docs/RULES.md, section 9.)
 use kinds::Refusal;
 use kinds::RefusedAt;
 use replay::Replayed;
@@ -11,10 +12,10 @@ ghost use Rattle.host.specs.Answer.{answerBytes, VerdictAnswered, answer
 ghost use Rattle.host.specs.Answer.{replayStatus, replayAnswer, replayLog};
 ghost use Rattle.kinds.specs.Numbering.{refusedSays};
 
-// The length of an answer buffer: two words.
+// The length of an answer buffer in bytes: two numbers of eight bytes each. (9.4)
 const ANSWER: usize = 2 * WORD;
 
-// The statuses that are no refusal.
+// The four statuses that are no refusal are 20 to 23. (1.15)
 const FEASIBLE: u32 = 20;
 
 const OVERLOADED: u32 = 21;
@@ -23,7 +24,7 @@ const IN_TIME: u32 = 22;
 
 const LATE: u32 = 23;
 
-// Writes the two numbers of an answer, and hands back its status.
+// Writes the two numbers beside a status into the answer buffer, and returns the status. (9.4)
 fn say(answer: &mut [u8], status: u32, first: u64, second: u64) -> u32
     requires { ⌜ length (now answer) ≡ answerLength ⌝ }
     ensures { λ r. ⌜ (r ≡ status) × (now (answer .exit) ≡ answerBytes (record { number = status; first = first; second = second })) ⌝ }
@@ -33,6 +34,7 @@ fn say(answer: &mut [u8], status: u32, first: u64, second: u64) -> u32
     status
 }
 
+// Writes the place of a refusal and 0 into the answer buffer, and returns the refusal's number. (9.5)
 fn refuse(answer: &mut [u8], at: RefusedAt) -> u32
     requires { ⌜ length (now answer) ≡ answerLength ⌝ }
     ensures { λ r. ⌜ (r ≡ refusedSays at .number) × (now (answer .exit) ≡ answerBytes (refusedSays at)) ⌝ }
@@ -41,14 +43,14 @@ fn refuse(answer: &mut [u8], at: RefusedAt) -> u32
     say(answer, refusal.number(), at.place as u64, 0)
 }
 
-// 20 feasible; 21 overloaded, with the smallest length and its demand; else the table's refusal, with its place. 13 first.
+// The verdict on a table. It returns 20 where the table is feasible, 21 where it is overloaded, with the smallest length and its demand, and else the table's
+// refusal, with its place. Before all that, an answer buffer that is not 16 bytes long is refused with 13, and nothing is written. (9.2, 9.5, 9.6)
 #[no_mangle]
 pub extern "C" fn verdict(table: &[u8], answer: &mut [u8]) -> u32
     ensures { λ r. ⌜ VerdictAnswered (now (table .entry)) (now (answer .entry)) r (now (answer .exit)) ⌝ }
 {
     if answer.len() != ANSWER {
-        // Nothing is written.
-        return Refusal::AnswerSize.number();
+        return Refusal::AnswerNot16Bytes.number();
     }
     match verdict::judge(table) {
         Verdict::Feasible => say(answer, FEASIBLE, 0, 0),
@@ -57,8 +59,9 @@ pub extern "C" fn verdict(table: &[u8], answer: &mut [u8]) -> u32
     }
 }
 
-// 22 replayed all in time, 23 with late jobs, both with the log's length and the jobs late; else the refusal, with its place. 13 first, and then nothing is
-// written.
+// The replay of a script on a table, into a log. It returns 22 where all jobs are in time and 23 where some are late, both with the log's length and the jobs
+// late, and else the refusal, with its place. Before all that, an answer buffer that is not 16 bytes long is refused with 13, and nothing is written, neither
+// answer nor log. (9.3, 9.5, 9.6)
 #[no_mangle]
 pub extern "C" fn replay(table: &[u8], script: &[u8], log: &mut [u8], answer: &mut [u8]) -> u32
     ensures { λ r. ⌜ (r ≡ replayStatus (now (table .entry)) (now (script .entry)) (length (now (log .entry))) (length (now (answer .entry))))
@@ -66,7 +69,7 @@ pub extern "C" fn replay(table: &[u8], script: &[u8], log: &mut [u8], answer: &m
         × (now (log .exit) ≡ replayLog (now (table .entry)) (now (script .entry)) (now (log .entry)) (length (now (answer .entry)))) ⌝ }
 {
     if answer.len() != ANSWER {
-        return Refusal::AnswerSize.number();
+        return Refusal::AnswerNot16Bytes.number();
     }
     match replay::replay(table, script, log) {
         Replayed::InTime(length) => say(answer, IN_TIME, length as u64, 0),

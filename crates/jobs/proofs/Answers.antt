@@ -1,4 +1,4 @@
--- No answer about pending jobs is numbered 0, different answers say different things, and what each says.
+-- What each answer about pending jobs says. None has the number 0, and different answers say different things.
 use Prim.Native.Nat.{ℕ}
 use mathlib.Core.Path.{_≡_, refl, ap, ap₂}
 use mathlib.Core.Bool.{Bool, true, false, cond}
@@ -20,21 +20,21 @@ use Rattle.jobs.specs.Answers.{hasFinished, ranValues, jobValues, ranAs,
 
 -- ---- different answers say different things
 
--- Finished or not is told apart.
+-- A job that finished and one that did not are told apart.
 pub finished-apart : (a b : Finished) → hasFinished a ≡ hasFinished b → a ≡ b
 finished-apart finished.Yes finished.Yes e = refl
 finished-apart finished.Yes finished.No e = impossible cc
 finished-apart finished.No finished.Yes e = impossible cc
 finished-apart finished.No finished.No e = refl
 
--- It is told apart by a number, too.
+-- A job that finished says 1 and one that did not says 0, so these numbers tell the two apart.
 bool-apart : (a b : Bool) → _≡_ {A = ℕ} (cond a 1 0) (cond b 1 0) → a ≡ b
 bool-apart true true e = refl
 bool-apart true false e = absurd (omega arith)
 bool-apart false true e = absurd (omega arith)
 bool-apart false false e = refl
 
--- Jobs that had a unit are told apart by what is said of them.
+-- Jobs that had a unit are told apart by what is said about them.
 ran-apart : (q r : Ran) → values (ranValues q) ≡ values (ranValues r) → q ≡ r
 ran-apart q r e =
     let serial : q .serial .0 ≡ r .serial .0 = cc in

@@ -36,13 +36,13 @@ first-start zero l d = refl
 first-start (suc n) [] d = refl
 first-start (suc n) (j ∷ js) d = refl
 
--- The next job is the best so far where it goes before the one that was.
+-- The next job becomes the best so far if it goes before the one that was.
 pub first-next : (n : ℕ) (l : List Job) (i at : ℕ) (best d : Job) → i < length (take n l) → (b : Bool) → goesBefore (getD l i d) best ≡ b
     → firstFrom i at best (drop i (take n l)) ≡ firstFrom (i + 1) (cond b i at) (cond b (getD l i d) best) (drop (i + 1) (take n l))
 first-next n l i at best d h true e = rw (rest-cons n l i d h, e, add-one)
 first-next n l i at best d h false e = rw (rest-cons n l i d h, e, add-one)
 
--- No job is left: the place is that of the first.
+-- When no job is left to compare, the place found is that of the job that goes first.
 pub first-end : (js : List Job) (i at : ℕ) (best : Job) → length js ≤ i → firstFrom i at best (drop i js) ≡ firstPlace js → at ≡ firstPlace js
 first-end js i at best h e = rw (drop-of-length-le js h) at e
 

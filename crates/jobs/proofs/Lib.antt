@@ -3,6 +3,6 @@ pub mod First
 pub mod Late
 pub mod Turns
 pub mod Serials
-pub mod Laws
+pub mod Changes
 pub mod Answers
 pub mod Calls

@@ -1,4 +1,4 @@
--- The first places of a list: how many they are, what is left of them from a place on, and how one is taken out by moving the later ones down.
+-- The first places of a list: how many there are, what they hold from a place on, and how one is taken out by moving the later ones down.
 use Prim.Native.Nat.{ℕ, zero, suc, _+_, _-_, _≤_, _<_, min}
 use mathlib.Core.Path.{_≡_, refl, sym, ap, _∙_}
 use mathlib.Core.List.{List, [], _∷_, _++_}
@@ -15,24 +15,24 @@ use Rattle.jobs.specs.declared.TakeAnswer.the-variants as answer
 use Rattle.jobs.specs.Places.{maxPlaces, noJob, jobsOf, used, without, takenOut, takeStep}
 
 module _ {A : Type 0} where
-  -- What is left of the first n from a place on: what stands there, and then the rest.
+  -- The first n elements from a place on are the one that stands there, and then the rest.
   pub rest-cons : (n : ℕ) (l : List A) (i : ℕ) (d : A) → i < length (take n l) → drop i (take n l) ≡ getD l i d ∷ drop (i + 1) (take n l)
   rest-cons n l i d h =
       let k : i < n = omega (arith, length-take n l) in
       drop-cons (take n l) i d h ∙ rw (add-one, getD-take n l i d k)
 
-  -- A list whose places from `at` up to i hold what stood one place on.
+  -- In `moved l at i`, the places from `at` up to i hold what stood one place further on.
   abbrev pub moved : List A → (at i : ℕ) → List A
   moved l at i = take i (without l at) ++ drop i l
 
-  -- None has moved.
+  -- At first no element has moved.
   pub moved-none : (l : List A) (at : ℕ) → l ≡ moved l at at
   moved-none [] zero = refl
   moved-none [] (suc at) = refl
   moved-none (a ∷ l) zero = refl
   moved-none (a ∷ l) (suc at) = ap (_∷_ a) (moved-none l at)
 
-  -- One more moves down, with the next place as `suc i`.
+  -- One more element moves down. Here the next place is written `suc i`.
   moved-suc : (l : List A) (at i : ℕ) (d : A) → at ≤ i → suc i < length l → set (moved l at i) i (getD (moved l at i) (suc i) d) ≡ moved l at (suc i)
   moved-suc [] at i d h k = absurd (not-suc-le-zero k)
   moved-suc (a ∷ []) at i d h k = absurd (not-suc-le-zero (le-of-suc-le-suc k))
@@ -41,11 +41,11 @@ module _ {A : Type 0} where
   moved-suc (a ∷ b ∷ l) (suc at) zero d h k = absurd (not-suc-le-zero h)
   moved-suc (a ∷ b ∷ l) (suc at) (suc i) d h k = ap (_∷_ a) (moved-suc (b ∷ l) at i d (le-of-suc-le-suc h) (le-of-suc-le-suc k))
 
-  -- One more moves down, with the next place as the code has it.
+  -- One more element moves down. Here the next place is written `i + 1`, as in the code.
   pub moved-more : (l : List A) (at i : ℕ) (d : A) → at ≤ i → i + 1 < length l → set (moved l at i) i (getD (moved l at i) (i + 1) d) ≡ moved l at (i + 1)
   moved-more l at i d h k = rw add-one (moved-suc l at i d h (omega arith))
 
-  -- All of the first places have moved, and the last of them, which is freed, is set: with their number as `suc last`.
+  -- All elements of the first places have moved, and the last of these places, which is freed, is set. Here their number is written `suc last`.
   moved-suc-all : (l : List A) (at last : ℕ) (e : A) → at ≤ last → last < length l
       → set (moved l at last) last e ≡ without (take (suc last) l) at ++ e ∷ drop (suc last) l
   moved-suc-all [] at last e h k = absurd (not-suc-le-zero k)
@@ -55,7 +55,7 @@ module _ {A : Type 0} where
   moved-suc-all (a ∷ l) (suc at) zero e h k = absurd (not-suc-le-zero h)
   moved-suc-all (a ∷ l) (suc at) (suc last) e h k = ap (_∷_ a) (moved-suc-all l at last e (le-of-suc-le-suc h) (le-of-suc-le-suc k))
 
-  -- The same with the number of the places as the code has it.
+  -- All elements of the first places have moved, and the last of these places, which is freed, is set. Here their number is written as in the code.
   pub moved-all : (l : List A) (at last : ℕ) (e : A) → at ≤ last → last < length l
       → set (moved l at last) last e ≡ without (take (last + 1) l) at ++ e ∷ drop (last + 1) l
   moved-all l at last e h k = rw add-one (moved-suc-all l at last e h k)
@@ -66,7 +66,7 @@ module _ {A : Type 0} where
   length-without (a ∷ l) zero h = omega arith
   length-without (a ∷ l) (suc at) h = omega (arith, length-without l at (le-of-suc-le-suc h))
 
--- The least of the count and of all places, as the code has it, is how many are in use.
+-- The smaller of the count and 64, which the code uses, is the number of places in use.
 pub used-is : (p : Pending) (n : ℕ) → length (p .places) ≡ maxPlaces → n ≡ min (p .count) maxPlaces → n ≡ used p
 used-is p n h e = e ∙ ap (min (p .count)) (sym h) ∙ sym (length-take (p .count) (p .places))
 
@@ -79,12 +79,12 @@ moved-is-taken-out p at last h e =
     let n : used p - 1 ≡ last = omega arith in
     simp (moved-all (p .places) at last noJob h l, e, take-as-many (p .count) (p .places), lt-ltb at (used p) (omega arith), n)
 
--- Where no job is pending at the place, all stays as it was.
+-- If no job is pending at the place, nothing changes.
 pub nothing-taken-out : (p : Pending) (at : ℕ) → used p ≤ at → p ≡ takenOut p at
 unfolding takenOut
 nothing-taken-out p at h = simp (le-ltb at (used p) h)
 
--- The call hands back the job whose place was filled by moving the later ones down.
+-- Taking a job out hands back the job whose place was filled by moving the later ones down.
 pub take-moved : (p : Pending) (at last : ℕ) → at ≤ last → last + 1 ≡ used p
     → record {
       pending = record { places = set (moved (p .places) at last) last noJob; count = last };
@@ -94,13 +94,13 @@ pub take-moved : (p : Pending) (at last : ℕ) → at ≤ last → last + 1 ≡ 
 unfolding takeStep
 take-moved p at last h e = rw (moved-is-taken-out p at last h e, lt-ltb at (used p) (omega arith))
 
--- The call says that nobody is there.
+-- If no job is pending at the place, taking one out answers that nobody is there.
 pub take-nobody : (p : Pending) (at : ℕ) → used p ≤ at → record { pending = p; answer = answer.Nobody } ≡ takeStep p at
 unfolding takeStep
 take-nobody p at h = rw (← nothing-taken-out p at h, le-ltb at (used p) h)
 
 module _ (p : Pending) (at : ℕ) (h : at < used p) where
-  -- What is pending after a job is taken out: the others, in their order.
+  -- After a job is taken out, the others are pending, in their order.
   pub jobs-taken-out : jobsOf (takenOut p at) ≡ without (jobsOf p) at
   unfolding takenOut
   jobs-taken-out =
@@ -118,6 +118,6 @@ module _ (p : Pending) (at : ℕ) (h : at < used p) where
   places-taken-out =
       simp (lt-ltb at (used p) h, length-append, length-drop) (omega (arith, length-without (jobsOf p) at h, length-take (p .count) (p .places)))
 
--- What is pending where another job is set in a place in use.
+-- If a job is stored in a place in use, the pending jobs change at that place only.
 pub jobs-set : (p : Pending) (at : ℕ) (j : Job) → at < used p → take (used p) (set (p .places) at j) ≡ set (jobsOf p) at j
 jobs-set p at j h = take-set-lt (used p) (p .places) at j h ∙ ap (λ (l : List Job). set l at j) (take-as-many (p .count) (p .places))

@@ -1,4 +1,4 @@
--- The tests of serials: one turn of the loops that make them, what they mean for any two jobs, and what changes of the list keep that.
+-- The tests of serials: one turn of the loops that make them, what they mean for any two jobs, and which changes of the list keep that.
 use Prim.Native.Nat.{ℕ, zero, suc, _+_, _-_, _≤_, _<_, suc-le-suc}
 use mathlib.Core.Path.{_≡_, refl, sym}
 use mathlib.Core.List.{List, [], _∷_, _++_}
@@ -11,16 +11,16 @@ use lib.ListN.{length, take, drop, set, getD, length-take, length-set, drop-of-l
 use Rattle.jobs.specs.declared.Job.{Job}
 use Rattle.jobs.specs.Places.{noJob, without}
 use Rattle.jobs.specs.Serials.{hasNot, distinctSerials, risingAbove, risingSerials}
-use Rattle.jobs.specs.Laws.{serialAt}
+use Rattle.jobs.specs.JobChanges.{serialAt}
 use Rattle.jobs.proofs.Places.{rest-cons}
 
 -- ---- one turn of the loops
 
--- Of the first n jobs, those from a place on have serials that rise above that of the job before.
+-- `risingFrom` tests that of the first n jobs those from the place i on have serials that rise, above the serial of the job before i.
 abbrev pub risingFrom : (n : ℕ) → List Job → (i : ℕ) → Bool
 risingFrom n l i = risingAbove (serialAt l (i - 1)) (drop i (take n l))
 
--- All serials rise where those from the second on do.
+-- All serials rise exactly if those from the second on rise above the first.
 pub rising-start : (n : ℕ) (l : List Job) → risingFrom n l 1 ≡ risingSerials (take n l)
 rising-start zero l = refl
 rising-start (suc n) [] = refl
@@ -34,32 +34,32 @@ module _ (n : ℕ) (l : List Job) (i : ℕ) where
       drop-of-length-le (take n l) past
 
   module _ (h : i < n) (k : n ≤ length l) where
-    -- What is left is the job at the place, and then the rest.
+    -- The jobs from a place on are the one there, and then the rest.
     rest : drop i (take n l) ≡ getD l i noJob ∷ drop (i + 1) (take n l)
     rest = rest-cons n l i noJob (omega (arith, length-take n l))
 
-    -- A serial that is not above the one before it: they do not rise.
+    -- If a serial is not above the one before it, the serials do not rise.
     pub rising-stops : serialAt l i ≤ serialAt l (i - 1) → risingFrom n l i ≡ false
     rising-stops m = rw (rest, le-ltb (serialAt l (i - 1)) (serialAt l i))
 
-    -- A serial above the one before it: what is left decides.
+    -- If a serial is above the one before it, the jobs after it decide.
     pub rising-goes-on : serialAt l (i - 1) < serialAt l i → risingFrom n l i ≡ risingFrom n l (i + 1)
     rising-goes-on m =
         let e : i + 1 - 1 ≡ i = omega arith in
         rw (e, rest, lt-ltb (serialAt l (i - 1)) (serialAt l i))
 
     module _ (s : ℕ) where
-      -- The serial stands at the place.
+      -- If the serial s stands at the place, the test finds it.
       pub met : serialAt l i ≡ s → hasNot s (drop i (take n l)) ≡ false
       met e = rw (rest, eq-eqb (serialAt l i) s)
 
-      -- It does not: what is left decides.
+      -- If the serial s does not stand at the place, the jobs after it decide.
       pub not-met : (serialAt l i ≡ s → ⊥) → hasNot s (drop i (take n l)) ≡ hasNot s (drop (i + 1) (take n l))
       not-met ne = rw (rest, ne-eqb (serialAt l i) s)
 
-    -- The serial at the place stands at a later one again, or it does not and what is left decides.
+    -- `again` says whether the serial at the place stands at a later one. If it does, the serials are not distinct, and if not, the jobs after it decide.
     module _ (again : Bool) (e : again ≡ not (hasNot (serialAt l i) (drop (i + 1) (take n l)))) where
-      -- That it does not stand later is what the test denies.
+      -- The test that the serial stands at no later place is the opposite of `again`.
       denied : hasNot (serialAt l i) (drop (i + 1) (take n l)) ≡ not again
       denied = rw (e, Bool·not-not)
 
@@ -71,11 +71,11 @@ module _ (n : ℕ) (l : List Job) (i : ℕ) where
 
 -- ---- what the tests mean
 
--- A fact of the serial of each job.
+-- Q holds for the serial of each job.
 abbrev pub Each : (ℕ → Type 0) → List Job → Type 0
 Each Q js = (i : ℕ) → i < length js → Q (serialAt js i)
 
--- A fact of the serials of any two jobs, the earlier one first.
+-- R holds for the serials of any two jobs, the one in the earlier place first.
 abbrev pub AnyTwo : (ℕ → ℕ → Type 0) → List Job → Type 0
 AnyTwo R js = (i k : ℕ) → i < k → k < length js → R (serialAt js i) (serialAt js k)
 
@@ -83,7 +83,7 @@ AnyTwo R js = (i k : ℕ) → i < k → k < length js → R (serialAt js i) (ser
 abbrev pub Differ : ℕ → ℕ → Type 0
 Differ a b = a ≡ b → ⊥
 
--- Of each job: of no job, of one job and the others, and of the others.
+-- How `Each` holds for no job, for one more job in front, and for the jobs after the first.
 module _ (Q : ℕ → Type 0) where
   each-of-none : Each Q []
   each-of-none i h = absurd (not-suc-le-zero h)
@@ -95,7 +95,7 @@ module _ (Q : ℕ → Type 0) where
   each-of-tail : (j : Job) (js : List Job) → Each Q (j ∷ js) → Each Q js
   each-of-tail j js e i h = e (suc i) (suc-le-suc h)
 
--- Of any two: of no job, of one job with each of the others and any two of those, and back.
+-- How `AnyTwo` holds for no job and for one more job in front, and what it says about the first job and those after it.
 module _ (R : ℕ → ℕ → Type 0) where
   two-of-none : AnyTwo R []
   two-of-none i k h l = absurd (not-suc-le-zero l)
@@ -111,7 +111,7 @@ module _ (R : ℕ → ℕ → Type 0) where
   two-of-tail : (j : Job) (js : List Job) → AnyTwo R (j ∷ js) → AnyTwo R js
   two-of-tail j js t i k h l = t (suc i) (suc k) (suc-le-suc h) (suc-le-suc l)
 
--- No job has the serial s: each serial is not s.
+-- If the test finds that no job has the serial s, each serial differs from s.
 has-not-to : (s : ℕ) (js : List Job) → hasNot s js ≡ true → Each (Differ s) js
 has-not-to s [] e = each-of-none (Differ s)
 has-not-to s (j ∷ js) e =
@@ -123,7 +123,7 @@ has-not-from s [] f = refl
 has-not-from s (j ∷ js) f =
     rw (ne-eqb (j .serial .0) s (λ q. f 0 (omega arith) (sym q)), has-not-from s js (each-of-tail (Differ s) j js f))
 
--- Serials are distinct: any two differ.
+-- If the test finds that the serials are distinct, any two of them differ.
 pub distinct-to : (js : List Job) → distinctSerials js ≡ true → AnyTwo Differ js
 distinct-to [] e = two-of-none Differ
 distinct-to (j ∷ js) e =
@@ -135,7 +135,7 @@ distinct-from [] t = refl
 distinct-from (j ∷ js) t =
     rw (has-not-from (j .serial .0) js (two-of-head Differ j js t), distinct-from js (two-of-tail Differ j js t))
 
--- Serials rise above s: each is above s, and of any two the later is above the earlier.
+-- If the serials rise above s, each is above s, and of any two the later is above the earlier.
 above-to : (s : ℕ) (js : List Job) → risingAbove s js ≡ true → Each (_<_ s) js × AnyTwo _<_ js
 above-to s [] e = (each-of-none (_<_ s), two-of-none _<_)
 above-to s (j ∷ js) e =
@@ -149,7 +149,7 @@ above-from s [] f t = refl
 above-from s (j ∷ js) f t =
     rw (lt-ltb s (j .serial .0) (f 0 (omega arith)), above-from (j .serial .0) js (two-of-head _<_ j js t) (two-of-tail _<_ j js t))
 
--- Serials rise: of any two the later is above the earlier.
+-- If the serials rise, of any two the later is above the earlier.
 pub rising-to : (js : List Job) → risingSerials js ≡ true → AnyTwo _<_ js
 rising-to [] e = two-of-none _<_
 rising-to (j ∷ js) e = let later = above-to (j .serial .0) js e in two-of-cons _<_ j js (later .0) (later .1)
@@ -162,9 +162,9 @@ rising-from (j ∷ js) t = above-from (j .serial .0) js (two-of-head _<_ j js t)
 pub rising-distinct : (js : List Job) → risingSerials js ≡ true → distinctSerials js ≡ true
 rising-distinct js e = distinct-from js (λ i k h l q. omega (arith, rising-to js e i k h l))
 
--- ---- what keeps them
+-- ---- what keeps serials rising and distinct
 
--- What holds of each job and of one more holds of each with that one put last.
+-- What holds for each job and for one more holds for each job of the list with that one at its end.
 pub one-more : (P : Job → Type 0) (js : List Job) (j : Job) → ((i : ℕ) → i < length js → P (getD js i noJob)) → P j
     → (i : ℕ) → i < length (js ++ (j ∷ [])) → P (getD (js ++ (j ∷ [])) i noJob)
 one-more P [] j f p zero h = p
@@ -172,14 +172,14 @@ one-more P [] j f p (suc i) h = absurd (not-suc-le-zero (le-of-suc-le-suc h))
 one-more P (a ∷ js) j f p zero h = f 0 (omega arith)
 one-more P (a ∷ js) j f p (suc i) h = one-more P js j (λ k l. f (suc k) (suc-le-suc l)) p i (le-of-suc-le-suc h)
 
--- What holds of each serial holds without one.
+-- What holds for each serial still does if one job is left out.
 each-without : (Q : ℕ → Type 0) (js : List Job) (at : ℕ) → Each Q js → Each Q (without js at)
 each-without Q [] at e = e
 each-without Q (j ∷ js) zero e = each-of-tail Q j js e
 each-without Q (j ∷ js) (suc at) e =
     each-of-cons Q j (without js at) (e 0 (omega arith)) (each-without Q js at (each-of-tail Q j js e))
 
--- A serial in the place of the same one changes none.
+-- Replacing a job by one with the same serial changes no serial.
 same-serials : (js : List Job) (at : ℕ) (j : Job) → j .serial .0 ≡ serialAt js at → (i : ℕ) → serialAt (set js at j) i ≡ serialAt js i
 same-serials [] at j e i = refl
 same-serials (a ∷ js) zero j e zero = e
@@ -187,7 +187,7 @@ same-serials (a ∷ js) zero j e (suc i) = refl
 same-serials (a ∷ js) (suc at) j e zero = refl
 same-serials (a ∷ js) (suc at) j e (suc i) = same-serials js at j e i
 
--- What holds of any two serials still does where a job is left out, where one comes last, and where one takes the place of another with its serial.
+-- What holds for any two serials still does if a job is left out, if one is added at the end, and if one is replaced by another with the same serial.
 module _ (R : ℕ → ℕ → Type 0) where
   pub two-without : (js : List Job) (at : ℕ) → AnyTwo R js → AnyTwo R (without js at)
   two-without [] at t = t

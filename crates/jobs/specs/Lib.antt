@@ -5,4 +5,8 @@ pub mod Late
 pub mod Serials
 pub mod Turns
 pub mod Answers
-pub mod Laws
+pub mod JobChanges
+pub mod SerialLaws
+pub mod LateLaws
+pub mod CallLaws
+pub mod PlaceLaws

@@ -1,4 +1,4 @@
--- One tick: a unit for the job that goes first, if one is pending; and the record of a job that finishes. (docs/RULES.md, sections 6.10 to 6.14.)
+-- One tick, which gives a unit to the job that goes first, if one is pending; and the record of a job that finishes. (docs/RULES.md, 6.10 to 6.14.)
 use Prim.Native.Nat.{ℕ}
 use mathlib.Core.Bool.{cond}
 use lib.Dec.{eqb}
@@ -13,25 +13,26 @@ use Rattle.jobs.specs.Choice.{firstPlace}
 use Rattle.jobs.specs.Units.{ranOf, after}
 use Rattle.jobs.specs.Late.{lateCount}
 
--- The job that goes first of those pending. (6.11)
+-- `firstJob` is the pending job that goes first. (6.11)
 abbrev pub firstJob : Pending → Job
 firstJob p = getD (p .places) (firstPlace (jobsOf p)) noJob
 
--- The pending jobs after one tick: the job that goes first has had a unit. (6.10)
+-- After one tick the job that goes first has had a unit. (6.10, 6.11)
 abbrev pub oneTick : Pending → Pending
 oneTick p = after p (firstPlace (jobsOf p))
 
--- One tick that ends at a clock: it is idle where nothing is pending, and else the job that goes first has it. (6.10 to 6.14)
+-- One tick takes the clock to `clock`. If nothing is pending it is idle, and otherwise the job that goes first gets a unit. Then the jobs that became late are
+-- counted. (6.10 to 6.14)
 unfoldable pub turned : Pending → (clock : ℕ) → Turned
 turned p clock =
     cond (eqb (used p) 0)
     (record { pending = p; turn = turn.Idle; late = 0 })
     (record { pending = oneTick p; turn = turn.Ran (ranOf (firstJob p)); late = lateCount clock (jobsOf (oneTick p)) })
 
--- What is recorded of a job that finishes at a time. (6.13)
+-- For a job that finishes at `clock`, its serial, row, release, due time and finish are recorded. (6.13, 8.8)
 abbrev pub finishAt : (clock : ℕ) → Job → Finish
 finishAt clock j = record { serial = j .serial; row = j .row; release = j .release; due = j .due; finish = record { 0 = clock } }
 
--- What an unused record of finished jobs holds.
+-- A finish record that is not in use holds zeros.
 abbrev pub noFinish : Finish
 noFinish = finishAt 0 noJob

@@ -1,4 +1,5 @@
-// Whether two pending jobs have one serial: serials that rise from place to place, and a serial that is met again. (docs/RULES.md, 6.22.)
+// Two tests of the serials of pending jobs: whether they rise from place to place, and whether one of them stands at a later place again.
+// (docs/RULES.md, 6.22.)
 use crate::Job;
 use crate::Pending;
 ghost use mathlib.Core.Path.{_≡_};
@@ -8,7 +9,7 @@ ghost use lib.ListN.{take, drop, getD};
 ghost use Rattle.jobs.specs.Places.{maxPlaces, noJob};
 ghost use Rattle.jobs.specs.Serials.{hasNot, risingSerials};
 
-// Whether each serial is above the one before it.
+// `rising` tests that each serial is above the one before it. Serials that rise are distinct. (6.22)
 pub(crate) fn rising(places: [Job; Pending::PLACES], count: usize) -> bool
     requires { ⌜ count ≤ maxPlaces ⌝ }
     ensures { λ r. ⌜ r ≡ risingSerials (take count places) ⌝ }
@@ -25,7 +26,7 @@ pub(crate) fn rising(places: [Job; Pending::PLACES], count: usize) -> bool
     true
 }
 
-// Whether the serial at a place stands at a later place again.
+// `meets_again` tests whether the serial at a place stands at a later place again. (6.22)
 pub(crate) fn meets_again(places: [Job; Pending::PLACES], count: usize, at: usize) -> bool
     requires { ⌜ (at < count) × (count ≤ maxPlaces) ⌝ }
     ensures { λ r. ⌜ r ≡ not (hasNot (getD places at noJob .serial .0) (drop (at + 1) (take count places))) ⌝ }

@@ -1,5 +1,5 @@
-// Jobs that wait for the processor: a job put in, which one goes first, one unit given, a job taken out, who became late, and one tick. Nothing here knows of
-// tables or of a clock's limit, so another run with another choice can use it. (docs/RULES.md, section 6.)
+// Pending jobs: putting a job in, the choice of the job that goes first, giving one unit, taking a job out, counting the jobs that became late, and one tick.
+// Nothing here knows about tables or about the clock's limit, so another kind of run can use it. (docs/RULES.md, section 6.)
 mod distinct;
 mod one_job;
 
@@ -22,7 +22,7 @@ ghost use Rattle.jobs.specs.Late.{lateCount};
 ghost use Rattle.jobs.specs.Serials.{distinctSerials};
 ghost use Rattle.jobs.specs.Turns.{turned};
 
-// A pending job: what it asked for, and the units that it has left to get.
+// A pending job holds what its release settled, and its units left. (1.7, 6.1)
 pub struct Job {
     pub serial: Serial,
     pub row: RowNumber,
@@ -32,80 +32,80 @@ pub struct Job {
     pub left: u64,
 }
 
-// The pending jobs are those in the first `count` places; a count above the places means all of them.
+// The pending jobs are those in the first `count` places. A count above the number of places means all of them. (6.1)
 pub struct Pending {
     pub places: [Job; Pending::PLACES],
     pub count: usize,
 }
 
-// Whether a job has had its last unit.
+// A job finishes when it gets its last unit. (6.13)
 pub enum Finished {
     Yes,
     No,
 }
 
-// The job that had a unit.
+// The job that had a unit is named by its serial, with whether it finished. (6.12)
 pub struct Ran {
     pub serial: Serial,
     pub finished: Finished,
 }
 
-// Who had a tick. It is idle exactly where nothing was pending.
+// A tick is idle exactly when nothing is pending. Otherwise one job had the unit. (6.12)
 pub enum Turn {
     Idle,
     Ran(Ran),
 }
 
-// The place of the job that goes first.
+// The choice is the place of the job that goes first, or nobody if no job is pending. (6.11)
 pub enum Choice {
     Place(usize),
     Nobody,
 }
 
-// Whether a job found a place.
+// A job was put in, or it was refused because all places are in use. (6.7, 6.8)
 pub enum PutAnswer {
     Done,
     Refused(Refusal),
 }
 
-// The pending jobs after one was put in, and whether it found a place.
+// The pending jobs after the call stand beside the answer. (6.7)
 pub struct PutStep {
     pub pending: Pending,
     pub answer: PutAnswer,
 }
 
-// The job that was taken out of a place, or that nobody was there.
+// This job was taken out, or nobody was pending at the place. (6.13, 10.7)
 pub enum TakeAnswer {
     Taken(Job),
     Nobody,
 }
 
-// The pending jobs after one was taken out, and which one it was.
+// The pending jobs after one was taken out stand beside the answer. (6.13)
 pub struct TakeStep {
     pub pending: Pending,
     pub answer: TakeAnswer,
 }
 
-// The job at a place that had a unit, or that nobody was there.
+// This job had the unit, or nobody was pending at the place. (6.12, 10.7)
 pub enum GiveAnswer {
     Ran(Ran),
     Nobody,
 }
 
-// The pending jobs after a unit was given, and who had it.
+// The pending jobs after a unit was given stand beside the answer. (6.12)
 pub struct Given {
     pub pending: Pending,
     pub answer: GiveAnswer,
 }
 
-// What one tick made of pending jobs: those that are left, who had it, and how many jobs became late.
+// A tick gives the pending jobs after it, its answer, and how many jobs became late. (6.12, 6.14)
 pub struct Turned {
     pub pending: Pending,
     pub turn: Turn,
     pub late: u64,
 }
 
-// A count above the places means all of them.
+// A count above the number of places means all of them.
 fn in_use(count: usize) -> usize
     ensures { λ r. ⌜ r ≡ min count maxPlaces ⌝ }
 {
@@ -117,15 +117,17 @@ fn in_use(count: usize) -> usize
 }
 
 impl Pending {
+    // At most this many jobs are pending. (6.1, 6.2)
     pub const PLACES: usize = 64;
 
-    // The limit of the code is that of the rules.
+    // The contract ties the limit in the code to that in the definitions.
     pub fn limit() -> usize
         ensures { λ r. ⌜ r ≡ maxPlaces ⌝ }
     {
         Pending::PLACES
     }
 
+    // No job is pending, and every place holds zeros. (6.3)
     pub fn empty() -> Pending
         ensures { λ r. ⌜ r ≡ emptyPending ⌝ }
     {
@@ -136,7 +138,7 @@ impl Pending {
         }
     }
 
-    // The job in the first unused place; where there is none the answer is refusal 8, and all stays as it was.
+    // The job goes into the first unused place. If there is none, that is refusal 8, and nothing changes. (6.7, 6.8, 10.7)
     pub fn put(self, job: Job) -> PutStep
         ensures { λ r. ⌜ r ≡ putStep self job ⌝ }
     {
@@ -156,7 +158,7 @@ impl Pending {
         }
     }
 
-    // The place of the job that goes first.
+    // The job with the earliest due time goes first, and among equal due times the one with the lowest serial. (6.11)
     pub fn choice(self) -> Choice
         ensures { λ r. ⌜ r ≡ choiceOf (jobsOf self) ⌝ }
     {
@@ -178,7 +180,7 @@ impl Pending {
         Choice::Place(at)
     }
 
-    // The job at a place taken out and handed back; the later ones move down by one.
+    // The job at a place is taken out and handed back. The jobs in later places move down one place, and the place that this frees holds zeros. (6.13)
     pub fn take_out(self, at: usize) -> TakeStep
         ensures { λ r. ⌜ r ≡ takeStep self at ⌝ }
     {
@@ -207,7 +209,7 @@ impl Pending {
         }
     }
 
-    // The pending jobs after the one at a place had a unit: it is taken out where that was its last.
+    // The job at a place gets one unit, and is taken out if that was its last. (6.10, 6.13)
     fn after(self, at: usize) -> Pending
         requires { ⌜ at < used self ⌝ }
         ensures { λ r. ⌜ r ≡ after self at ⌝ }
@@ -224,7 +226,7 @@ impl Pending {
         pending
     }
 
-    // One unit for the job at a place. Where nobody is there, that is the answer, and all stays as it was.
+    // The job at a place gets one unit. If nobody is pending there, that is the answer, and nothing changes. (6.10, 10.7)
     pub fn give(self, at: usize) -> Given
         ensures { λ r. ⌜ r ≡ given self at ⌝ }
     {
@@ -242,7 +244,7 @@ impl Pending {
         }
     }
 
-    // How many jobs are unfinished and due at the clock.
+    // The late count is the number of jobs that are unfinished and whose due time equals the clock. (6.14)
     pub fn late(self, clock: Tick) -> u64
         ensures { λ r. ⌜ r ≡ lateCount (clock .0) (jobsOf self) ⌝ }
     {
@@ -259,7 +261,8 @@ impl Pending {
         n
     }
 
-    // Whether no two jobs have one serial: seen in one look where serials rise, as they do where jobs were only put in; else by comparing all.
+    // `distinct` tests that no two jobs have the same serial. In a run that came from a fresh one the serials rise from place to place, and comparing
+    // neighbours is enough. Otherwise every two are compared. (6.22)
     pub fn distinct(self) -> bool
         ensures { λ r. ⌜ r ≡ distinctSerials (jobsOf self) ⌝ }
     {
@@ -278,7 +281,7 @@ impl Pending {
         true
     }
 
-    // One tick that ends at `clock`, the new clock: a unit for the job that goes first, if one is pending.
+    // One tick takes the clock to `clock`. The job that goes first gets a unit, if one is pending. Then the jobs that became late are counted. (6.10 to 6.14)
     pub fn tick(self, clock: Tick) -> Turned
         ensures { λ r. ⌜ r ≡ turned self (clock .0) ⌝ }
     {

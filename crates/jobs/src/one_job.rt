@@ -1,4 +1,4 @@
-// What is asked of one job or two: what an unused place holds, which job goes first, whether one is late, and what is said of it when it has a unit.
+// Functions of one job or two: what an unused place holds, which of two jobs goes first, whether a job becomes late, and what is answered when it gets a unit.
 // (docs/RULES.md, 6.11 to 6.14.)
 use crate::Finished;
 use crate::Job;
@@ -12,6 +12,7 @@ ghost use Rattle.jobs.specs.Choice.{goesBefore};
 ghost use Rattle.jobs.specs.Late.{isLate};
 ghost use Rattle.jobs.specs.Units.{ranOf};
 
+// An unused place holds zeros. (6.13)
 pub(crate) fn no_job() -> Job
     ensures { λ r. ⌜ r ≡ noJob ⌝ }
 {
@@ -25,7 +26,7 @@ pub(crate) fn no_job() -> Job
     }
 }
 
-// An earlier due time goes first, and the lower serial among equals.
+// The earlier due time goes first, and among equal due times the lower serial. (6.11)
 pub(crate) fn goes_before(a: Job, b: Job) -> bool
     ensures { λ r. ⌜ r ≡ goesBefore a b ⌝ }
 {
@@ -38,7 +39,7 @@ pub(crate) fn goes_before(a: Job, b: Job) -> bool
     a.serial.0 < b.serial.0
 }
 
-// Whether a job is unfinished and due at the clock.
+// A job becomes late if it is unfinished and its due time equals the clock. (1.9, 6.14)
 pub(crate) fn is_late(job: Job, clock: Tick) -> bool
     ensures { λ r. ⌜ r ≡ isLate (clock .0) job ⌝ }
 {
@@ -48,7 +49,7 @@ pub(crate) fn is_late(job: Job, clock: Tick) -> bool
     false
 }
 
-// The serial of a job that has a unit, and whether it finishes with it.
+// For a job that gets a unit, its serial is answered, and whether it finished. (6.12)
 pub(crate) fn ran_of(job: Job) -> Ran
     ensures { λ r. ⌜ r ≡ ranOf job ⌝ }
 {

@@ -1,4 +1,4 @@
--- The laws of the refusals' numbers. That no two share one: a table gives each number its refusal back.
+-- The proofs of the laws about the refusals' numbers. No two refusals share a number, because a list gives each number its refusal back.
 use Prim.Native.Nat.{ℕ, _≤_}
 use mathlib.Core.Path.{_≡_, refl, sym, ap, ap₂, _∙_}
 use mathlib.Core.Logic.{inl, inr, ⊎-elim}
@@ -12,16 +12,16 @@ use Rattle.kinds.specs.Numbering.{refusalNumber, allRefusals, NumbersDif
 use Rattle.kinds.specs.Numbering.{Said, Says, RefusalsApart, PlainRefusalsApart}
 use Rattle.kinds.specs.Numbering as says
 
--- The refusals from 1 to 14 in order. (Nothing is numbered 0: what stands there is never looked at.)
+-- The refusals numbered 1 to 14, each at the place of its number. (No refusal has the number 0, so place 0 is never looked at.)
 inOrder : List Refusal
 inOrder = refusal.Misspelled ∷ take 14 allRefusals
 
--- The refusal that has a number.
+-- The refusal with a given number.
 numbered : ℕ → Refusal
 unfolding inOrder
 numbered n = getD inOrder n refusal.NumberTooBig
 
--- A refusal's number gives it back.
+-- The number of a refusal gives back that refusal.
 back : (r : Refusal) → numbered (refusalNumber r) ≡ r
 unfolding inOrder numbered
 back refusal.Misspelled = refl
@@ -36,14 +36,14 @@ back refusal.DueTooLate = refl
 back refusal.TimeTooLate = refl
 back refusal.RunNotSound = refl
 back refusal.NoRoom = refl
-back refusal.AnswerSize = refl
+back refusal.AnswerNot16Bytes = refl
 back refusal.ScriptMisspelled = refl
 back refusal.NumberTooBig = refl
 
 pub numbers-differ : NumbersDiffer
 numbers-differ r s e = sym (back r) ∙ ap numbered e ∙ back s
 
--- The numbers that are said, where some are.
+-- What a numbered answer says. For an answer that says its values alone this is zeros.
 abbrev pub saidIn : Says → Said
 saidIn (says.Says.numbered s) = s
 saidIn (says.Says.values vs) = record { number = 0; first = 0; second = 0 }
@@ -56,7 +56,7 @@ refusals-apart q r e =
 pub plain-refusals-apart : PlainRefusalsApart
 plain-refusals-apart q r e = numbers-differ q r (ap (λ a. saidIn a .number) e)
 
--- So a refusal's number is the number of what the table has there.
+-- The refusal that the list has for a refusal's number has that number.
 same : (r : Refusal) → refusalNumber r ≡ refusalNumber (numbered (refusalNumber r))
 same r = ap refusalNumber (sym (back r))
 
@@ -74,7 +74,7 @@ never-an-answer r = elim (decLe 20 (refusalNumber r)) [
   | no l ↦ inl (omega arith)
 ]
 
--- So no refusal has an answer's number.
+-- No refusal has a number from 20 to 23.
 pub no-answer : (r : Refusal) → 20 ≤ refusalNumber r → refusalNumber r ≤ 23 → ⊥
 no-answer r least most = ⊎-elim (λ h. omega arith) (λ h. omega arith) (never-an-answer r)
 

@@ -1,21 +1,21 @@
-// The words that every crate uses: the three kinds of number that must not be mixed up, and the refusals.
+// The kinds that every crate uses: the three kinds of number that must never be mixed up, what is known about a finished job, and the refusals.
 ghost use mathlib.Core.Path.{_≡_};
 ghost use Rattle.kinds.specs.Numbering.{maxTime, refusalNumber};
 
-// The serial of an accepted release: 0 for a run's first, then counted up.
+// The serial of a job. Accepted jobs are numbered from 0 in the order in which they are accepted, over all rows. (1.5, 1.14)
 pub struct Serial(pub u64);
 
-// Which row of a table, counted from 0.
+// A row number: a row's position in its table, counted from 0. (1.2, 1.14)
 pub struct RowNumber(pub u64);
 
-// A time in ticks: a clock, a release, a due time.
+// A time, as a number of ticks since 0: a clock, a release, a due time or a finish. (1.3, 1.14)
 pub struct Tick(pub u64);
 
 impl Tick {
-    // No clock, script time or due time is ever later: 2^40.
+    // The largest time, 2^40. No clock, script time or due time may be above it. (4.7, 6.1, 8.6)
     pub const MAX: u64 = 0x100_0000_0000;
 
-    // The limit of the code is that of the rules.
+    // Returns the code's limit, so that the contract can say that it equals the rules' limit.
     pub fn max() -> u64
         ensures { λ r. ⌜ r ≡ maxTime ⌝ }
     {
@@ -23,7 +23,7 @@ impl Tick {
     }
 }
 
-// What is known of a job that has had its cost: one record of a log. It finished in the tick that ended at `finish`.
+// What a log's record says about one finished job. The job got its last unit in the tick that ended at `finish`. (6.13, 8.8)
 pub struct Finish {
     pub serial: Serial,
     pub row: RowNumber,
@@ -32,7 +32,7 @@ pub struct Finish {
     pub finish: Tick,
 }
 
-// Why a call says no: a case for each refusal of docs/RULES.md, section 10, named after its rule.
+// Why a call refuses. There is one case for each refusal, with the name that the rules give it. (10.1, 10.3)
 pub enum Refusal {
     Misspelled,
     TooManyRows,
@@ -46,19 +46,19 @@ pub enum Refusal {
     TimeTooLate,
     RunNotSound,
     NoRoom,
-    AnswerSize,
+    AnswerNot16Bytes,
     ScriptMisspelled,
     NumberTooBig,
 }
 
-// A refusal, and the place in the bytes at hand where its rule points.
+// A refusal, and the place in the lent bytes that its rule names. (10.2)
 pub struct RefusedAt {
     pub refusal: Refusal,
     pub place: usize,
 }
 
 impl Refusal {
-    // The number that a refusal is known by outside.
+    // The refusal's number. (10.3)
     pub fn number(self) -> u32
         ensures { λ r. ⌜ r ≡ refusalNumber self ⌝ }
     {
@@ -75,7 +75,7 @@ impl Refusal {
             Refusal::TimeTooLate => 10,
             Refusal::RunNotSound => 11,
             Refusal::NoRoom => 12,
-            Refusal::AnswerSize => 13,
+            Refusal::AnswerNot16Bytes => 13,
             Refusal::ScriptMisspelled => 14,
             Refusal::NumberTooBig => 25,
         }

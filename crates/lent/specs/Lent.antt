@@ -1,7 +1,7 @@
--- What a tick of a lent run answers. (docs/RULES.md, sections 6.10 to 6.17.)
+-- What a tick of a lent run answers. (docs/RULES.md, sections 6.10 to 6.19.)
 use Rattle.run.specs.declared.TickStep.{TickStep}
 use Rattle.lent.specs.declared.TickAnswer.{TickAnswer}
 
--- A step's answer and late count: the run stays behind the reference.
-abbrev pub answerOf : TickStep → TickAnswer
-answerOf step = record { answer = step .answer; late = step .late }
+-- The answer and the late count of a tick by value. These are what the tick of a lent run answers; the next run stays behind the reference. (6.14, 6.19)
+abbrev pub tickAnswerOf : TickStep → TickAnswer
+tickAnswerOf step = record { answer = step .answer; late = step .late }

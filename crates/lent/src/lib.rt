@@ -1,4 +1,4 @@
-// The run lent by exclusive reference and changed in place: thin over the calls by value, with their answers and their runs. (docs/RULES.md, section 6.)
+// Release and tick of a run that is lent by exclusive reference and changed in place. Answers and runs are those of the calls by value. (docs/RULES.md, 6.19.)
 use kinds::RowNumber;
 use run::ReleaseStep;
 use run::Released;
@@ -8,15 +8,15 @@ use run::Ticked;
 ghost use mathlib.Core.Path.{_≡_};
 ghost use Rattle.run.specs.Release.{released};
 ghost use Rattle.run.specs.Ticking.{ticked};
-ghost use Rattle.lent.specs.Lent.{answerOf};
+ghost use Rattle.lent.specs.Lent.{tickAnswerOf};
 
-// What a tick answers of a run that stays where it is.
+// What a tick of a lent run answers: the answer and the late count of the tick by value. (6.14, 6.19)
 pub struct TickAnswer {
     pub answer: Ticked,
     pub late: u64,
 }
 
-// A job of a row, released now: the run behind the reference is the one that the call by value hands back, refusals included.
+// Releases a job of a row. The answer, and the run behind the reference afterwards, are those of the release by value, refusals included. (6.18, 6.19)
 pub fn release(run: &mut Run, row: RowNumber, cost: u64) -> Released
     ensures { λ r. ⌜ (r ≡ released (now (run .entry)) (row .0) cost .answer) × (now (run .exit) ≡ released (now (run .entry)) (row .0) cost .run) ⌝ }
 {
@@ -25,9 +25,9 @@ pub fn release(run: &mut Run, row: RowNumber, cost: u64) -> Released
     step.answer
 }
 
-// One tick: the run behind the reference is the one that the call by value hands back, refusals included.
+// Lets one tick go by. The answer, the late count, and the run behind the reference afterwards are those of the tick by value, refusals included. (6.18, 6.19)
 pub fn tick(run: &mut Run) -> TickAnswer
-    ensures { λ r. ⌜ (r ≡ answerOf (ticked (now (run .entry)))) × (now (run .exit) ≡ ticked (now (run .entry)) .run) ⌝ }
+    ensures { λ r. ⌜ (r ≡ tickAnswerOf (ticked (now (run .entry)))) × (now (run .exit) ≡ ticked (now (run .entry)) .run) ⌝ }
 {
     let step = (*run).tick();
     *run = step.run;
@@ -37,7 +37,8 @@ pub fn tick(run: &mut Run) -> TickAnswer
     }
 }
 
-// Plain parameters above each, so that other code needs no walk: the run by value is lent and comes back.
+// A release by value that goes through the release of a lent run: the run is lent, and handed back beside the answer. Its parameters are plain values, so that
+// code which calls it needs no proof by hand. (6.19)
 pub fn release_lent(run: Run, row: RowNumber, cost: u64) -> ReleaseStep
     ensures { λ r. ⌜ r ≡ released run (row .0) cost ⌝ }
 {
@@ -46,6 +47,8 @@ pub fn release_lent(run: Run, row: RowNumber, cost: u64) -> ReleaseStep
     ReleaseStep { run: lent, answer }
 }
 
+// A tick by value that goes through the tick of a lent run: the run is lent, and handed back beside the answer. Its parameters are plain values, so that code
+// which calls it needs no proof by hand. (6.19)
 pub fn tick_lent(run: Run) -> TickStep
     ensures { λ r. ⌜ r ≡ ticked run ⌝ }
 {

@@ -8,9 +8,9 @@ use Rattle.numbers.specs.declared.Written.the-variants.{Length, Refused}
 use Rattle.numbers.specs.Answers.{writtenSays}
 use Rattle.numbers.proofs.Answers.{numbers-said-apart}
 use Rattle.log.specs.Log.{writtenRecord}
-use Rattle.log.specs.Laws.{RecordWritten, RecordRefusals}
+use Rattle.log.specs.LogLaws.{RecordWritten, RecordRefusals}
 use Rattle.log.proofs.Records.{answers-length}
-use Rattle.log.proofs.Laws as case
+use Rattle.log.proofs.Logs as case
 
 pub record-written : RecordWritten
 record-written f room took = (

@@ -1,3 +1,3 @@
 pub mod Records
-pub mod Laws
+pub mod Logs
 pub mod Answers

@@ -1,4 +1,4 @@
--- The numbers of a record, counted and then written one at a time; and what stands in a log from a place on. (docs/RULES.md, section 8.)
+-- The five numbers of a record are first measured and then written, one after another. (docs/RULES.md, section 8.)
 use Prim.Native.Nat.{ℕ, _+_, _-_, _*_, _≤_, _<_}
 use native.Mathlib.Nat.{zero-add}
 use native.Mathlib.Numerals.{add-one}
@@ -20,12 +20,12 @@ use Rattle.numbers.specs.declared.Written.{Written}
 use Rattle.numbers.specs.declared.Written.the-variants.{Length, Refused}
 use Rattle.numbers.specs.Spelling.{maxGroups, maxNumber, spelling}
 use Rattle.numbers.specs.Writing.{lengthOf, written, bufferAfter}
-use Rattle.numbers.proofs.Laws.{spelling-length, length-answered}
+use Rattle.numbers.proofs.Spellings.{spelling-length, length-answered}
 use Rattle.log.specs.Log.{valuesOf, spelledNumbers, spelledFinish, allInRange, writtenRecord}
 
 -- ---- numbers spelled one after another
 
--- Each takes one byte to six.
+-- Each number takes one byte to six.
 pub spelled-length : (vs : List ℕ) → (length vs ≤ length (spelledNumbers vs)) × (length (spelledNumbers vs) ≤ maxGroups * length vs)
 unfolding flatten
 spelled-length [] = (omega arith, omega arith)
@@ -35,16 +35,16 @@ spelled-length (v ∷ vs) =
     simp length-append (omega (arith, one, more), omega (arith, one, more))
 
 module _ (vs : List ℕ) (i : ℕ) (h : i < length vs) where
-  -- What is left from a number on is that number and what is left after it: in the spelling, ..
+  -- The spelling of the numbers from i on is the spelling of number i, and then that of the numbers after it.
   spelled-next : spelledNumbers (drop i vs) ≡ spelling (getD vs i 0) ++ spelledNumbers (drop (i + 1) vs)
   unfolding flatten
   spelled-next = rw (add-one, drop-cons vs i 0 h)
 
-  -- .. in its length, ..
+  -- The bytes that the numbers from i on take are those of number i and those of the numbers after it.
   takes-next : length (spelledNumbers (drop i vs)) ≡ length (spelling (getD vs i 0)) + length (spelledNumbers (drop (i + 1) vs))
   takes-next = ap length spelled-next ∙ simp length-append
 
-  -- .. and in the test of the range.
+  -- The numbers from i on all have spellings exactly where number i has one and all numbers after it have.
   range-next : allInRange (drop i vs) ≡ (leb (getD vs i 0) maxNumber && allInRange (drop (i + 1) vs))
   range-next = rw (add-one, drop-cons vs i 0 h)
 
@@ -62,28 +62,28 @@ module _ (f : Finish) (room : ℕ) where
 
 -- ---- the numbers are counted
 
--- A number's length was answered: the number is in range, and this is the length of its spelling.
+-- Where the length of a number is answered, the number has a spelling, and this is its length.
 length-told : (v : ℕ) (fits : Bool) → leb v maxNumber ≡ fits → (n : ℕ) → lengthOf v ≡ Length n → (leb v maxNumber ≡ true) × (n ≡ length (spelling v))
 length-told v true e n t = (e, cc)
 length-told v false e n t = (cc, cc)
 
--- It was refused: the number is too big.
+-- Where the length of a number is refused, the number is above 2^42 - 1.
 length-refused : (v : ℕ) (fits : Bool) → leb v maxNumber ≡ fits → (r : Refusal) → lengthOf v ≡ Refused r → (leb v maxNumber ≡ false) × (r ≡ NumberTooBig)
 length-refused v true e r t = (cc, cc)
 length-refused v false e r t = (e, cc)
 
--- The first i of the values are in range and take `room` bytes: with those still to come that makes the whole.
+-- The first i values have spellings and take `room` bytes together.
 pub record Counted (values : List ℕ) (room i : ℕ) : Type 0 where
   pub not-past : i ≤ length values
   pub in-range : allInRange (drop i values) ≡ allInRange values
   pub takes : room + length (spelledNumbers (drop i values)) ≡ length (spelledNumbers values)
 
--- At first none is counted.
+-- Before the loop no value is counted.
 pub none-counted : (values : List ℕ) → Counted values 0 0
 none-counted values = record { not-past = omega arith; in-range = refl; takes = omega arith }
 
 module _ {values : List ℕ} {room i : ℕ} (p : Counted values room i) where
-  -- The next number has a length and is counted, ..
+  -- A value whose length is answered is counted.
   pub one-counted : i < length values → {n : ℕ} → lengthOf (getD values i 0) ≡ Length n → Counted values (room + n) (i + 1)
   one-counted h {n} e =
       let t = length-told (getD values i 0) _ refl n e in
@@ -93,13 +93,13 @@ module _ {values : List ℕ} {room i : ℕ} (p : Counted values room i) where
         takes = omega (arith, p .takes, t .1, takes-next values i h);
       }
 
-  -- .. or is too big, and then not all are in range.
+  -- Where the length of a value is refused, that value is above 2^42 - 1, and so not all values have spellings.
   pub one-too-big : i < length values → {r : Refusal} → lengthOf (getD values i 0) ≡ Refused r → (allInRange values ≡ false) × (r ≡ NumberTooBig)
   one-too-big h {r} e =
       let t = length-refused (getD values i 0) _ refl r e in
       (sym (p .in-range) ∙ range-next values i h ∙ simp (t .0), t .1)
 
-  -- At last all are counted.
+  -- After the loop all values are counted: they have spellings, and `room` is the length of all of them together.
   pub all-counted : length values ≤ i → (allInRange values ≡ true) × (room ≡ length (spelledNumbers values))
   unfolding flatten
   all-counted h =
@@ -109,22 +109,23 @@ module _ {values : List ℕ} {room i : ℕ} (p : Counted values room i) where
 -- ---- a log from a place on
 
 module _ (log : List ℕ) (at : ℕ) where
-  -- What is lent from the place on, ..
+  -- The part that is lent is the log from the place on.
   pub rest-of : midOf at (length log - at) log ≡ drop at log
   rest-of = rw (← length-drop, take-length)
 
-  -- .. the whole after something was put there, ..
+  -- Once a part that was lent from the place on is back, the log has what stood before the place, and then that part.
   pub rest-put : (rest : List ℕ) → putMid at (length log - at) log rest ≡ take at log ++ rest
   rest-put rest = rw (← length-drop, drop-length, append-nil)
 
-  -- .. and after a number was written there: its groups are stored one after another.
+  -- After a number was written at the place, the log has the number's groups there, one after another.
   number-put : (v n : ℕ) (rest : List ℕ) → n ≡ length (spelling v) → at + n ≤ length log
       → rest ≡ bufferAfter (Length n) v (midOf at (length log - at) log) → putMid at (length log - at) log rest ≡ sets log at (spelling v)
   number-put v n rest e h w = rw (rest-put rest, w, rest-of, drop-drop, e, ← append-assoc) (sym (sets-eq (spelling v) log at (omega arith)))
 
 -- ---- the numbers are written
 
--- There is room for the values, all in range, and the first k of them stand up to `at`: with those still to come that makes the whole.
+-- All values have spellings and there is room for them. The first k of them stand in the rest, up to `at`, and storing the others behind them completes the
+-- record.
 pub record Standing (values rest₀ rest : List ℕ) (at k : ℕ) : Type 0 where
   pub not-past : k ≤ length values
   pub in-range : allInRange (drop k values) ≡ true
@@ -133,32 +134,32 @@ pub record Standing (values rest₀ rest : List ℕ) (at k : ℕ) : Type 0 where
   pub has-room : length (spelledNumbers values) ≤ length rest₀
   pub completes : sets rest at (spelledNumbers (drop k values)) ≡ sets rest₀ 0 (spelledNumbers values)
 
--- At first none stands there.
+-- Before the loop no value stands there.
 pub none-standing : (values rest : List ℕ) → allInRange values ≡ true → length (spelledNumbers values) ≤ length rest → Standing values rest rest 0 0
 none-standing values rest e h =
     record { not-past = omega arith; in-range = e; takes = omega arith; same-length = refl; has-room = h; completes = refl }
 
 module _ {values rest₀ rest : List ℕ} {at k : ℕ} (p : Standing values rest₀ rest at k) (h : k < length values) where
-  -- The next number is in range, as are those after it, ..
+  -- The next value has a spelling, and so have those after it.
   next-in-range : (leb (getD values k 0) maxNumber ≡ true) × (allInRange (drop (k + 1) values) ≡ true)
   next-in-range = and-eq-true-iff _ _ .0 (sym (range-next values k h) ∙ p .in-range)
 
-  -- .. there is room for it, ..
+  -- There is room for the next value.
   next-has-room : at + length (spelling (getD values k 0)) ≤ length rest
   next-has-room = omega (arith, takes-next values k h, p .takes, p .same-length, p .has-room)
 
-  -- .. so it is written, ..
+  -- The number writer answers the next value's length.
   next-fits : written (getD values k 0) (length (midOf at (length rest - at) rest)) ≡ Length (length (spelling (getD values k 0)))
   next-fits =
       let room : length (spelling (getD values k 0)) ≤ length (midOf at (length rest - at) rest) = rw (rest-of, length-drop) (omega (arith, next-has-room)) in
       simp (next-in-range .0, le-leb _ _ room)
 
   module _ {answer : Written} (e : answer ≡ written (getD values k 0) (length (midOf at (length rest - at) rest))) where
-    -- .. never refused, ..
+    -- The next value is never refused.
     pub never-refused : {r : Refusal} → answer ≡ Refused r → ⊥
     never-refused a = let f = next-fits in impossible cc
 
-    -- .. and stands there then.
+    -- After it was written, the next value stands behind the others.
     pub one-standing : {n : ℕ} {after : List ℕ} → after ≡ bufferAfter answer (getD values k 0) (midOf at (length rest - at) rest) → answer ≡ Length n
         → Standing values rest₀ (putMid at (length rest - at) rest after) (at + n) (k + 1)
     one-standing {n} {after} w a =
@@ -172,7 +173,7 @@ module _ {values rest₀ rest : List ℕ} {at k : ℕ} (p : Standing values rest
           completes = rw (took, ← sets-append, ← spelled-next values k h) (p .completes);
         }
 
--- At last all stand there, and what comes after them is as it was.
+-- After the loop all values stand at the start of the rest, and what comes after them is as it was.
 pub all-standing : {values rest₀ rest : List ℕ} {at k : ℕ} → Standing values rest₀ rest at k → length values ≤ k
     → (at ≡ length (spelledNumbers values)) × (rest ≡ spelledNumbers values ++ drop at rest₀)
 unfolding flatten

@@ -1,4 +1,4 @@
-// The log: one record for each job that finished, written into the unused rest of a lent buffer. (docs/RULES.md, section 8.)
+// The record writer: it writes one record of a log into the unused rest of the log buffer. (docs/RULES.md, 8.8 to 8.10.)
 use kinds::Finish;
 use kinds::Refusal;
 use numbers::Written;
@@ -6,8 +6,8 @@ ghost use mathlib.Core.Path.{_≡_};
 ghost use lib.ListN.{length};
 ghost use Rattle.log.specs.Log.{writtenRecord, restAfter};
 
-// Writes one record at the start of the rest of a log, and keeps what comes after it: 25 for a number too big, then 12 where it has no room, with the rest as
-// it was. So the numbers are counted before the first of them is written.
+// Writes one record at the start of the rest of a log, keeps what comes after it, and answers its length. A number above 2^42 - 1 is refused with 25, and then
+// a record longer than the rest with 12. A refusal leaves the rest unchanged, so the whole record is measured before its first number is written. (8.9, 8.10)
 pub fn write_record(rest: &mut [u8], job: Finish) -> Written
     ensures { λ r. ⌜ (r ≡ writtenRecord job (length (now (rest .entry))))
         × (now (rest .exit) ≡ restAfter r job (now (rest .entry))) ⌝ }
@@ -36,7 +36,7 @@ pub fn write_record(rest: &mut [u8], job: Finish) -> Written
     while k < 5 {
         match numbers::write(&mut rest[at..], values[k]) {
             Written::Length(n) => at += n,
-            // Never: the number is in range, and there is room.
+            // This never happens, because the number has a spelling and there is room for it.
             Written::Refused(r) => return Written::Refused(r),
         }
         k += 1;

@@ -1,10 +1,10 @@
--- What the number reader and the number writer say: each case is settled, no answer is numbered 0, different answers say different things, and what is said
--- tells what was read or written.
+-- The proofs of what the answers of the number reader and the number writer say. No answer has the number 0, different answers say different things, and what
+-- an answer says tells what was read or written.
 use Prim.Native.Nat.{_≤_, _<_}
 use mathlib.Core.Path.{_≡_, refl, sym, ap, ap₂, _∙_}
 use mathlib.Core.Logic.{_⊎_, inl, inr, ⊎-elim}
 use lib.ListN.{length}
-use Rattle.kinds.specs.Numbering.{numbered, refusalNumber, refusedSays, NeverNumberedZero, SaysApart}
+use Rattle.kinds.specs.Numbering.{numbered, refusalNumber, refusedSays, NeverNumberedZero, SaysApart, refusalAt}
 use Rattle.kinds.proofs.Apart.{impossible}
 use Rattle.kinds.proofs.Numbering.{never-zero, refusals-apart, plain-refusals-apart, saidIn}
 use Rattle.numbers.specs.declared.NumberRead.{NumberRead}
@@ -14,10 +14,10 @@ use Rattle.numbers.specs.declared.Written.the-variants as write
 use Rattle.numbers.specs.Spelling.{maxNumber, spelling}
 use Rattle.numbers.specs.Reading.{readAt}
 use Rattle.numbers.specs.Writing.{written}
-use Rattle.numbers.specs.Answers.{numberSays, writtenSays, refusalAt, NumbersNeverZero, NumbersSaidApart}
+use Rattle.numbers.specs.Answers.{numberSays, writtenSays, NumbersNeverZero, NumbersSaidApart}
 use Rattle.numbers.specs.Answers.{NumberReadSays, RefusedReadSays, NumberWrittenSays, RefusedWriteSays}
-use Rattle.numbers.specs.Laws.{LengthAnswered, RefusalAnswered, LengthOfASpelling, TooBigHasNoLength, NothingPastTheEnd, RefusedAtItsStart}
-use Rattle.numbers.proofs.Laws as case
+use Rattle.numbers.specs.NumberLaws.{LengthAnswered, RefusalAnswered, LengthOfASpelling, TooBigHasNoLength, NothingPastTheEnd, RefusedAtItsStart}
+use Rattle.numbers.proofs.Spellings as case
 
 -- ---- what each answer says
 
@@ -62,7 +62,7 @@ written-apart (write.Refused q) (write.Refused r) e = ap write.Refused (plain-re
 pub numbers-said-apart : NumbersSaidApart
 numbers-said-apart = (read-apart, written-apart)
 
--- ---- what is known of a number, by what was said
+-- ---- what an answer tells about the number
 
 pub length-answered : LengthAnswered
 length-answered n room took said = case.length-answered n room took (written-apart (written n room) (write.Length took) said)

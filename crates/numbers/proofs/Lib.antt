@@ -1,3 +1,3 @@
 pub mod Reading
-pub mod Laws
+pub mod Spellings
 pub mod Answers

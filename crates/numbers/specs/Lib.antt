@@ -1,5 +1,6 @@
 pub mod Spelling
 pub mod Reading
 pub mod Writing
-pub mod Laws
+pub mod SpelledNumbers
+pub mod NumberLaws
 pub mod Answers

@@ -1,5 +1,6 @@
-// Numbers as bytes: groups of seven bits, lowest first, the top bit of a byte set when another follows; at most six groups, and the last group of a longer
-// number is not zero. So each number from 0 to 2^42 − 1 has one spelling. (docs/RULES.md, section 2.)
+// Numbers as bytes. A number is spelled in groups of seven bits, one group a byte, the lowest group first. The top bit of a byte is set when another byte
+// of the same number follows. A number has at most six groups, and the last group of a longer number is not zero. So each number from 0 to 2^42 − 1 has one
+// spelling. (2.1 to 2.5)
 use kinds::Refusal;
 use kinds::RefusedAt;
 ghost use mathlib.Core.Path.{_≡_};
@@ -9,37 +10,38 @@ ghost use Rattle.numbers.specs.Spelling.{maxGroups, maxNumber, spelling}
 ghost use Rattle.numbers.specs.Reading.{readAt, misspelledAt};
 ghost use Rattle.numbers.specs.Writing.{lengthOf, written, bufferAfter};
 
-// A number that was read, and the place after it.
+// A number that was read: its value, and the place right after its last byte. (2.6)
 pub struct Number {
     pub value: u64,
     pub next: usize,
 }
 
-// What stands at a place.
+// The reader's answer: the number that starts at a place, or a refusal. (2.6, 2.7)
 pub enum NumberRead {
     Number(Number),
     Refused(RefusedAt),
 }
 
-// What became of a number that was to be written: how many bytes it took, or why it was not written.
+// The writer's answer: the length of the number's spelling in bytes, or a refusal. (2.12, 2.13)
 pub enum Written {
     Length(usize),
     Refused(Refusal),
 }
 
 impl Number {
-    // The largest number that has a spelling, 2^42 − 1.
+    // The largest number that can be spelled, 2^42 − 1. (2.4)
     pub const MAX: u64 = 0x3FF_FFFF_FFFF;
-    // The most groups that a number is spelled in.
+    // The most groups that a number may have. (2.2)
     pub const MAX_GROUPS: usize = 6;
 
-    // The limits of the rules are those of the code.
+    // Returns the code's largest number, so that the contract can say that it equals the rules' largest number. (2.4)
     pub fn max() -> u64
         ensures { λ r. ⌜ r ≡ maxNumber ⌝ }
     {
         Number::MAX
     }
 
+    // Returns the code's largest count of groups, so that the contract can say that it equals the rules' count. (2.2)
     pub fn max_groups() -> usize
         ensures { λ r. ⌜ r ≡ maxGroups ⌝ }
     {
@@ -47,6 +49,7 @@ impl Number {
     }
 }
 
+// Refusal 1 at a place. (2.7)
 fn misspelled(place: usize) -> NumberRead
     ensures { λ r. ⌜ r ≡ misspelledAt place ⌝ }
 {
@@ -56,7 +59,7 @@ fn misspelled(place: usize) -> NumberRead
     })
 }
 
-// The number at a place and the place after it, or refusal 1 at the number's start.
+// Reads the number that starts at a place. Answers its value and the place right after it, or refusal 1 at the place where it starts. (2.6 to 2.9)
 pub fn read(bytes: &[u8], at: usize) -> NumberRead
     ensures { λ r. ⌜ r ≡ readAt (now (bytes .entry)) at ⌝ }
 {
@@ -95,7 +98,7 @@ pub fn read(bytes: &[u8], at: usize) -> NumberRead
     misspelled(at)
 }
 
-// How many bytes the spelling of a number takes.
+// The length in bytes of the spelling of a number of at most 2^42 − 1.
 fn spelled_length(value: u64) -> usize
     requires { ⌜ value ≤ maxNumber ⌝ }
     ensures { λ r. ⌜ r ≡ length (spelling value) ⌝ }
@@ -109,7 +112,7 @@ fn spelled_length(value: u64) -> usize
     n
 }
 
-// How many bytes a number takes: refusal 25 for one too big.
+// Answers the length in bytes of a number's spelling, or refusal 25 where the number is above 2^42 − 1. (10.7)
 pub fn length_of(value: u64) -> Written
     ensures { λ r. ⌜ r ≡ lengthOf value ⌝ }
 {
@@ -119,7 +122,8 @@ pub fn length_of(value: u64) -> Written
     Written::Length(spelled_length(value))
 }
 
-// Writes a number at the start of the buffer and keeps the rest; refusal 25, then 12, with the buffer as it was.
+// Writes a number's spelling at the buffer's start, keeps the rest of the buffer as it was, and answers the spelling's length. A number above 2^42 − 1 is
+// refusal 25, and after that a spelling longer than the buffer is refusal 12. With either refusal the whole buffer is unchanged. (2.12 to 2.14)
 pub fn write(buffer: &mut [u8], value: u64) -> Written
     ensures { λ r. ⌜ (r ≡ written value (length (now (buffer .entry))))
         × (now (buffer .exit) ≡ bufferAfter r value (now (buffer .entry))) ⌝ }

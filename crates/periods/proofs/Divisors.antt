@@ -15,11 +15,11 @@ use native.Mathlib.Nat.{
 }
 use Rattle.periods.specs.Multiples.{IsGreatestDivisor}
 
--- Everything divides 0, so the greatest divisor of 0 and n is n.
+-- Every number divides 0, so the greatest common divisor of 0 and n is n.
 pub of-zero : (n : ℕ) → IsGreatestDivisor 0 n n
 of-zero n = record { of-first = dvd-zero n; of-second = dvd-refl n; greatest = λ k p q. q }
 
--- Euclid's step: what divides m divides n exactly when it divides the rest of n by m.
+-- Euclid's step: the greatest common divisor of m and n is that of (n mod m) and m, since what divides m divides n exactly when it divides n mod m.
 pub euclid : {m n g : ℕ} → IsGreatestDivisor (n % m) m g → IsGreatestDivisor m n g
 euclid {g = g} d = record {
   of-first = d .of-second;
@@ -28,12 +28,12 @@ euclid {g = g} d = record {
 }
 
 module _ (a y g : ℕ) (d : IsGreatestDivisor a y g) where
-  -- With g the greatest divisor of a and y, a / g * y is a multiple of a. (It plainly is one of y.)
+  -- Where g is the greatest common divisor of a and y, a / g * y is a multiple of a. (That it is a multiple of y is plain.)
   pub multiple-of-first : a ∣ a / g * y
   multiple-of-first = rw (div-mul-cancel g (d .of-first)) at (mul-dvd-mul-left g (a / g) (d .of-second))
 
-  -- That multiple is the least: it divides l wherever l is a common multiple that divides all others. For then t = a * y / l divides both a and y, hence g; and
-  -- a / g * y * g = a * y = l * t, which divides l * g.
+  -- The multiple a / g * y divides l, where l is a common multiple of a and y that divides all others. For t = a * y / l divides both a and y, and hence g.
+  -- And a / g * y * g = a * y = l * t, which divides l * g.
   pub divides-least : (l : ℕ) → 1 ≤ a → 1 ≤ y → a ∣ l → y ∣ l → ((m : ℕ) → a ∣ m → y ∣ m → l ∣ m) → a / g * y ∣ l
   divides-least l some-a some-y p q least =
       let t = a * y / l in

@@ -1,4 +1,5 @@
--- The period of some numbers within a limit: a walk through the numbers keeps it, with one number that stands for those passed; and what each answer means.
+-- The proofs about the period of some numbers within a limit. A walk through the numbers keeps one number h, the least common multiple of those passed. The
+-- last part proves what each answer means.
 use Prim.Native.Nat.{ℕ, zero, suc, _+_, _*_, _/_, _≤_, _<_}
 use native.Mathlib.Decide.{decLe}
 use native.Mathlib.Nat.{pos-of-dvd-of-pos, le-div-iff-mul-le, div-lt-iff-lt-mul}
@@ -15,30 +16,30 @@ use lib.Seq.{drop-cons}
 use borrow.Author.Tests.{leb-true, leb-false, le-leb, lt-leb}
 use Rattle.kinds.specs.declared.Refusal.{Refusal}
 use Rattle.kinds.specs.declared.Refusal.the-variants.{ValueOutOfRange, PeriodTooLong}
-use Rattle.kinds.specs.Numbering.{Says, values}
+use Rattle.kinds.specs.Numbering.{Says, values, refusedWith}
 use Rattle.kinds.proofs.Apart.{impossible}
 use Rattle.kinds.proofs.Numbering.{saidIn, never-zero, plain-refusals-apart}
 use Rattle.periods.specs.declared.Period.{Period}
 use Rattle.periods.specs.declared.Period.the-variants.{Ticks, Refused}
 use Rattle.periods.specs.Multiples.{leastCommonMultiple, IsLeastCommonMultiple, IsGreatestDivisor}
-use Rattle.periods.specs.Periods.{allPositive, periodWithin, periodSays, onlyNumber, EachPositive}
+use Rattle.periods.specs.Periods.{allPositive, periodWithin, periodSays, EachPositive}
 use Rattle.periods.specs.Periods.{PeriodMeans, TooLongMeans, ZeroMeans, PeriodsNeverZero, PeriodsSaidApart}
 use Rattle.periods.proofs.Each.{each-none, each-cons, each-head, each-tail, stands-in}
 use Rattle.periods.proofs.Multiples.{both-true, period-is-least, one-in-front, join, front-at-most, alone}
 
 -- ---- positive numbers
 
--- The test of positive numbers means that each is.
+-- Where the test `allPositive` is true, each number is at least 1.
 pub positive-means : (ys : List ℕ) → allPositive ys ≡ true → EachPositive ys
 positive-means [] e = each-none _
 positive-means (y ∷ ys) e = let t = both-true (leb 1 y) (allPositive ys) e in each-cons (leb-true 1 y (t .0)) (positive-means ys (t .1))
 
--- It holds wherever each is.
+-- Where each number is at least 1, the test `allPositive` is true.
 pub positive-holds : (ys : List ℕ) → EachPositive ys → allPositive ys ≡ true
 positive-holds [] h = refl
 positive-holds (y ∷ ys) h = simp (le-leb 1 y (each-head h), positive-holds ys (each-tail h))
 
--- Where it fails, a 0 is among the numbers.
+-- Where the test `allPositive` is false, a 0 is among the numbers.
 zero-among : (ys : List ℕ) → allPositive ys ≡ false → List·Memᴰ 0 ys
 zero-among [] e = impossible cc
 zero-among (y ∷ ys) e = elim (decLe 1 y) [
@@ -46,50 +47,50 @@ zero-among (y ∷ ys) e = elim (decLe 1 y) [
   | no l ↦ let none : 0 ≡ y = omega arith in List·Memᴰ·head none
 ]
 
--- The test has come to number i: what is left of the numbers settles it.
+-- The test has passed the first i numbers, and the outcome depends only on the numbers that are left.
 pub record Tested (ys : List ℕ) (i : ℕ) : Type 0 where
   pub counted : i ≤ length ys
   pub settled : allPositive (drop i ys) ≡ allPositive ys
 
 module _ {ys : List ℕ} {i : ℕ} (tested : Tested ys i) where
-  -- With no number left, each is positive.
+  -- Where no number is left to test, each is at least 1.
   pub none-left : length ys ≤ i → true ≡ allPositive ys
   none-left l =
       let none : drop i ys ≡ [] = drop-of-length-le ys {i = i} l in
       rw none at (tested .settled)
 
   module _ (l : i < length ys) where
-    -- A number of 0 settles it.
+    -- Where the number at i is 0, the test is false.
     pub zero-here : getD ys i 0 < 1 → false ≡ allPositive ys
     zero-here z = (rw (drop-cons ys i 0 l, lt-leb 1 (getD ys i 0) z) at (tested .settled))
 
-    -- Behind a positive number the test goes on.
+    -- Where the number at i is at least 1, the test goes on with the next number.
     pub tested-more : 1 ≤ getD ys i 0 → Tested ys (i + 1)
     tested-more k = record { counted = omega arith; settled = rw add-one (rw (drop-cons ys i 0 l, le-leb 1 (getD ys i 0) k) at (tested .settled)) }
 
 -- ---- number by number
 
--- The walk has come to number i: the whole least common multiple is that of h, which stands for the numbers before i, and of the numbers from i on.
+-- The walk has passed the first i numbers. The least common multiple of all numbers is that of h and the numbers from i on, and h is within the limit.
 pub record Grown (limit : ℕ) (ys : List ℕ) (h i : ℕ) : Type 0 where
   pub counted : i ≤ length ys
   pub within : h ≤ limit
   pub whole : IsLeastCommonMultiple (h ∷ drop i ys) (leastCommonMultiple ys)
 
 module _ {ys : List ℕ} (positive : EachPositive ys) where
-  -- The walk begins with 1.
+  -- The walk begins with h = 1, where the limit is at least 1.
   pub grown-none : {limit : ℕ} → 1 ≤ limit → Grown limit ys 1 0
   grown-none l = record { counted = omega arith; within = l; whole = one-in-front (period-is-least ys positive) }
 
-  -- Within a limit of 0 there is no period.
+  -- With a limit of 0 the answer is refusal 5.
   pub no-limit : (limit : ℕ) → limit < 1 → Refused PeriodTooLong ≡ periodWithin limit ys
   no-limit limit l = simp (positive-holds ys positive, lt-leb (leastCommonMultiple ys) limit (omega (arith, period-is-least ys positive .positive)))
 
-  -- A number at a place is positive.
+  -- The number at each place is at least 1.
   pub some-number : (i : ℕ) → i < length ys → 1 ≤ getD ys i 0
   some-number i l = positive (getD ys i 0) (stands-in ys i 0 l)
 
   module _ {limit h i : ℕ} (grown : Grown limit ys h i) where
-    -- With every number passed, h is the least common multiple.
+    -- Where every number is passed, the answer is h, the least common multiple.
     pub grown-all : length ys ≤ i → Ticks h ≡ periodWithin limit ys
     grown-all l =
         let none : drop i ys ≡ [] = drop-of-length-le ys {i = i} l in
@@ -97,26 +98,26 @@ module _ {ys : List ℕ} (positive : EachPositive ys) where
         simp (positive-holds ys positive, e, le-leb h limit (grown .within))
 
     module _ (l : i < length ys) {g : ℕ} (d : IsGreatestDivisor h (getD ys i 0) g) where
-      -- The greatest divisor is positive.
+      -- The greatest common divisor of h and the number at i is at least 1.
       pub some-divisor : 1 ≤ g
       some-divisor = pos-of-dvd-of-pos (d .of-second) (some-number i l)
 
-      -- One number more: what h grows to stands for that number too.
+      -- After one more number, h / g times that number takes the place of h.
       next-whole : IsLeastCommonMultiple (h / g * getD ys i 0 ∷ drop (i + 1) ys) (leastCommonMultiple ys)
       next-whole =
           let e : drop i ys ≡ getD ys i 0 ∷ drop (i + 1) ys = rw (drop-cons ys i 0 l, add-one) in
           let w = grown .whole in
           join h (getD ys i 0) g d (pos-of-dvd-of-pos (each-head (w .multiple)) (w .positive)) (some-number i l) (rw e at w)
 
-      -- What passes the test is within the limit.
+      -- Where the code's test passes, the next h is within the limit.
       pub grown-fits : h / g ≤ limit / getD ys i 0 → h / g * getD ys i 0 ≤ limit
       grown-fits k = le-div-iff-mul-le (some-number i l) .0 k
 
-      -- Within the limit, the walk goes on.
+      -- Where the code's test passes, the walk goes on with the next h.
       pub grown-next : h / g ≤ limit / getD ys i 0 → Grown limit ys (h / g * getD ys i 0) (i + 1)
       grown-next k = record { counted = omega arith; within = grown-fits k; whole = next-whole }
 
-      -- Above the limit, the whole is above it too, being a multiple.
+      -- Where the next h is above the limit, the answer is refusal 5, since the least common multiple of all numbers is a multiple of the next h.
       pub grown-too-long : limit / getD ys i 0 < h / g → Refused PeriodTooLong ≡ periodWithin limit ys
       grown-too-long k =
           let above : limit < h / g * getD ys i 0 = div-lt-iff-lt-mul (some-number i l) .0 k in
@@ -124,24 +125,26 @@ module _ {ys : List ℕ} (positive : EachPositive ys) where
 
 -- ---- what each answer means
 
--- The three outcomes, each with what it means.
+-- The three answers, each with the conditions under which it is given.
 data Outcome (limit : ℕ) (ys : List ℕ) : Period → Type 0 where
   period : EachPositive ys → leastCommonMultiple ys ≤ limit → Outcome limit ys (Ticks (leastCommonMultiple ys))
   too-long : EachPositive ys → limit < leastCommonMultiple ys → Outcome limit ys (Refused PeriodTooLong)
   zero-number : List·Memᴰ 0 ys → Outcome limit ys (Refused ValueOutOfRange)
 
 module _ (limit : ℕ) (ys : List ℕ) where
-  -- The answer in each of the three cases.
+  -- Where each number is at least 1 and the least common multiple is within the limit, the answer is the least common multiple.
   pub period-within-limit : EachPositive ys → leastCommonMultiple ys ≤ limit → periodWithin limit ys ≡ Ticks (leastCommonMultiple ys)
   period-within-limit p l = simp (positive-holds ys p, le-leb (leastCommonMultiple ys) limit l)
 
+  -- Where each number is at least 1 and the least common multiple is above the limit, the answer is refusal 5.
   pub period-above-limit : EachPositive ys → limit < leastCommonMultiple ys → periodWithin limit ys ≡ Refused PeriodTooLong
   period-above-limit p l = simp (positive-holds ys p, lt-leb (leastCommonMultiple ys) limit l)
 
+  -- Where the test `allPositive` is false, the answer is refusal 3.
   pub with-zero : allPositive ys ≡ false → periodWithin limit ys ≡ Refused ValueOutOfRange
   with-zero e = simp e
 
-  -- One of the three holds.
+  -- The answer is one of the three.
   outcome : Outcome limit ys (periodWithin limit ys)
   outcome = by-test (allPositive ys) refl
     where
@@ -155,7 +158,7 @@ module _ (limit : ℕ) (ys : List ℕ) where
             rw (period-above-limit p above) (too-long p above)
       ]
 
-  -- With a 0 among the numbers the test fails.
+  -- Where a 0 is among the numbers, the test `allPositive` is false.
   zero-fails : List·Memᴰ 0 ys → allPositive ys ≡ false
   zero-fails m = by-test (allPositive ys) refl
     where
@@ -163,7 +166,7 @@ module _ (limit : ℕ) (ys : List ℕ) where
       by-test false e = refl
       by-test true e = absurd (omega (arith, positive-means ys e 0 m))
 
--- Of positive numbers only a period above the limit is refused, and with 5.
+-- For positive numbers the only refusal is 5, and it is given only where their least common multiple is above the limit.
 pub refused-above : (limit : ℕ) (ys : List ℕ) → EachPositive ys → (r : Refusal) → periodWithin limit ys ≡ Refused r
     → (r ≡ PeriodTooLong) × (limit < leastCommonMultiple ys)
 refused-above limit ys positive r e = by-outcome _ (outcome limit ys) e
@@ -173,7 +176,7 @@ refused-above limit ys positive r e = by-outcome _ (outcome limit ys) e
     by-outcome a (too-long p l) f = (cc, l)
     by-outcome a (zero-number m) f = absurd (omega (arith, positive 0 m))
 
--- Refusals with different numbers do not say the same.
+-- Two answers that say the same do not have different numbers.
 pub numbers-apart : {A : Type 0} {m n : ℕ} {a b : Says} → a ≡ b → saidIn a .number ≡ m → saidIn b .number ≡ n → (m ≡ n → ⊥) → A
 numbers-apart e p q apart = absurd (apart (sym p ∙ ap (λ (a : Says). saidIn a .number) e ∙ q))
 
@@ -188,7 +191,7 @@ period-means limit ys h = (to _ (outcome limit ys), λ m. rw (period-within-limi
 pub too-long-means : TooLongMeans
 too-long-means limit ys = (to _ (outcome limit ys), λ m. rw (period-above-limit limit ys (m .0) (m .1)))
   where
-    to : (a : Period) → Outcome limit ys a → periodSays a ≡ onlyNumber 5 → EachPositive ys × (limit < leastCommonMultiple ys)
+    to : (a : Period) → Outcome limit ys a → periodSays a ≡ refusedWith 5 0 → EachPositive ys × (limit < leastCommonMultiple ys)
     to a (period p l) e = impossible cc
     to a (too-long p l) e = (p, l)
     to a (zero-number m) e = numbers-apart {m = 3} {n = 5} e refl refl (λ z. omega arith)
@@ -196,7 +199,7 @@ too-long-means limit ys = (to _ (outcome limit ys), λ m. rw (period-above-limit
 pub zero-means : ZeroMeans
 zero-means limit ys = (to _ (outcome limit ys), λ m. rw (with-zero limit ys (zero-fails limit ys m)))
   where
-    to : (a : Period) → Outcome limit ys a → periodSays a ≡ onlyNumber 3 → List·Memᴰ 0 ys
+    to : (a : Period) → Outcome limit ys a → periodSays a ≡ refusedWith 3 0 → List·Memᴰ 0 ys
     to a (period p l) e = impossible cc
     to a (too-long p l) e = numbers-apart {m = 5} {n = 3} e refl refl (λ z. omega arith)
     to a (zero-number m) e = m

@@ -1,16 +1,16 @@
-// The period of some numbers: their least common multiple, where it is within a limit. (docs/RULES.md, 3.4 and 3.5.)
+// The period of some numbers: their least common multiple, where it is within a limit. (3.4, 3.5)
 use kinds::Refusal;
 ghost use mathlib.Core.Path.{_≡_};
 ghost use Rattle.periods.specs.Multiples.{IsGreatestDivisor};
 ghost use Rattle.periods.specs.Periods.{allPositive, periodWithin};
 
-// The least common multiple of some numbers, or why there is none within the limit.
+// The answer for some numbers and a limit: their least common multiple, or a refusal. (10.7)
 pub enum Period {
     Ticks(u64),
     Refused(Refusal),
 }
 
-// The greatest common divisor, by Euclid's rule.
+// The greatest common divisor of two numbers, by Euclid's rule.
 fn greatest_divisor(a: u64, b: u64) -> u64
     ensures { λ r. ⌜ IsGreatestDivisor a b r ⌝ }
 {
@@ -38,7 +38,8 @@ fn all_positive(numbers: &[u64]) -> bool
     true
 }
 
-// The least common multiple grows number by number. It is tested before it is made, so that nothing overflows.
+// Answers the least common multiple of some numbers. The answer is refusal 3 where one of them is 0, and refusal 5 where the multiple is above the limit.
+// The multiple grows number by number, and each step is tested before it is taken, so that nothing wraps round. (3.4, 3.5, 10.7)
 pub fn period_within(numbers: &[u64], limit: u64) -> Period
     ensures { λ r. ⌜ r ≡ periodWithin limit (now (numbers .entry)) ⌝ }
 {

@@ -1,40 +1,40 @@
--- A replay that comes to its end accepted what the script's records ask for, each at its time, and nothing else. (docs/RULES.md, section 8.2.)
+-- A play that comes to its end has accepted exactly the jobs that the script's records ask for, each at its record's script time. (docs/RULES.md, section 8.2.)
 use Prim.Native.Nat.{ℕ, zero, suc, _+_, _-_, _≤_, _<_}
 use mathlib.Core.Path.{_≡_, refl, sym, ap, _∙_}
 use mathlib.Core.List.{List, [], _∷_, _++_, append-nil, append-assoc}
 use native.Mathlib.Omega.{arith}
 use lib.ListN.{length}
 use Rattle.kinds.specs.declared.Tick.{Tick}
-use Rattle.numbers.specs.Laws.{Bytes}
+use Rattle.numbers.specs.SpelledNumbers.{Bytes}
 use Rattle.jobs.specs.declared.Job.{Job}
 use Rattle.run.specs.declared.Run.{Run}
 use Rattle.run.specs.Release.{newJob, released}
 use Rattle.run.proofs.Ticking.{Good}
 use Rattle.run.proofs.Release.{each-release}
 use Rattle.script.specs.declared.Record.{Record}
-use Rattle.script.specs.Laws.{Reads, ended, then}
-use Rattle.script.proofs.Laws.{record-is-spelled, end-is-the-length}
+use Rattle.script.specs.SpelledScripts.{Reads, ended, then}
+use Rattle.script.proofs.Scripts.{record-is-spelled, end-is-the-length}
 use Rattle.records.specs.declared.Ready.{Ready}
 use Rattle.records.specs.Numbers.{numbersAt}
 use Rattle.play.specs.Play.{Progress, tickedTo, whole, finalTicks, playedFrom}
-use Rattle.play.specs.Laws.{AskedFor}
+use Rattle.play.specs.LogRecords.{AskedFor}
 use Rattle.play.proofs.SingleTicks.{ticks-clock}
-use Rattle.records.proofs.Passing.{passed-is-read}
-use Rattle.play.proofs.Through.{Keeps, Went, went-in-time, by-record, came-to-the-end, step-keeps}
+use Rattle.records.proofs.ReadRecords.{passed-is-read}
+use Rattle.play.proofs.KeptThroughout.{Keeps, Went, went-in-time, by-record, came-to-the-end, step-keeps}
 
--- A release leaves the clock where it is.
+-- A release leaves the clock as it is.
 release-keeps-clock : (run : Run) (row cost : ℕ) → released run row cost .run .clock ≡ run .clock
 release-keeps-clock run row cost = each-release run row cost (λ step. step .run .clock ≡ run .clock) (λ r. refl) (λ t passed given. refl)
 
--- From a place on, the script's records were accepted behind the jobs that had been.
+-- Between `p` and `q` the play accepted exactly the jobs that the script's records ask for from the place `at` on.
 pub record AskedFrom (s : List ℕ) (at : ℕ) (p q : Progress) : Type 0 where
   pub records : List Record
   pub jobs : List Job
   pub are-read : Reads s at records
-  pub are-asked-for : AskedFor (p .since .run .clock .0) records jobs
+  pub are-asked-for : AskedFor (p .so-far .run .clock .0) records jobs
   pub all-accepted : q .accepted ≡ p .accepted ++ jobs
 
--- At the script's end there are none.
+-- At the script's end no record is left, and the final ticks accept no job.
 none-asked : (s : List ℕ) (at : ℕ) (p q : Progress) → at ≡ length s → finalTicks (length s) p ≡ whole q → AskedFrom s at p q
 none-asked s at p q end e = record {
   records = [];
@@ -44,37 +44,37 @@ none-asked s at p q end e = record {
   all-accepted = ap (λ (m : Progress). m .accepted) (sym (came-to-the-end (length s) p q e .0)) ∙ sym (append-nil (p .accepted));
 }
 
--- A record that the replay goes on after is one more in front.
-module _ (s : List ℕ) (at : ℕ) (inside : at < length s) (p m : Progress) (next : ℕ) (good : Good (p .since .run)) (w : Went p (numbersAt s at) m next) where
-  -- The clock is at the record's time after the ticks.
+-- A record that the play goes on after is put before the records that come later.
+module _ (s : List ℕ) (at : ℕ) (inside : at < length s) (p m : Progress) (next : ℕ) (good : Good (p .so-far .run)) (w : Went p (numbersAt s at) m next) where
+  -- `reached` is the play after the ticks until the record's script time.
   abbrev reached : Progress
   reached = tickedTo (w .ready .time .0) p
 
-  at-its-time : reached .since .run .clock .0 ≡ p .since .run .clock .0 + w .passed .gap .value
+  at-its-time : reached .so-far .run .clock .0 ≡ p .so-far .run .clock .0 + w .passed .gap .value
   at-its-time =
-      let many = w .ready .time .0 - p .since .run .clock .0 in
-      let time : w .ready .time .0 ≡ p .since .run .clock .0 + w .passed .gap .value = ap (λ (r : Ready). r .time .0) (w .passed .asks-for) in
-      omega (arith, ticks-clock many (p .since) good (omega (arith, went-in-time w)))
+      let many = w .ready .time .0 - p .so-far .run .clock .0 in
+      let time : w .ready .time .0 ≡ p .so-far .run .clock .0 + w .passed .gap .value = ap (λ (r : Ready). r .time .0) (w .passed .asks-for) in
+      omega (arith, ticks-clock many (p .so-far) good (omega (arith, went-in-time w)))
 
-  -- The release leaves the clock there.
-  stays-there : m .since .run .clock .0 ≡ p .since .run .clock .0 + w .passed .gap .value
-  stays-there = rw (w .reached) (ap (λ (t : Tick). t .0) (release-keeps-clock (reached .since .run) (w .ready .row .0) (w .ready .cost)) ∙ at-its-time)
+  -- The release leaves the clock at the record's script time.
+  stays-there : m .so-far .run .clock .0 ≡ p .so-far .run .clock .0 + w .passed .gap .value
+  stays-there = rw (w .reached) (ap (λ (t : Tick). t .0) (release-keeps-clock (reached .so-far .run) (w .ready .row .0) (w .ready .cost)) ∙ at-its-time)
 
   one-asked : (q : Progress) → AskedFrom s next m q → AskedFrom s at p q
   one-asked q rest = record {
     records = record { gap = w .passed .gap .value; row = w .ready .row; cost = w .ready .cost } ∷ rest .records;
-    jobs = newJob (reached .since .run) (w .ready .row .0) (w .ready .cost) (w .answer .due) ∷ rest .jobs;
+    jobs = newJob (reached .so-far .run) (w .ready .row .0) (w .ready .cost) (w .answer .due) ∷ rest .jobs;
     are-read = then _ (passed-is-read s at inside (w .passed)) (rw (w .goes-on-after) at (rest .are-read));
     are-asked-for = (refl, refl, at-its-time, rw stays-there at (rest .are-asked-for));
     all-accepted = rest .all-accepted ∙ ap (λ (o : Progress). o .accepted ++ rest .jobs) (w .reached) ∙ append-assoc (p .accepted) _ (rest .jobs);
   }
 
--- Nothing but a sound run is needed to go on.
+-- The property that always holds is kept by every tick and release. With it, `step-keeps` says that the run stays sound.
 nothing-more : Keeps (λ p. Unit {0})
 nothing-more = record { tick = λ p good in-time u. tt; release = λ p row cost a good e u. tt }
 
--- A script with at most as many records as bytes left is played to its end.
-pub all-asked : (n : ℕ) (s : List ℕ) (at : ℕ) (p q : Progress) → Bytes s → at ≤ length s → length s ≤ at + n → Good (p .since .run)
+-- Where a play from a place on comes to its end, all records from there on were accepted.
+pub all-asked : (n : ℕ) (s : List ℕ) (at : ℕ) (p q : Progress) → Bytes s → at ≤ length s → length s ≤ at + n → Good (p .so-far .run)
     → playedFrom n s at p ≡ whole q → AskedFrom s at p q
 unfolding playedFrom
 all-asked zero s at p q bytes before enough good e = none-asked s at p q (omega arith) e

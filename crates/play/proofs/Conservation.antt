@@ -1,5 +1,4 @@
--- No job is lost: each job that was accepted is pending, or has its record in the log. And serials count the accepted jobs. (docs/RULES.md, sections 6.7,
--- 6.13 and 8.8.)
+-- No job is lost: each accepted job is pending or has its record in the log. (docs/RULES.md, sections 6.7, 6.13 and 8.8.)
 use Prim.Native.Nat.{ℕ, zero, suc, _+_, _<_}
 use mathlib.Core.Path.{_≡_, refl}
 use mathlib.Core.Logic.{_⊎_, inl, inr, ⊎-elim}
@@ -12,19 +11,19 @@ use Rattle.jobs.specs.declared.Job.{Job}
 use Rattle.jobs.specs.Places.{noJob, without}
 use Rattle.jobs.specs.Units.{worked}
 use Rattle.jobs.specs.Turns.{finishAt}
-use Rattle.play.specs.Laws.{RecordOf}
-use Rattle.play.proofs.Moves.{Seen, Moves}
+use Rattle.play.specs.LogRecords.{RecordOf}
+use Rattle.play.proofs.ThreeChanges.{Seen, Moves}
 
 -- ---- a job among others
 
--- A job of a list is the one at a place, or is still there without that one.
+-- A job of a list is the one at a place, or it is still in the list without that place.
 among-without : {k : Job} {js : List Job} → List·Memᴰ k js → (at : ℕ) → (k ≡ getD js at noJob) ⊎ List·Memᴰ k (without js at)
 among-without (List·Memᴰ·head e) zero = inl e
 among-without (List·Memᴰ·head e) (suc at) = inr (List·Memᴰ·head e)
 among-without (List·Memᴰ·tail m) zero = inr m
 among-without (List·Memᴰ·tail m) (suc at) = ⊎-elim (λ e. inl e) (λ n. inr (List·Memᴰ·tail n)) (among-without m at)
 
--- A job of a list is the one at a place, or is still there where another takes that place. That other is there then.
+-- A job of a list is the one at a place, or it is still in the list after another job was put into that place. In the first case that other job is in the list.
 among-set : {k : Job} {js : List Job} → List·Memᴰ k js → (at : ℕ) (a : Job)
     → ((k ≡ getD js at noJob) × List·Memᴰ a (set js at a)) ⊎ List·Memᴰ k (set js at a)
 among-set (List·Memᴰ·head e) zero a = inl (e, List·Memᴰ·head refl)
@@ -35,22 +34,22 @@ among-set (List·Memᴰ·tail m) (suc at) a =
 
 -- ---- pending, or recorded
 
--- What a pending job keeps of the job as it was accepted.
+-- A pending job is the same as an accepted one: it has the same serial, row, release and due time.
 pub record SameJob (j k : Job) : Type 0 where
   pub serial : k .serial ≡ j .serial
   pub row : k .row ≡ j .row
   pub release : k .release ≡ j .release
   pub due : k .due ≡ j .due
 
--- The job is pending.
+-- An accepted job is among the pending ones.
 abbrev pub Waits : List Job → Job → Type 0
 Waits js j = (k : Job) × List·Memᴰ k js × SameJob j k
 
--- The job has its record in the log.
+-- An accepted job has its record in the log.
 abbrev pub Recorded : List Finish → Job → Type 0
 Recorded fs j = (f : Finish) × List·Memᴰ f fs × RecordOf j f
 
--- So it is with each job that was accepted.
+-- Every accepted job is pending or has its record in the log.
 abbrev pub NoneLost : Seen → Type 0
 NoneLost s = (j : Job) → List·Memᴰ j (s .accepted) → Waits (s .pending) j ⊎ Recorded (s .finishes) j
 
@@ -58,7 +57,7 @@ module _ (js : List Job) (at : ℕ) (j : Job) (w : Waits js j) where
   abbrev its : Job
   its = getD js at noJob
 
-  -- A job that waits still does where one got a unit that was not its last.
+  -- A pending job stays pending where the unit that was given was not its job's last.
   waits-on : Waits (set js at (worked its)) j
   waits-on =
       let same = w .2 in
@@ -68,7 +67,7 @@ module _ (js : List Job) (at : ℕ) (j : Job) (w : Waits js j) where
       (worked its, n .1, record { serial = here .serial; row = here .row; release = here .release; due = here .due }))
       (λ (n : List·Memᴰ (w .0) (set js at (worked its))). (w .0, n, same)) (among-set (w .1) at (worked its))
 
-  -- Where a unit was the last of its job, that job is recorded behind the others, after its release, and any other still waits.
+  -- Where a job got its last unit, its record is in the log, with a finish after its release. Every other pending job stays pending.
   waits-or-finished : (fs : List Finish) (clock : ℕ) → its .release .0 < clock
       → Waits (without js at) j ⊎ Recorded (fs ++ (finishAt clock its ∷ [])) j
   waits-or-finished fs clock later =

@@ -10,9 +10,10 @@ use Rattle.kinds.specs.declared.Finish.{Finish}
 use Rattle.theory.proofs.Cases.{by-lt}
 use Rattle.jobs.specs.Places.{noJob}
 use Rattle.jobs.specs.Turns.{noFinish, finishAt}
-use Rattle.play.proofs.Moves.{Seen, Moves}
+use Rattle.play.proofs.ThreeChanges.{Seen, Moves}
 
--- What holds of each at its place, and of one more at the next place, holds of each with that one put last.
+-- If each element of a list has a property with its place, and one more element has it with the next place, then each element of the list with that one at its
+-- end has it.
 each-more : {A : Type 0} (P : ℕ → A → Type 0) (d : A) (l : List A) (a : A) → ((i : ℕ) → i < length l → P i (getD l i d)) → P (length l) a
     → (i : ℕ) → i < length (l ++ (a ∷ [])) → P i (getD (l ++ (a ∷ [])) i d)
 each-more P d l a each here i h =
@@ -20,7 +21,7 @@ each-more P d l a each here i h =
     (λ old. rw (List·getD-append l (a ∷ []) d i old) (each i old))
     (λ new. let last : i ≡ length l = omega (arith, length-append l (a ∷ [])) in rw (last, getD-append-seam l a [] d) here)
 
--- As many jobs were accepted as serials were given out, and each has its place among them for its serial.
+-- The next serial is the number of accepted jobs, and each accepted job's serial is its place among them.
 abbrev pub Counted : Seen → Type 0
 Counted s = (length (s .accepted) ≡ s .next) × ((i : ℕ) → i < length (s .accepted) → getD (s .accepted) i noJob .serial .0 ≡ i)
 
@@ -35,12 +36,12 @@ accepted-counted = record {
   );
 }
 
--- Each job finished later than those before it, and none later than the clock.
+-- Each job finished later than those before it, and none finished after the clock.
 pub record Rising (s : Seen) : Type 0 where
   pub by-now : (i : ℕ) → i < length (s .finishes) → getD (s .finishes) i noFinish .finish .0 ≤ s .clock
   pub rising : (i k : ℕ) → i < k → k < length (s .finishes) → getD (s .finishes) i noFinish .finish .0 < getD (s .finishes) k noFinish .finish .0
 
--- A job that finishes now finishes later than those before it.
+-- A list of finishes that rise still rises with a later finish at its end.
 module _ (fs : List Finish) (f : Finish) (earlier : (i : ℕ) → i < length fs → getD fs i noFinish .finish .0 < f .finish .0)
     (rising : (i k : ℕ) → i < k → k < length fs → getD fs i noFinish .finish .0 < getD fs k noFinish .finish .0) where
   abbrev all : List Finish

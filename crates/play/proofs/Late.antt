@@ -1,4 +1,4 @@
--- Jobs late are counted one by one. (docs/RULES.md, section 8.14.)
+-- The laws of the number of jobs late are proved. (docs/RULES.md, section 8.14.)
 use mathlib.Core.Path.{_≡_, refl}
 use mathlib.Core.Logic.{⊎-elim}
 use mathlib.Core.List.{List, [], _∷_, List·Memᴰ·head, List·Memᴰ·tail, List·Memᴰ·cases-cons, List·Memᴰ·not-nil}
@@ -22,7 +22,7 @@ unfolding lateFinishes
 late-together [] gs = omega arith
 late-together (f ∷ fs) gs = omega (arith, late-together fs gs)
 
--- Where none is late, all are in time.
+-- Where the number of jobs late is 0, every job is in time.
 all-in-time : (fs : List Finish) → lateFinishes fs ≡ 0 → AllInTime fs
 unfolding lateFinishes
 all-in-time [] none f m = absurd (List·Memᴰ·not-nil m)
@@ -31,7 +31,7 @@ all-in-time (g ∷ fs) none f m =
     (λ late. absurd (omega (arith, rw (lt-ltb (g .due .0) (g .finish .0) late) at none)))
     (λ in-time. ⊎-elim (λ (e : f ≡ g). rw e in-time) (λ n. all-in-time fs (omega arith) f n) (List·Memᴰ·cases-cons m))
 
--- Where all are in time, none is late.
+-- Where every job is in time, the number of jobs late is 0.
 none-late : (fs : List Finish) → AllInTime fs → lateFinishes fs ≡ 0
 unfolding lateFinishes
 none-late [] all = refl

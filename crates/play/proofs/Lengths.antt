@@ -1,43 +1,44 @@
--- How small a log is: its numbers, and its length beside its script's. (docs/RULES.md, sections 8.8, 8.11 and 10.6.)
+-- A log's numbers are small, and the log is at most ten times as long as its script. (docs/RULES.md, sections 8.8, 8.11 and 10.6.)
 use Prim.Native.Nat.{ℕ, _*_, _≤_}
 use mathlib.Core.Path.{_≡_, refl, ap}
 use mathlib.Core.List.{List, [], _∷_, flatten}
 use native.Mathlib.Omega.{arith}
 use lib.ListN.{length, length-append}
 use Rattle.kinds.specs.declared.Finish.{Finish}
-use Rattle.numbers.proofs.Laws.{spelling-length}
+use Rattle.numbers.proofs.Spellings.{spelling-length}
 use Rattle.table.proofs.Each.{Each, stands-in, each-none}
 use Rattle.jobs.specs.declared.Job.{Job}
 use Rattle.jobs.specs.Turns.{noFinish}
 use Rattle.log.specs.Log.{spelledFinish}
-use Rattle.log.specs.Laws.{spelledLog}
-use Rattle.log.proofs.Laws.{record-length}
+use Rattle.log.specs.SpelledLogs.{spelledLog}
+use Rattle.log.proofs.Logs.{record-length}
 use Rattle.script.specs.declared.Record.{Record}
-use Rattle.script.specs.Laws.{spelledScript}
-use Rattle.script.proofs.Laws.{script-is-read}
+use Rattle.script.specs.SpelledScripts.{spelledScript}
+use Rattle.script.proofs.Scripts.{script-is-read}
 use Rattle.play.specs.Play.{Progress}
-use Rattle.play.specs.Laws.{AskedFor, SmallNumbers, LogHoldsSmallNumbers, LogIsShort}
+use Rattle.play.specs.LogRecords.{AskedFor, SmallNumbers}
+use Rattle.play.specs.PlayLaws.{LogHoldsSmallNumbers, LogIsShort}
 use Rattle.play.proofs.SingleTicks.{finished-small, each-behind}
-use Rattle.play.proofs.Through.{Keeps, kept-through}
-use Rattle.play.proofs.Laws.{every-record-is-accepted, one-record-each}
+use Rattle.play.proofs.KeptThroughout.{Keeps, kept-through}
+use Rattle.play.proofs.WholePlays.{every-record-is-accepted, one-record-each}
 
 -- ---- its numbers
 
--- They are small so far.
+-- The numbers of all records so far are small.
 abbrev SmallSoFar : Progress → Type 0
-SmallSoFar p = Each SmallNumbers (p .since .finishes)
+SmallSoFar p = Each SmallNumbers (p .so-far .finishes)
 
--- Ticks add none but small ones, and a release adds none.
+-- A tick adds only a record with small numbers, and a release adds no record.
 small-so-far : Keeps SmallSoFar
 small-so-far = record {
-  tick = λ p good in-time small. each-behind (p .since .finishes) _ small (finished-small (p .since .run) good in-time);
+  tick = λ p good in-time small. each-behind (p .so-far .finishes) _ small (finished-small (p .so-far .run) good in-time);
   release = λ p row cost a good e small. small;
 }
 
 pub log-holds-small-numbers : LogHoldsSmallNumbers
 log-holds-small-numbers t s p table script e i h =
     let end = kept-through SmallSoFar small-so-far t s p table (each-none SmallNumbers) e in
-    end .kept _ (stands-in (p .since .finishes) i noFinish h)
+    end .kept _ (stands-in (p .so-far .finishes) i noFinish h)
 
 -- ---- its length
 
@@ -57,7 +58,7 @@ script-at-least (r ∷ rs) =
     let cost = spelling-length (r .cost) in
     simp length-append (omega (arith, gap, row, cost, script-at-least rs))
 
--- Records ask for one job each.
+-- Records ask for as many jobs as there are records.
 one-job-each : (time : ℕ) (rs : List Record) (js : List Job) → AskedFor time rs js → length rs ≡ length js
 one-job-each time [] [] asked = refl
 one-job-each time [] (j ∷ js) asked = absurd asked
@@ -70,7 +71,7 @@ log-is-short t s p table script e =
     let spelled : s ≡ spelledScript (asked .0) = script-is-read s 0 (asked .0) script .0 (asked .1) .stands-here in
     omega (
       arith,
-      log-at-most (p .since .finishes),
+      log-at-most (p .so-far .finishes),
       one-record-each t s p table script e .0,
       one-job-each 0 (asked .0) (p .accepted) (asked .2),
       script-at-least (asked .0),

@@ -1,13 +1,13 @@
 pub mod SingleTicks
 pub mod OnItsWay
-pub mod Through
-pub mod Moves
+pub mod KeptThroughout
+pub mod ThreeChanges
 pub mod Late
 pub mod Lateness
 pub mod Conservation
 pub mod InOrder
 pub mod Asked
-pub mod Laws
+pub mod WholePlays
 pub mod Lengths
 pub mod Refusing
 pub mod Stopping

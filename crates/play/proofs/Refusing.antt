@@ -1,4 +1,5 @@
--- A record of a script, by the first test that it does not pass, or accepted. (docs/RULES.md, sections 8.2 and 8.5.)
+-- What one record of a script does to a play: the first test that the record does not pass stops it, or the record's job is accepted. (docs/RULES.md, sections
+-- 8.2 and 8.5.)
 use Prim.Native.Nat.{ℕ, _+_, _-_, _≤_, _<_}
 use mathlib.Core.Path.{_≡_, refl, sym, ap, ap₂, subst, _∙_}
 use mathlib.Core.Logic.{_⊎_}
@@ -14,7 +15,7 @@ use Rattle.kinds.proofs.Numbering.{numbers-differ}
 use Rattle.numbers.specs.declared.Number.{Number}
 use Rattle.numbers.specs.declared.NumberRead.the-variants as number
 use Rattle.numbers.specs.Reading.{readAt}
-use Rattle.numbers.proofs.Laws.{read-within}
+use Rattle.numbers.proofs.Spellings.{read-within}
 use Rattle.table.specs.declared.Table.{Table}
 use Rattle.table.specs.Tables.{rowsOf}
 use Rattle.table.specs.Costs.{costLimits}
@@ -23,7 +24,7 @@ use Rattle.run.specs.declared.Released.{Released}
 use Rattle.run.specs.declared.Released.the-variants as release
 use Rattle.run.specs.Runs.{costLimit}
 use Rattle.run.specs.Release.{released}
-use Rattle.run.specs.Advance.{ticks}
+use Rattle.run.specs.ManyTicks.{ticks}
 use Rattle.run.specs.Answers.{refused, releaseSays}
 use Rattle.run.proofs.Answers.{runs-said-apart}
 use Rattle.script.specs.Records.{scriptNumber}
@@ -33,13 +34,13 @@ use Rattle.records.specs.declared.Ready.{Ready}
 use Rattle.records.specs.declared.Tested.{Tested}
 use Rattle.records.specs.declared.Tested.the-variants as tested
 use Rattle.records.specs.Numbers.{numbersAt, testedNumbers}
-use Rattle.records.specs.Laws.{GapFits, RowFits, Passed, NumbersRefused}
-use Rattle.records.specs.Laws as numbers
+use Rattle.records.specs.PassedTests.{GapFits, RowFits, Passed, NumbersRefused}
+use Rattle.records.specs.PassedTests.{NumbersRefused}
 use Rattle.records.proofs.Tests.{TestedSo, tests-mean, passed-ready, refused-so}
 use Rattle.play.specs.Play.{Progress, Step, goes-on, stops, afterRelease, afterTests, stepped}
-use Rattle.play.specs.Exactly as laws
-use Rattle.play.specs.Exactly.{GapPassed, RowPassed, CostPassed, Unreadable, RecordRefused, RecordTaken}
-use Rattle.play.specs.Exactly.{no-gap, too-late, no-row-number, no-such-row, no-cost, cost-out-of-range, release-refused}
+use Rattle.play.specs.StoppingLaws.{RecordGoesOn, RecordStops}
+use Rattle.play.specs.Refusals.{GapPassed, RowPassed, CostPassed, Unreadable, RecordRefused, RecordTaken}
+use Rattle.play.specs.Refusals.{no-gap, too-late, no-row-number, no-such-row, no-cost, cost-out-of-range, release-refused}
 
 -- ---- the rows of a table by their limits
 
@@ -47,20 +48,20 @@ use Rattle.play.specs.Exactly.{no-gap, too-late, no-row-number, no-such-
 limits-of-rows : (t : Table) → length (costLimits t) ≡ length (rowsOf t)
 limits-of-rows t = length-map (rowsOf t) _
 
--- The limit of a row is the most that a job of it may cost.
+-- The limit of a row in use is the most that a job of the row may cost.
 limit-of-row : (t : Table) (row : ℕ) → row < length (rowsOf t) → getD (costLimits t) row 0 ≡ costLimit t row
 limit-of-row t row h = limit-is-its-c t row (omega (arith, length-take (t .count) (t .rows)))
 
 -- ---- numbers of a script
 
--- A number of a script that was refused can't be read, and is refused with 14 at its start.
+-- Where the number of a script at a place is refused, no number can be read there, and the refusal is 14 at that place.
 unread : (s : List ℕ) (at : ℕ) → at ≤ length s → (r : RefusedAt) → scriptNumber s at ≡ number.Refused r
     → Unreadable s at × (r ≡ record { refusal = ScriptMisspelled; place = at })
 unread s at h r e =
     let none : Unreadable s at = λ n f. let there = number-stands s at f in impossible cc in
     (none, let so = number-unreadable s at h none in cc)
 
--- A release that says a refusal's number was refused so.
+-- Where a release says a refusal's number, it was refused with that refusal.
 pub said-refused : (a : Released) {n : ℕ} → releaseSays a ≡ refused n 0 → (r : Refusal) × (a ≡ release.Refused r) × (refusalNumber r ≡ n)
 said-refused (release.Accepted a) e = impossible cc
 said-refused (release.Refused r) e = (r, refl, cc)
@@ -70,20 +71,20 @@ pub same-refusal : (r q : RefusedAt) → refusalNumber (r .refusal) ≡ refusalN
 same-refusal r q e f = ap₂ (λ kind place. record { refusal = kind; place = place }) (numbers-differ (r .refusal) (q .refusal) e) f
 
 module _ (s : List ℕ) (at : ℕ) (p : Progress) where
-  -- The record's numbers, the time reached, and the limits of the rows.
+  -- `its` are the record's numbers, `time` is the time reached, and `limits` has the most that a job of each row may cost.
   abbrev its : Numbers
   its = numbersAt s at
 
   abbrev time : ℕ
-  time = p .since .run .clock .0
+  time = p .so-far .run .clock .0
 
   abbrev table : Table
-  table = p .since .run .table
+  table = p .so-far .run .table
 
   abbrev limits : List ℕ
   limits = costLimits table
 
-  -- What stands after the gap, and after the row number.
+  -- The row number is looked for right after the gap, and the cost right after the row number.
   row-there : {gap : Number} → scriptNumber s at ≡ number.Number gap → (its .row .place ≡ gap .next) × (its .row .read ≡ scriptNumber s (gap .next))
   row-there g = rw g (refl, refl)
 
@@ -99,7 +100,7 @@ module _ (s : List ℕ) (at : ℕ) (p : Progress) where
   gap-fits : {gap : Number} → GapPassed s at p gap → GapFits time its gap
   gap-fits g = record { gap-read = number-stands s at (g .read); in-time = g .in-time }
 
-  -- (The row number that was read.)
+  -- The row number that the tests were given is the script's number right after the gap.
   row-read : {gap row : Number} → scriptNumber s at ≡ number.Number gap → its .row .read ≡ number.Number row → scriptNumber s (gap .next) ≡ number.Number row
   row-read g e = sym (row-there g .1) ∙ e
 
@@ -119,7 +120,7 @@ module _ (s : List ℕ) (at : ℕ) (p : Progress) where
         in-use = omega (arith, q .in-use, limits-of-rows table);
       }
 
-  -- (The cost that was read.)
+  -- The cost that the tests were given is the script's number right after the row number.
   cost-read : {gap row cost : Number} → RowFits limits time its gap row → its .cost .read ≡ number.Number cost → scriptNumber s (row .next) ≡ number.Number cost
   cost-read f e =
       let g = f .gap-fits .gap-read in
@@ -140,7 +141,7 @@ module _ (s : List ℕ) (at : ℕ) (p : Progress) where
         allowed = rw (limit-of-row table (w .row .value) (q .in-use)) at (w .allowed);
       }
 
-  -- A record that passes its tests: what it asks for.
+  -- The release that a record asks for that passes its tests.
   abbrev ready : (gap row cost : Number) → Ready
   ready gap row cost = record { time = record { 0 = time + gap .value }; row = record { 0 = row .value }; cost = cost .value; next = cost .next }
 
@@ -170,30 +171,30 @@ module _ (s : List ℕ) (at : ℕ) (p : Progress) where
     row-within : {gap row : Number} → RowPassed s at p gap row → row .next ≤ length s
     row-within {gap} {row} q = read-within s (gap .next) row (q .read) .1
 
-    -- What a test of the numbers refuses, the rules refuse.
+    -- Where a test refuses the record's numbers, the rules of a record refuse it.
     numbers-refused : {k place : ℕ} → NumbersRefused limits time its k place → RecordRefused s at p k place
-    numbers-refused (numbers.NumbersRefused.no-gap r e) = let u = unread s at inside r e in rw (u .1) (no-gap (u .0))
-    numbers-refused (numbers.NumbersRefused.too-late gap e late) = too-late gap (number-read s at gap e) late
-    numbers-refused (numbers.NumbersRefused.no-row-number gap f r e) =
+    numbers-refused (NumbersRefused.no-gap r e) = let u = unread s at inside r e in rw (u .1) (no-gap (u .0))
+    numbers-refused (NumbersRefused.too-late gap e late) = too-late gap (number-read s at gap e) late
+    numbers-refused (NumbersRefused.no-row-number gap f r e) =
         let g = gap-passed f in
         let u = unread s (gap .next) (gap-within g) r (sym (row-there (f .gap-read) .1) ∙ e) in
         rw (u .1) (no-row-number gap g (u .0))
-    numbers-refused (numbers.NumbersRefused.no-such-row gap row f e unused) =
+    numbers-refused (NumbersRefused.no-such-row gap row f e unused) =
         rw (row-there (f .gap-read) .0)
         (no-such-row gap row (gap-passed f) (number-read s (gap .next) row (row-read (f .gap-read) e)) (omega (arith, limits-of-rows table)))
-    numbers-refused (numbers.NumbersRefused.no-cost gap row f r e) =
+    numbers-refused (NumbersRefused.no-cost gap row f r e) =
         let q = row-passed f in
         let g = f .gap-fits .gap-read in
         let u = unread s (row .next) (row-within q) r (sym (cost-there g (row-read g (f .row-read)) .1) ∙ e) in
         rw (u .1) (no-cost gap row q (u .0))
-    numbers-refused (numbers.NumbersRefused.cost-out-of-range gap row cost f e out) =
+    numbers-refused (NumbersRefused.cost-out-of-range gap row cost f e out) =
         let q = row-passed f in
         let g = f .gap-fits .gap-read in
         let above : (cost .value < 1) ⊎ (costLimit table (row .value) < cost .value) = rw (limit-of-row table (row .value) (q .in-use)) at out in
         rw (cost-there g (row-read g (f .row-read)) .0)
         (cost-out-of-range gap row cost q (number-read s (row .next) cost (cost-read f e)) above)
 
-    -- Where a test refuses the numbers, the play stops.
+    -- Where a test refuses the record's numbers, the play stops.
     refused-stops : {k place : ℕ} → NumbersRefused limits time its k place
         → (r : RefusedAt) × (stepped p its ≡ stops r) × (refusalNumber (r .refusal) ≡ k) × (r .place ≡ place)
     unfolding stepped
@@ -201,14 +202,14 @@ module _ (s : List ℕ) (at : ℕ) (p : Progress) where
         let found = refused-so limits time its n in
         (found .0, ap (afterTests at p) (found .1), found .2, found .3)
 
-  -- What is released at its time, and what that is answered.
+  -- `there` is the play at the record's script time, and `said` is what the release answers there.
   abbrev there : Number → Progress
-  there gap = record { since = ticks (gap .value) (p .since); accepted = p .accepted }
+  there gap = record { so-far = ticks (gap .value) (p .so-far); accepted = p .accepted }
 
   abbrev said : (gap row cost : Number) → Released
-  said gap row cost = released (there gap .since .run) (row .value) (cost .value) .answer
+  said gap row cost = released (there gap .so-far .run) (row .value) (cost .value) .answer
 
-  -- A record that passes its tests is released at its time.
+  -- The job of a record that passes its tests is released at the record's script time.
   after-ready : (gap row cost : Number) → afterTests at p (tested.Ready (ready gap row cost)) ≡ afterRelease at (ready gap row cost) (there gap) (said gap row cost)
   after-ready gap row cost = let many : time + gap .value - time ≡ gap .value = omega arith in rw many
 
@@ -217,7 +218,7 @@ module _ (s : List ℕ) (at : ℕ) (p : Progress) where
   unfolding stepped
   reaches-release {gap} {row} {cost} c = ap (afterTests at p) (tests-passed c) ∙ after-ready gap row cost
 
-  -- What a record comes to: it is taken, or it is refused.
+  -- What is known about a record, given what it does to the play: the play goes on where its job is accepted, and stops where it is refused.
   abbrev pub SteppedSo : Step → Type 0
   SteppedSo (goes-on q next) = RecordTaken s at p q next
   SteppedSo (stops r) = RecordRefused s at p (refusalNumber (r .refusal)) (r .place)
@@ -240,7 +241,7 @@ module _ (s : List ℕ) (at : ℕ) (p : Progress) where
   }
   by-release gap row cost passed (release.Refused r) e = release-refused gap row cost passed (refusalNumber r) (ap releaseSays e)
 
-  -- The tests in their order, and then the release; there is no other way to stop.
+  -- The tests come in their order, and then the release. There is no other way for a record to stop a play.
   pub step-means : at ≤ length s → SteppedSo (stepped p its)
   unfolding stepped
   step-means inside = by-tests (testedNumbers table time its) (tests-mean limits time its)
@@ -251,7 +252,7 @@ module _ (s : List ℕ) (at : ℕ) (p : Progress) where
           (subst SteppedSo (sym (after-ready (w .gap) (w .row) (w .cost))) (by-release (w .gap) (w .row) (w .cost) (cost-passed w) _ refl))
       by-tests (tested.Refused r) n = numbers-refused inside n
 
-  -- The play goes on where the record is taken.
+  -- The play goes on where the record's job is accepted.
   taken-goes-on : (q : Progress) (next : ℕ) → RecordTaken s at p q next → stepped p its ≡ goes-on q next
   taken-goes-on q next w =
       reaches-release (w .passed)
@@ -260,37 +261,37 @@ module _ (s : List ℕ) (at : ℕ) (p : Progress) where
       (release.Accepted (record { serial = record { 0 = w .serial }; due = record { 0 = w .due } })) (w .accepted))
       ∙ rw (← (w .run-then), ← (w .late-then), ← (w .finished-then), ← (w .one-job-more), ← (w .right-after))
 
-  -- The play stops where the record is refused, with that number and at that place.
+  -- The play stops where the record is refused, with the same number and place.
   stops-where : at ≤ length s → {n place : ℕ} → RecordRefused s at p n place
       → (r : RefusedAt) × (stepped p its ≡ stops r) × (refusalNumber (r .refusal) ≡ n) × (r .place ≡ place)
-  stops-where inside (no-gap none) = refused-stops inside (numbers.NumbersRefused.no-gap _ (unread-stands inside at inside none))
-  stops-where inside (too-late gap e late) = refused-stops inside (numbers.NumbersRefused.too-late gap (number-stands s at e) late)
+  stops-where inside (no-gap none) = refused-stops inside (NumbersRefused.no-gap _ (unread-stands inside at inside none))
+  stops-where inside (too-late gap e late) = refused-stops inside (NumbersRefused.too-late gap (number-stands s at e) late)
   stops-where inside (no-row-number gap g none) =
       let f = gap-fits g in
       refused-stops inside
-      (numbers.NumbersRefused.no-row-number gap f _ (row-there (f .gap-read) .1 ∙ unread-stands inside (gap .next) (gap-within inside g) none))
+      (NumbersRefused.no-row-number gap f _ (row-there (f .gap-read) .1 ∙ unread-stands inside (gap .next) (gap-within inside g) none))
   stops-where inside (no-such-row gap row g e unused) =
       let f = gap-fits g in
       let found = refused-stops inside
-      (numbers.NumbersRefused.no-such-row gap row f (row-there (f .gap-read) .1 ∙ number-stands s (gap .next) e) (omega (arith, limits-of-rows table))) in
+      (NumbersRefused.no-such-row gap row f (row-there (f .gap-read) .1 ∙ number-stands s (gap .next) e) (omega (arith, limits-of-rows table))) in
       (found .0, found .1, found .2, found .3 ∙ row-there (f .gap-read) .0)
   stops-where inside (no-cost gap row q none) =
       let f = row-fits q in
       let g = f .gap-fits .gap-read in
       refused-stops inside
-      (numbers.NumbersRefused.no-cost gap row f _
+      (NumbersRefused.no-cost gap row f _
       (cost-there g (row-read g (f .row-read)) .1 ∙ unread-stands inside (row .next) (row-within inside q) none))
   stops-where inside (cost-out-of-range gap row cost q e out) =
       let f = row-fits q in
       let g = f .gap-fits .gap-read in
       let above : (cost .value < 1) ⊎ (getD limits (row .value) 0 < cost .value) = rw (limit-of-row table (row .value) (q .in-use)) out in
-      let found = refused-stops inside (numbers.NumbersRefused.cost-out-of-range gap row cost f (cost-stands f e) above) in
+      let found = refused-stops inside (NumbersRefused.cost-out-of-range gap row cost f (cost-stands f e) above) in
       (found .0, found .1, found .2, found .3 ∙ cost-there g (row-read g (f .row-read)) .0)
   stops-where inside (release-refused gap row cost q number e) =
       let r = said-refused (said gap row cost) e in
       (record { refusal = r .0; place = at }, reaches-release q ∙ ap (afterRelease at (ready gap row cost) (there gap)) (r .1), r .2, refl)
 
-pub record-stops : laws.RecordStops
+pub record-stops : RecordStops
 record-stops s at p r inside = (
   λ e. subst (SteppedSo s at p) e (step-means s at p inside),
   λ refused.
@@ -298,7 +299,7 @@ record-stops s at p r inside = (
       found .1 ∙ ap stops (same-refusal (found .0) r (found .2) (found .3)),
 )
 
--- A record that the play goes on after passed its tests, wherever it stands.
+-- Where the play goes on after a record, the record passed its tests and its job was accepted, whatever the record's place.
 goes-where : (s : List ℕ) (at : ℕ) (p q : Progress) (next : ℕ) → stepped p (numbersAt s at) ≡ goes-on q next → RecordTaken s at p q next
 unfolding stepped
 goes-where s at p q next e = by-tests (testedNumbers (table s at p) (time s at p) (its s at p)) (tests-mean (limits s at p) (time s at p) (its s at p)) e
@@ -310,12 +311,12 @@ goes-where s at p q next e = by-tests (testedNumbers (table s at p) (time s at p
         (by-release s at p (w .gap) (w .row) (w .cost) (cost-passed s at p w) _ refl)
     by-tests (tested.Refused r) n f = impossible cc
 
-pub record-goes-on : laws.RecordGoesOn
+pub record-goes-on : RecordGoesOn
 record-goes-on s at p q next = (goes-where s at p q next, taken-goes-on s at p q next)
 
 -- ---- where a record stops a play
 
--- A record that stops a play with 10 does so at its own place.
+-- A record that stops a play with 10 does so at the record's start.
 pub ten-at-its-place : (s : List ℕ) (at : ℕ) (p : Progress) {n place : ℕ} → RecordRefused s at p n place → n ≡ 10 → place ≡ at
 ten-at-its-place s at p (no-gap none) e = absurd (omega arith)
 ten-at-its-place s at p (too-late gap f late) e = refl

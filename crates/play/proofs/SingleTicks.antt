@@ -1,4 +1,4 @@
--- What ticks keep of a replay, one by one and many in a row. (docs/RULES.md, sections 6.10 to 6.17, 8.2 and 8.3.)
+-- What single ticks, and many ticks in a row, keep of a play. (docs/RULES.md, sections 6.10 to 6.17, 8.2 and 8.3.)
 use Prim.Native.Nat.{ℕ, zero, suc, _+_, _≤_, _<_}
 use mathlib.Core.Path.{_≡_, refl, sym, ap, _∙_}
 use mathlib.Core.Logic.{⊎-elim}
@@ -19,25 +19,25 @@ use Rattle.jobs.specs.Places.{noJob, jobsOf, used}
 use Rattle.jobs.specs.Choice.{firstPlace}
 use Rattle.jobs.specs.Units.{lastUnit, worked}
 use Rattle.jobs.specs.Turns.{firstJob, finishAt}
-use Rattle.jobs.specs.Laws.{unitAt}
-use Rattle.jobs.proofs.Laws.{first-is-there, place-holds-job, without-is-one-less}
+use Rattle.jobs.specs.JobChanges.{unitAt}
+use Rattle.jobs.proofs.Changes.{first-is-there, place-holds-job, without-is-one-less}
 use Rattle.run.specs.declared.Run.{Run}
 use Rattle.run.specs.Sound.{SoundJob}
 use Rattle.run.specs.Ticking.{runWith, ticked}
-use Rattle.run.specs.Advance.{finishedBy, Since, oneMore, ticks, ticksWhilePending}
+use Rattle.run.specs.ManyTicks.{finishedBy, SoFar, oneMore, ticks, ticksWhilePending}
 use Rattle.run.proofs.Ticking.{Good, facts, counted, tick-idle, tick-busy, tick-keeps-good, tick-gives-one-unit}
 use Rattle.log.specs.Log.{valuesOf, allInRange}
-use Rattle.log.specs.Laws.{EachInRange}
-use Rattle.play.specs.Laws.{SmallNumbers}
+use Rattle.log.specs.SpelledLogs.{EachInRange}
+use Rattle.play.specs.LogRecords.{SmallNumbers}
 
 -- ---- one tick
 
--- One thing, where a test says so.
+-- A list that has one element where a test says yes, and none otherwise, has the length 1 or 0.
 length-if : {A : Type 0} (test : Bool) (x : A) → length (cond test (x ∷ []) []) ≡ cond test 1 0
 length-if true x = refl
 length-if false x = refl
 
--- Small numbers have spellings.
+-- A record with small numbers has a spelling.
 small-in-range : (f : Finish) → SmallNumbers f → allInRange (valuesOf f) ≡ true
 small-in-range f small = rw (
   le-leb (f .serial .0) maxNumber (omega arith),
@@ -48,14 +48,14 @@ small-in-range f small = rw (
 )
 
 module _ (run : Run) (good : Good run) where
-  -- The jobs pending, and the place of the one that goes first.
+  -- `js` are the pending jobs, and `first` is the place of the job that goes first.
   abbrev js : List Job
   js = jobsOf (run .pending)
 
   abbrev first : ℕ
   first = firstPlace js
 
-  -- A job that gets its last unit is one less pending, and any other stays.
+  -- A unit that is a job's last makes the pending jobs one fewer, and any other unit leaves their number as it is.
   unit-takes : first < length js → length (unitAt js first) + cond (lastUnit (getD js first noJob)) 1 0 ≡ length js
   unit-takes h = by-test (lastUnit (getD js first noJob))
       (λ last. rw last (without-is-one-less js first h))
@@ -74,7 +74,7 @@ module _ (run : Run) (good : Good run) where
     first-sound = rw first-is-pending (facts run good .jobs first first-there)
 
   module _ (in-time : run .clock .0 < maxTime) where
-    -- A job that a tick finishes is pending no more, and all others are.
+    -- A job that a tick finishes is no longer pending, and all others are.
     pub tick-conserves : length (finishedBy run) + ticked run .run .pending .count ≡ run .pending .count
     tick-conserves = by-lt 0 (run .pending .count)
         (λ some.
@@ -108,7 +108,7 @@ module _ (run : Run) (good : Good run) where
     pub finished-in-range : EachInRange (finishedBy run)
     finished-in-range f m = small-in-range f (finished-small f m)
 
-    -- The clock goes up by one, and of the rest only the pending jobs change.
+    -- A tick takes the clock up by one, and apart from that changes only the pending jobs.
     tick-touches : ticked run .run ≡ runWith run (run .clock .0 + 1) (ticked run .run .pending)
     tick-touches = by-lt 0 (run .pending .count)
         (λ some. rw (tick-busy run (good .0) in-time some))
@@ -128,16 +128,16 @@ module _ (run : Run) (good : Good run) where
 
 -- ---- many ticks
 
--- What each tick of a sound run keeps, as long as the clock has room for it, many ticks keep.
-module _ (P : Since → Type 0) (one-more : (s : Since) → Good (s .run) → s .run .clock .0 < maxTime → P s → P (oneMore s)) where
-  pub along-ticks : (n : ℕ) (s : Since) → Good (s .run) → s .run .clock .0 + n ≤ maxTime → P s → P (ticks n s)
+-- If every tick of a sound run with its clock below 2^40 keeps a property, many ticks keep it.
+module _ (P : SoFar → Type 0) (one-more : (s : SoFar) → Good (s .run) → s .run .clock .0 < maxTime → P s → P (oneMore s)) where
+  pub along-ticks : (n : ℕ) (s : SoFar) → Good (s .run) → s .run .clock .0 + n ≤ maxTime → P s → P (ticks n s)
   unfolding ticks
   along-ticks zero s good room p = p
   along-ticks (suc n) s good room p =
       along-ticks n (oneMore s) (tick-keeps-good (s .run) good) (omega (arith, tick-clock (s .run) good (omega arith))) (one-more s good (omega arith) p)
 
-  -- Ticks that end when nothing is pending keep it too.
-  pub along-draining : (n : ℕ) (s : Since) → Good (s .run) → s .run .clock .0 + n ≤ maxTime → P s → P (ticksWhilePending n s)
+  -- Ticks that end when nothing is pending keep the property too.
+  pub along-draining : (n : ℕ) (s : SoFar) → Good (s .run) → s .run .clock .0 + n ≤ maxTime → P s → P (ticksWhilePending n s)
   unfolding ticksWhilePending
   along-draining zero s good room p = p
   along-draining (suc n) s good room p = by-test (eqb (s .run .pending .count) 0)
@@ -145,13 +145,13 @@ module _ (P : Since → Type 0) (one-more : (s : Since) → Good (s .run) → s 
       (λ some. rw some
       (along-draining n (oneMore s) (tick-keeps-good (s .run) good) (omega (arith, tick-clock (s .run) good (omega arith))) (one-more s good (omega arith) p)))
 
--- What holds of each record, and of each of others behind them, holds of each of them all.
+-- If every record of two lists has a property, every record of both lists together has it.
 pub each-behind : {P : Finish → Type 0} (fs gs : List Finish) → Each P fs → Each P gs → Each P (fs ++ gs)
 each-behind fs gs a b f m = ⊎-elim (a f) (b f) (List·Memᴰ·append-cases fs m)
 
--- What ticks keep: the run stays sound, on its table, with its next serial and its kept due times; each job that was pending is so still, or has finished; and the numbers of those
--- that finished have spellings.
-pub record TicksFrom (s t : Since) : Type 0 where
+-- What ticks keep: the run is still sound, with the same table, next serial and kept due times. Every job that was pending is still pending or has finished.
+-- The numbers of all finished jobs have spellings.
+pub record TicksFrom (s t : SoFar) : Type 0 where
   pub good : Good (t .run)
   pub same-table : t .run .table ≡ s .run .table
   pub same-next : t .run .next ≡ s .run .next
@@ -159,11 +159,11 @@ pub record TicksFrom (s t : Since) : Type 0 where
   pub conserved : length (t .finishes) + t .run .pending .count ≡ length (s .finishes) + s .run .pending .count
   pub in-range : EachInRange (s .finishes) → EachInRange (t .finishes)
 
-module _ (s : Since) where
+module _ (s : SoFar) where
   pub no-ticks : Good (s .run) → TicksFrom s s
   no-ticks good = record { good = good; same-table = refl; same-next = refl; same-kept = refl; conserved = refl; in-range = λ r. r }
 
-  one-tick-more : (t : Since) → Good (t .run) → t .run .clock .0 < maxTime → TicksFrom s t → TicksFrom s (oneMore t)
+  one-tick-more : (t : SoFar) → Good (t .run) → t .run .clock .0 < maxTime → TicksFrom s t → TicksFrom s (oneMore t)
   one-tick-more t good in-time before = record {
     good = tick-keeps-good (t .run) good;
     same-table = tick-table (t .run) good in-time ∙ before .same-table;
@@ -183,16 +183,16 @@ module _ (s : Since) where
     pub draining-keeps : TicksFrom s (ticksWhilePending n s)
     draining-keeps = along-draining (TicksFrom s) one-tick-more n s good room (no-ticks good)
 
--- Ticks take the clock as far as they are many.
-pub ticks-clock : (n : ℕ) (s : Since) → Good (s .run) → s .run .clock .0 + n ≤ maxTime → ticks n s .run .clock .0 ≡ s .run .clock .0 + n
+-- n ticks take the clock up by n.
+pub ticks-clock : (n : ℕ) (s : SoFar) → Good (s .run) → s .run .clock .0 + n ≤ maxTime → ticks n s .run .clock .0 ≡ s .run .clock .0 + n
 unfolding ticks
 ticks-clock zero s good room = sym (add-zero (s .run .clock .0))
 ticks-clock (suc n) s good room =
     let one = tick-clock (s .run) good (omega arith) in
     omega (arith, ticks-clock n (oneMore s) (tick-keeps-good (s .run) good) (omega arith))
 
--- Where nothing is pending, no tick is made of those that end when nothing is.
-pub no-more : (n : ℕ) (s : Since) → s .run .pending .count ≡ 0 → ticksWhilePending n s ≡ s
+-- Where nothing is pending, ticks that end when nothing is pending change nothing.
+pub no-more : (n : ℕ) (s : SoFar) → s .run .pending .count ≡ 0 → ticksWhilePending n s ≡ s
 unfolding ticksWhilePending
 no-more zero s e = refl
 no-more (suc n) s e = rw (eq-eqb (s .run .pending .count) 0 e)

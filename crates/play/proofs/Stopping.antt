@@ -1,4 +1,4 @@
--- What stops a play, and how it comes to its end. (docs/RULES.md, sections 8.1, 8.2, 8.5, 8.7 and 10.4.)
+-- What stops a play, and when it comes to its end. (docs/RULES.md, sections 8.1, 8.2, 8.5, 8.7 and 10.4.)
 use Prim.Native.Nat.{ℕ, zero, suc, _+_, _≤_, _<_}
 use mathlib.Core.Path.{_≡_, refl, sym, ap, subst, _∙_}
 use mathlib.Core.Logic.{_⊎_, _≢_, inl, inr}
@@ -11,7 +11,7 @@ use borrow.Author.Tests.{eq-eqb, ne-eqb}
 use Rattle.kinds.specs.Numbering.{maxTime}
 use Rattle.kinds.specs.declared.Refusal.the-variants.{TimeTooLate}
 use Rattle.kinds.specs.declared.RefusedAt.{RefusedAt}
-use Rattle.numbers.specs.Laws.{Bytes}
+use Rattle.numbers.specs.SpelledNumbers.{Bytes}
 use Rattle.numbers.specs.declared.Number.{Number}
 use Rattle.theory.proofs.Cases.{by-lt, by-eq, by-test}
 use Rattle.theory.specs.DueTimes.{dueTime}
@@ -37,28 +37,28 @@ use Rattle.run.specs.declared.Released.the-variants as release
 use Rattle.run.specs.Runs.{freshRun, rowAt, keptOf}
 use Rattle.run.specs.Sound.{soundOf}
 use Rattle.run.specs.Release.{atDue, atCost, released}
-use Rattle.run.specs.Advance.{ticks}
+use Rattle.run.specs.ManyTicks.{ticks}
 use Rattle.run.proofs.Ticking.{Good}
-use Rattle.run.proofs.Advancing.{ticks-keep-good}
+use Rattle.run.proofs.ManyTicks.{ticks-keep-good}
 use Rattle.run.proofs.Release.{release-keeps-sound}
 use Rattle.run.proofs.Fresh.{started-is-sound}
 use Rattle.script.specs.declared.RecordAt.{RecordAt}
 use Rattle.script.specs.declared.RecordRead.the-variants as read
 use Rattle.script.specs.Records.{recordAt}
 use Rattle.script.proofs.Records.{number-stands, record-read}
-use Rattle.script.proofs.Laws.{record-is-spelled}
+use Rattle.script.proofs.Scripts.{record-is-spelled}
 use Rattle.records.specs.Numbers.{numbersAt}
 use Rattle.play.specs.Play.{Progress, begun, Step, goes-on, stops, stepped}
 use Rattle.play.specs.Play.{Played, whole, stopped, finalTicks, andThen, playedFrom, played}
-use Rattle.play.specs.Exactly as laws
-use Rattle.play.specs.Exactly.{CanStop, CostPassed, RecordRefused}
-use Rattle.play.specs.Exactly.{ComesTo, begins, goes-further, atLast, leftAtLast, StoppedFor, the-table, a-record, the-clock}
-use Rattle.play.specs.Exactly.{no-gap, too-late, no-row-number, no-such-row, no-cost, cost-out-of-range, release-refused}
+use Rattle.play.specs.StoppingLaws.{StoppedBy, StoppedMeans, WholeMeans}
+use Rattle.play.specs.Refusals.{CanStop, CostPassed, RecordRefused}
+use Rattle.play.specs.Refusals.{ComesTo, begins, goes-further, atLast, leftAtLast, StoppedFor, the-table, a-record, the-clock}
+use Rattle.play.specs.Refusals.{no-gap, too-late, no-row-number, no-such-row, no-cost, cost-out-of-range, release-refused}
 use Rattle.play.proofs.Refusing.{said-refused, same-refusal, record-stops, record-goes-on}
 
 -- ---- what a play is stopped for
 
--- A record that passes its tests ends further on, in the script.
+-- A record that passes its tests ends after its start, and within the script.
 passed-forward : (s : List ℕ) (at : ℕ) (p : Progress) (gap row cost : Number) → Bytes s → at < length s → CostPassed s at p gap row cost
     → (at < cost .next) × (cost .next ≤ length s)
 passed-forward s at p gap row cost bytes inside passed =
@@ -68,7 +68,7 @@ passed-forward s at p gap row cost bytes inside passed =
     let spelled = record-is-spelled s at found bytes there in
     (spelled .forward, spelled .within)
 
--- So does every record that the play goes on after.
+-- A record that the play goes on after ends after its start, and within the script.
 goes-forward : (s : List ℕ) (at : ℕ) (p q : Progress) (next : ℕ) → Bytes s → at < length s → stepped p (numbersAt s at) ≡ goes-on q next
     → (at < next) × (next ≤ length s)
 goes-forward s at p q next bytes inside e =
@@ -76,26 +76,26 @@ goes-forward s at p q next bytes inside e =
     let forward = passed-forward s at p (w .gap) (w .row) (w .cost) bytes inside (w .passed) in
     rw (w .right-after) forward
 
--- The rest of a play from a place that it comes to, with as many records left to come as there may be.
+-- A play that has come to a place: what is left of it is the play from that place on, with `left` as a number of records that is enough.
 record Rest (t s : List ℕ) (at : ℕ) (p : Progress) : Type 0 where
   left : ℕ
   inside : at ≤ length s
   enough : length s ≤ at + left
   is-played : played t s ≡ playedFrom left s at p
 
--- Before the script's end the rest is one record, and what comes after it.
+-- Before the script's end, the rest of a play is one record and what comes after it.
 one-record : (n : ℕ) (s : List ℕ) (at : ℕ) (p : Progress) → at ≢ length s
     → playedFrom (suc n) s at p ≡ andThen (stepped p (numbersAt s at)) λ q next. playedFrom n s next q
 unfolding playedFrom
 one-record n s at p more = rw (ne-eqb at (length s) more)
 
--- At the script's end the rest is the final ticks.
+-- At the script's end, the rest of a play is the final ticks.
 no-record : (n : ℕ) (s : List ℕ) (p : Progress) → playedFrom n s (length s) p ≡ finalTicks (length s) p
 unfolding playedFrom
 no-record zero s p = refl
 no-record (suc n) s p = rw (eq-eqb (length s) (length s) refl)
 
--- After a record that the play goes on after, there is a rest too.
+-- A play that goes on after a record has come to the place after that record.
 rest-after : (t s : List ℕ) (at : ℕ) (p q : Progress) (next : ℕ) → Bytes s → Rest t s at p → at ≢ length s → stepped p (numbersAt s at) ≡ goes-on q next
     → Rest t s next q
 rest-after t s at p q next bytes rest more e = by-left (rest .left) (rest .enough) (rest .is-played)
@@ -112,7 +112,7 @@ comes-to t s at p bytes (begins period e) = record { left = length s; inside = o
 comes-to t s at p bytes (goes-further {at = from} {p = before} c more q next e) =
     rest-after t s from before q next bytes (comes-to t s from before bytes c) more e
 
--- A record that stops the play settles how it ends.
+-- Where a record stops the play, the whole play is stopped by that refusal.
 record-stops-it : (t s : List ℕ) (at : ℕ) (p : Progress) (r : RefusedAt) → Rest t s at p → at ≢ length s → stepped p (numbersAt s at) ≡ stops r
     → played t s ≡ stopped r
 record-stops-it t s at p r rest more e = by-left (rest .left) (rest .enough) (rest .is-played)
@@ -121,7 +121,7 @@ record-stops-it t s at p r rest more e = by-left (rest .left) (rest .enough) (re
     by-left zero enough is = absurd (more (omega (arith, rest .inside)))
     by-left (suc n) enough is = is ∙ one-record n s at p more ∙ rw e
 
--- In the final ticks the clock stops the play with a job still pending, or nothing is left.
+-- In the final ticks the clock stops the play where a job is still pending. Otherwise the play comes to its end.
 clock-stops-it : (end : ℕ) (p : Progress) → 1 ≤ leftAtLast p → finalTicks end p ≡ stopped (record { refusal = TimeTooLate; place = end })
 unfolding finalTicks
 clock-stops-it end p some = rw (ne-eqb (leftAtLast p) 0 (λ none. omega arith))
@@ -142,7 +142,7 @@ stopped-for t s r bytes (a-record at p c more refused) =
 stopped-for t s r bytes (the-clock p c some ten place) =
     at-the-end t s p bytes c ∙ clock-stops-it (length s) p some ∙ ap stopped (same-refusal _ r (sym ten) (sym place))
 
--- There is no other way for a play to end.
+-- A play ends only in these ways: it comes to its end after the final ticks, or it is stopped for one of the three reasons.
 module _ (t s : List ℕ) (bytes : Bytes s) where
   abbrev EndsSo : Played → Type 0
   EndsSo (whole q) = (p : Progress) × ComesTo t s (length s) p × (leftAtLast p ≡ 0) × (q ≡ atLast p)
@@ -179,10 +179,10 @@ module _ (t s : List ℕ) (bytes : Bytes s) where
           rw e (script-ends (length s) 0 (begun (freshRun (tableRead t .table))) (begins period (ap tableSays e)) (omega arith) (omega arith))
       by-start (answer.Refused r) e = rw e (the-table (ap tableSays e))
 
-pub stopped-means : laws.StoppedMeans
+pub stopped-means : StoppedMeans
 stopped-means t s r bytes = (λ e. subst (EndsSo t s bytes) e (play-ends t s bytes), stopped-for t s r bytes)
 
-pub whole-means : laws.WholeMeans
+pub whole-means : WholeMeans
 whole-means t s q bytes = (
   λ e. subst (EndsSo t s bytes) e (play-ends t s bytes),
   λ w. at-the-end t s (w .0) bytes (w .1) ∙ none-left (length s) (w .0) (w .2) ∙ ap whole (sym (w .3)),
@@ -190,7 +190,7 @@ whole-means t s q bytes = (
 
 -- ---- the refusals that stop a play
 
--- Each answer that may be a refusal: if it is, it can stop a play.
+-- An answer is no refusal, or it is one that can stop a play.
 abbrev DueStops : Due → Type 0
 DueStops (due.At t) = Unit {0}
 DueStops (due.Refused r) = CanStop r
@@ -199,7 +199,7 @@ abbrev ReleaseStops : Released → Type 0
 ReleaseStops (release.Accepted a) = Unit {0}
 ReleaseStops (release.Refused r) = CanStop r
 
--- A due time that is refused can stop a play.
+-- The refusals of a due time are among those that can stop a play.
 due-stops : (k : Kept) (r : Row) (t cost : ℕ) → DueStops (dueOf k r t cost)
 unfolding dueOf
 due-stops k r t cost = by-test (rowInRange r)
@@ -221,16 +221,16 @@ release-stops run row cost sound = rw sound (by-cost _ (cost-tested (costLimits 
         (λ room. rw room (by-due (dueOf (keptOf run row) (rowAt (run .table) row) (run .clock .0) cost) (due-stops _ _ _ _)))
         (λ full. rw full (inl (omega arith)))
 
--- The runs of a play are sound: ticks and releases keep them so.
-comes-sound : (t s : List ℕ) (at : ℕ) (p : Progress) → Bytes t → ComesTo t s at p → Good (p .since .run)
+-- The run of a play is sound at every place that the play comes to.
+comes-sound : (t s : List ℕ) (at : ℕ) (p : Progress) → Bytes t → ComesTo t s at p → Good (p .so-far .run)
 comes-sound t s at p table (begins period e) = started-is-sound t table
 comes-sound t s at p table (goes-further {at = from} {p = before} c more q next e) =
     let w = record-goes-on s from before q next .0 e in
-    let sound = ticks-keep-good (w .gap .value) (before .since) (comes-sound t s from before table c) in
-    rw (w .run-then) (release-keeps-sound (ticks (w .gap .value) (before .since) .run) (w .row .value) (w .cost .value) (sound .1) (sound .0))
+    let sound = ticks-keep-good (w .gap .value) (before .so-far) (comes-sound t s from before table c) in
+    rw (w .run-then) (release-keeps-sound (ticks (w .gap .value) (before .so-far) .run) (w .row .value) (w .cost .value) (sound .1) (sound .0))
 
--- So it is with every record.
-record-can-stop : (s : List ℕ) (at : ℕ) (p : Progress) {n place : ℕ} → Good (p .since .run) → RecordRefused s at p n place → (n ≤ 10) ⊎ (n ≡ 14)
+-- The refusals of a record are among those that can stop a play.
+record-can-stop : (s : List ℕ) (at : ℕ) (p : Progress) {n place : ℕ} → Good (p .so-far .run) → RecordRefused s at p n place → (n ≤ 10) ⊎ (n ≡ 14)
 record-can-stop s at p good (no-gap none) = inr refl
 record-can-stop s at p good (too-late gap e late) = inl (omega arith)
 record-can-stop s at p good (no-row-number gap g none) = inr refl
@@ -238,9 +238,9 @@ record-can-stop s at p good (no-such-row gap row g e unused) = inl (omega arith)
 record-can-stop s at p good (no-cost gap row q none) = inr refl
 record-can-stop s at p good (cost-out-of-range gap row cost q e out) = inl (omega arith)
 record-can-stop s at p good (release-refused gap row cost q number e) =
-    let run = ticks (gap .value) (p .since) .run in
+    let run = ticks (gap .value) (p .so-far) .run in
     let r = said-refused (released run (row .value) (cost .value) .answer) e in
-    let stops-it : CanStop (r .0) = subst ReleaseStops (r .1) (release-stops run (row .value) (cost .value) (ticks-keep-good (gap .value) (p .since) good .0)) in
+    let stops-it : CanStop (r .0) = subst ReleaseStops (r .1) (release-stops run (row .value) (cost .value) (ticks-keep-good (gap .value) (p .so-far) good .0)) in
     rw (r .2) at stops-it
 
 stops-so : (t s : List ℕ) (r : RefusedAt) → Bytes t → StoppedFor t s r → CanStop (r .refusal)
@@ -249,5 +249,5 @@ stops-so t s r table (the-table e) =
 stops-so t s r table (a-record at p c more refused) = record-can-stop s at p (comes-sound t s at p table c) refused
 stops-so t s r table (the-clock p c some ten place) = inl (omega arith)
 
-pub stopped-by : laws.StoppedBy
+pub stopped-by : StoppedBy
 stopped-by t s r table script e = stops-so t s r table (stopped-means t s r script .0 e)

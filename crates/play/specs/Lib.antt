@@ -1,4 +1,6 @@
 pub mod Play
 pub mod Late
-pub mod Laws
-pub mod Exactly
+pub mod LogRecords
+pub mod PlayLaws
+pub mod Refusals
+pub mod StoppingLaws

@@ -1,9 +1,9 @@
--- What the number writer says, in one number. (docs/RULES.md, 2.12 and 2.13.)
+-- What the probe's call of the number writer returns. (docs/RULES.md, 2.12 and 2.13.)
 use Prim.Native.Nat.{ℕ}
 use mathlib.Core.List.{[], _∷_}
 use Rattle.kinds.specs.Numbering.{Says, numbered, values}
 
--- The spelling's length, which is the one value that is said, or the refusal's number.
+-- What the number writer says, in one number: the spelling's length, which is its only value, or the refusal's number. (2.12, 2.13)
 abbrev pub inOneNumber : Says → ℕ
 inOneNumber (values []) = 0
 inOneNumber (values (length ∷ more)) = length

@@ -1,4 +1,5 @@
-// The probe: three calls by which an independent program compares what the host's two calls don't reach. Numbers are lent in eight bytes each, lowest first.
+// The probe, which is for comparisons only: three calls by which another program can compare what the host's two calls don't reach. They are the number writer,
+// the chooser and a trace of calls on a run. Numbers are lent as words of eight bytes, lowest byte first.
 use jobs::Finished;
 use kinds::Refusal;
 use kinds::RowNumber;
@@ -24,27 +25,27 @@ ghost use Rattle.run.specs.Answers.{startSays, releaseSays, tickSays};
 ghost use Rattle.probe.specs.Words.{mostWords, wordsBytes};
 ghost use Rattle.probe.specs.Written.{inOneNumber};
 ghost use Rattle.probe.specs.Chosen.{copied, chosenAnswered};
-ghost use Rattle.probe.specs.Traced.{wordOr0, callOf, startWords, releaseWords, tickWords, played, answersShown, traceWords, answersAfter};
+ghost use Rattle.probe.specs.Traced.{wordOr0, callOf, startWords, releaseWords, tickWords, afterCall, answersShown, traceWords, answersAfter};
 
-// The length of the chooser's answer buffer: two words.
+// The length of the chooser's answer buffer in bytes: two words.
 const CHOICE: usize = 2 * WORD;
 
 // What the chooser returns where nothing is refused.
 const A_RECORD: u32 = 1;
 
-// How many bytes a call of a trace has, three words, ..
+// The length of one call of a trace in bytes: three words.
 const CALL: usize = 3 * WORD;
 
-// .. and how many its answer has, four words.
+// The length of one answer of a trace in bytes: four words.
 const ANSWER: usize = 4 * WORD;
 
-// The first word of a call that is a release.
+// The first word of a call that is a release. A call with any other first word is a tick.
 const RELEASE: u64 = 1;
 
-// The most answers of a trace: their count is returned in four bytes.
+// The most answers that a trace writes: their number is returned in four bytes.
 const MOST: usize = 0xFFFF_FFFF;
 
-// Writes some words one after another, from a place on.
+// Writes the first `count` words into a buffer, one after another, from a place on.
 fn put_words(buffer: &mut [u8], at: usize, words: [u64; 4], count: usize)
     requires { ⌜ (count ≤ mostWords) × (at + wordLength * count ≤ length (now buffer)) ⌝ }
     ensures { λ r. ⌜ now (buffer .exit) ≡ sets (now (buffer .entry)) at (wordsBytes (take count words)) ⌝ }
@@ -59,7 +60,7 @@ fn put_words(buffer: &mut [u8], at: usize, words: [u64; 4], count: usize)
 
 // ---- the number writer
 
-// Writes a number at the start of the buffer: the spelling's length, 1 to 6, or the refusal's number.
+// Writes a number's spelling at the start of the buffer. It returns the spelling's length, 1 to 6, or the refusal's number, 12 or 25. (2.12, 2.13)
 #[no_mangle]
 pub extern "C" fn write_number(number: u64, buffer: &mut [u8]) -> u32
     ensures { λ r. ⌜ (r ≡ inOneNumber (writtenSays (written number (length (now (buffer .entry))))))
@@ -73,7 +74,7 @@ pub extern "C" fn write_number(number: u64, buffer: &mut [u8]) -> u32
 
 // ---- the chooser
 
-// Puts bytes at the start of a buffer, as many as fit.
+// Copies bytes to the start of a buffer, as many as fit.
 fn copy(bytes: &[u8], buffer: &mut [u8])
     ensures { λ r. ⌜ now (buffer .exit) ≡ copied (now (bytes .entry)) (now (buffer .entry)) ⌝ }
 {
@@ -89,6 +90,7 @@ fn copy(bytes: &[u8], buffer: &mut [u8])
     }
 }
 
+// The number that says which script it is: 1 for the first and 2 for the second.
 fn which_number(script: Which) -> u64
     ensures { λ r. ⌜ r ≡ whichNumber script ⌝ }
 {
@@ -98,8 +100,10 @@ fn which_number(script: Which) -> u64
     }
 }
 
-// Which of two scripts comes next: 1, with the record's bytes at the start of `part` (as many as fit), and its length and which script, 1 or 2, in the answer
-// buffer (0 and 0 where both have ended); or the refusal's number, with its place and which script. 13 first, where the answer buffer is not 16 bytes long.
+// The record that comes next of two scripts. The call returns 1, copies the record's bytes to the start of `part`, as many as fit, and writes the record's
+// length and its script, 1 or 2, into the answer buffer. Where both scripts have ended, it returns 1 and writes 0 and 0. Where the chooser refuses, it returns
+// the refusal's number and writes its place and which script it is. Before all that, an answer buffer that is not 16 bytes long is refused with 13. (7.8 to
+// 7.12)
 #[no_mangle]
 pub extern "C" fn choose<'a>(
     first: &'a [u8],
@@ -113,7 +117,7 @@ pub extern "C" fn choose<'a>(
         ≡ chosenAnswered (now (first .entry)) (now (second .entry)) «first_time» «second_time» (now (part .entry)) (now (answer .entry)) ⌝ }
 {
     if answer.len() != CHOICE {
-        return Refusal::AnswerSize.number();
+        return Refusal::AnswerNot16Bytes.number();
     }
     let one = Tick(first_time);
     let other = Tick(second_time);
@@ -140,13 +144,13 @@ pub extern "C" fn choose<'a>(
 
 // ---- a trace
 
-// A run after a call, and the call's answer in four words.
+// The run after a call, and the call's answer in four words.
 struct Played {
     run: Run,
     answer: [u64; 4],
 }
 
-// The word at a place of bytes; 0 where it is cut off.
+// The word at a place, or 0 where it is cut off.
 fn word_at(bytes: &[u8], at: usize) -> u64
     ensures { λ r. ⌜ r ≡ wordOr0 (now (bytes .entry)) at ⌝ }
 {
@@ -156,6 +160,7 @@ fn word_at(bytes: &[u8], at: usize) -> u64
     }
 }
 
+// The words of a start's answer: 1 where the run is ready, or 6 with the refusal's number and place. (6.4)
 fn start_words(answer: StartAnswer) -> [u64; 4]
     ensures { λ r. ⌜ r ≡ startWords (startSays answer) ⌝ }
 {
@@ -168,6 +173,7 @@ fn start_words(answer: StartAnswer) -> [u64; 4]
     }
 }
 
+// The words of a release's answer: 2 with the job's serial and due time, or 6 with the refusal's number. (6.6, 6.8)
 fn release_words(answer: Released) -> [u64; 4]
     ensures { λ r. ⌜ r ≡ releaseWords (releaseSays answer) ⌝ }
 {
@@ -177,6 +183,8 @@ fn release_words(answer: Released) -> [u64; 4]
     }
 }
 
+// The words of a tick's answer, with the late count as the last: 3 for idle, 4 with the serial for a unit that did not finish its job, 5 with the serial for
+// one that did, or 6 with the refusal's number. (6.12, 6.14, 6.16)
 fn tick_words(answer: Ticked, late: u64) -> [u64; 4]
     ensures { λ r. ⌜ r ≡ tickWords (tickSays answer) late ⌝ }
 {
@@ -193,9 +201,9 @@ fn tick_words(answer: Ticked, late: u64) -> [u64; 4]
     }
 }
 
-// Plays the call that three words say: a release of a row at a cost, or a tick.
+// Plays the call that three words say: a release of a row with a cost, or a tick.
 fn play(run: Run, kind: u64, row: u64, cost: u64) -> Played
-    ensures { λ r. ⌜ r ≡ played run (callOf kind row cost) ⌝ }
+    ensures { λ r. ⌜ r ≡ afterCall run (callOf kind row cost) ⌝ }
 {
     if kind == RELEASE {
         let step = run.release(RowNumber(row), cost);
@@ -215,7 +223,8 @@ fn play(run: Run, kind: u64, row: u64, cost: u64) -> Played
     }
 }
 
-// How many answers are written: one for the start and one for each whole call, as many as have room, and no more than can be said.
+// How many answers are written: one for the start and one for each whole call, but no more than there is room for, and at most `MOST`. `calls` and `room` are
+// the lengths of the two buffers in bytes.
 fn answers_shown(calls: usize, room: usize) -> usize
     ensures { λ r. ⌜ r ≡ answersShown calls room ⌝ }
 {
@@ -225,8 +234,8 @@ fn answers_shown(calls: usize, room: usize) -> usize
     if MOST < shown { MOST } else { shown }
 }
 
-// Plays calls on a run that is started on a table, and writes every answer: first that of the start, then one for each call, four words each. Returns how many
-// answers were written. A call is three words: 1, row and cost for a release; any other first word is a tick.
+// Plays calls on a run that is started on a table. It writes the answer of the start and then the answer of each call, in four words each, and returns how many
+// answers were written. A call is three words: 1, the row number and the cost for a release. Any other first word is a tick.
 #[no_mangle]
 pub extern "C" fn trace(table: &[u8], calls: &[u8], answers: &mut [u8]) -> u32
     ensures { λ r. ⌜ (r ≡ answersShown (length (now (calls .entry))) (length (now (answers .entry))))

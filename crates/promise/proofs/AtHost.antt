@@ -1,6 +1,5 @@
--- At the host is proved. A replay makes the run's own calls, so the bridge holds all through it; on a feasible table every accepted job that is due has had its
--- cost. So no tick counts a late job, and at the last time, when every job is due, nothing is pending: the final ticks come to their end.
--- (docs/RULES.md, sections 8 and 9.)
+-- At the host: the proof. A replay makes the run's own calls, so the bridge holds all through it. On a feasible table every accepted job that is due has had
+-- its cost. So no tick counts a late job. At 2^40 every job is due, so nothing is pending then, and the final ticks come to their end. (8.3, 8.7, 8.14)
 use Prim.Native.Nat.{ℕ, zero, suc, _+_, _-_, _≤_, _<_}
 use mathlib.Core.Path.{_≡_, refl, sym, subst, _∙_}
 use mathlib.Core.Bool.{Bool, true, false, cond}
@@ -15,7 +14,7 @@ use Rattle.kinds.specs.declared.RefusedAt.{RefusedAt}
 use Rattle.kinds.specs.Numbering.{maxTime, refusalNumber}
 use Rattle.kinds.proofs.Numbering.{no-answer}
 use Rattle.numbers.specs.declared.Number.{Number}
-use Rattle.numbers.specs.Laws.{Bytes}
+use Rattle.numbers.specs.SpelledNumbers.{Bytes}
 use Rattle.theory.specs.Curves.{EveryLengthFits}
 use Rattle.theory.proofs.Cases.{by-lt, by-eq, by-test}
 use Rattle.theory.proofs.Lists.{all-of-members, none-passes}
@@ -31,7 +30,7 @@ use Rattle.verdict.specs.declared.Verdict.{Verdict}
 use Rattle.verdict.specs.Demand.{tableDemand}
 use Rattle.verdict.specs.Verdict.{RightOfRead, verdictSays}
 use Rattle.jobs.specs.Places.{noJob, jobsOf}
-use Rattle.jobs.proofs.Laws.{job-among-the-rest}
+use Rattle.jobs.proofs.Changes.{job-among-the-rest}
 use Rattle.run.specs.declared.Run.{Run}
 use Rattle.run.specs.declared.Released.{Released}
 use Rattle.run.specs.declared.Released.the-variants as release
@@ -40,12 +39,12 @@ use Rattle.run.specs.Runs.{startAnswer, started}
 use Rattle.run.specs.Release.{released}
 use Rattle.run.specs.Ticking.{ticked}
 use Rattle.run.specs.Answers.{tickSays}
-use Rattle.run.specs.Advance.{Since, oneMore, ticksWhilePending}
+use Rattle.run.specs.ManyTicks.{SoFar, oneMore, ticksWhilePending}
 use Rattle.run.proofs.Ticking.{Good, facts, counted, tick-keeps-good}
 use Rattle.script.specs.Records.{scriptNumber}
 use Rattle.script.proofs.Records.{number-or-14}
-use Rattle.script.proofs.Laws.{record-is-spelled}
-use Rattle.log.specs.Laws.{spelledLog}
+use Rattle.script.proofs.Scripts.{record-is-spelled}
+use Rattle.log.specs.SpelledLogs.{spelledLog}
 use Rattle.records.specs.declared.Ready.{Ready}
 use Rattle.records.specs.declared.Tested.{Tested}
 use Rattle.records.specs.declared.Tested.the-variants as tested
@@ -53,21 +52,21 @@ use Rattle.records.specs.Numbers.{numbersAt, refusedAt, onNumber, onRow, onCost
 use Rattle.play.specs.Play.{Progress, begun, Step, goes-on, stops, afterRelease, tickedTo, afterTests, stepped}
 use Rattle.play.specs.Play.{Played, whole, stopped, finalTicks, andThen, playedFrom, played}
 use Rattle.play.specs.Late.{lateFinishes}
-use Rattle.replay.specs.Outcome.{answerOf, replayOf, replaySays}
+use Rattle.replay.specs.Outcome.{replayOutcome, replayOf, replaySays}
 use Rattle.play.proofs.SingleTicks.{tick-clock, along-draining}
-use Rattle.records.proofs.Passing.{passed-is-read}
-use Rattle.play.proofs.Through.{Keeps, went-on, step-keeps}
-use Rattle.play.proofs.Laws.{late-is-the-sum}
+use Rattle.records.proofs.ReadRecords.{passed-is-read}
+use Rattle.play.proofs.KeptThroughout.{Keeps, went-on, step-keeps}
+use Rattle.play.proofs.WholePlays.{late-is-the-sum}
 use Rattle.host.specs.Answer.{VerdictAnswered, answerLength}
 use Rattle.host.specs.Answer as host
 use Rattle.host.proofs.Answering.{replay-of-another-size, replay-of-sixteen}
-use Rattle.promise.specs.Traces.{Call, Event, eventOf, clockOf, jobsIn, unitsOf}
+use Rattle.promise.specs.Traces.{Call, Event, eventOf, clockOf, jobsOfTrace, unitsOf}
 use Rattle.promise.specs.Choice.{lateAt}
 use Rattle.promise.specs.InTime.{SaidFeasible}
 use Rattle.promise.specs.AtHost.{NotLate, AtHost, AtHostCalls}
 use Rattle.promise.specs.Link.{jobOf}
-use Rattle.promise.proofs.Bridge.{Bridge}
-use Rattle.promise.proofs.BridgeHolds.{bridge-of-started, release-keeps-bridge, tick-keeps-bridge}
+use Rattle.promise.proofs.RunAndTrace.{Bridge}
+use Rattle.promise.proofs.RunsFollow.{bridge-of-started, release-keeps-bridge, tick-keeps-bridge}
 use Rattle.promise.proofs.Units.{sound-facts, pending-is-owed}
 use Rattle.promise.proofs.Ticks.{no-job-by-a-tick}
 use Rattle.promise.proofs.InTime.{feasible-fits, due-had-its-cost}
@@ -76,21 +75,21 @@ use Rattle.promise.proofs.Choice.{late-of-the-trace}
 -- ---- at one point
 
 module _ {t : Table} (fits : EveryLengthFits (tableDemand t)) {run : Run} {es : List Event} (b : Bridge t run es) where
-  -- After a tick every accepted job that is due then has had its cost; so the tick counts none as late.
+  -- After a tick every accepted job that is due at the new clock has had its cost, so the tick counts no job as late.
   tick-counts-none : run .clock .0 < maxTime → ticked run .late ≡ 0
   tick-counts-none in-time =
       let next = tick-keeps-bridge b in
       let after = eventOf run Call.tick ∷ es in
       let now : clockOf after ≡ clockOf es + 1 = omega (arith, next .same-clock, tick-clock run (b .sound, b .whole) in-time, b .same-clock) in
       late-of-the-trace b next
-      ∙ none-passes (lateAt (clockOf es + 1) after) (λ _. 1) (jobsIn es)
-      (all-of-members (jobsIn es) (λ j m. by-eq (j .due) (clockOf es + 1)
+      ∙ none-passes (lateAt (clockOf es + 1) after) (λ _. 1) (jobsOfTrace es)
+      (all-of-members (jobsOfTrace es) (λ j m. by-eq (j .due) (clockOf es + 1)
       (λ e.
       let had = due-had-its-cost next fits j (rw (no-job-by-a-tick (tickSays (ticked run .answer)) (ticked run .late) es) m) (omega arith) in
       rw (eq-eqb (j .due) (clockOf es + 1) e, le-ltb (unitsOf (j .name) after) (j .cost) (omega arith)))
       (λ e. rw (ne-eqb (j .due) (clockOf es + 1) e))))
 
-  -- At the last time every job is due: nothing is pending.
+  -- At 2^40 every job is due, so nothing is pending.
   nothing-at-the-last : maxTime ≤ run .clock .0 → run .pending .count ≡ 0
   nothing-at-the-last last = by-lt 0 (run .pending .count)
       (λ some.
@@ -104,22 +103,22 @@ module _ {t : Table} (fits : EveryLengthFits (tableDemand t)) {run : Run} {es : 
 
 -- ---- all through a replay
 
--- No job was late so far: the bridge holds, and no tick counted a late job.
-record NoneLate (t : Table) (s : Since) : Type 0 where
+-- At this point of a replay no job has been late: the bridge holds, and no tick counted a late job.
+record NoneLate (t : Table) (s : SoFar) : Type 0 where
   events : List Event
   bridge : Bridge t (s .run) events
   none-late : s .late ≡ 0
 
--- The run is sound then.
-still-sound : {t : Table} {s : Since} → NoneLate t s → Good (s .run)
+-- A replay in which no job has been late has a sound run.
+still-sound : {t : Table} {s : SoFar} → NoneLate t s → Good (s .run)
 still-sound n = (n .bridge .sound, n .bridge .whole)
 
--- No job was late at the start.
-at-the-start : (bytes : List ℕ) → Bytes bytes → NoneLate (tableRead bytes .table) (begun (started bytes .run) .since)
+-- No job has been late at the start of a replay.
+at-the-start : (bytes : List ℕ) → Bytes bytes → NoneLate (tableRead bytes .table) (begun (started bytes .run) .so-far)
 at-the-start bytes fine = record { events = []; bridge = bridge-of-started bytes fine; none-late = refl }
 
--- Ticks while a job is pending that leave one pending were as many as there may be.
-none-left-out : (n : ℕ) (s : Since) → Good (s .run) → s .run .clock .0 + n ≤ maxTime → 1 ≤ ticksWhilePending n s .run .pending .count
+-- Where at most n ticks while a job is pending still leave a job pending, all n ticks went by.
+none-left-out : (n : ℕ) (s : SoFar) → Good (s .run) → s .run .clock .0 + n ≤ maxTime → 1 ≤ ticksWhilePending n s .run .pending .count
     → ticksWhilePending n s .run .clock .0 ≡ s .run .clock .0 + n
 unfolding ticksWhilePending
 none-left-out zero s good room = λ some. omega arith
@@ -129,77 +128,77 @@ none-left-out (suc n) s good room = by-test (eqb (s .run .pending .count) 0)
     let one = tick-clock (s .run) good (omega arith) in
     omega (arith, none-left-out n (oneMore s) (tick-keeps-good (s .run) good) (omega arith) some)))
 
--- If this is a 10, its place is before the end.
+-- A refusal that is a 10 has its place inside the script.
 abbrev Inside : (end : ℕ) → RefusedAt → Type 0
 Inside end r = refusalNumber (r .refusal) ≡ 10 → r .place < end
 
--- How a replay is to end: with no job late, or stopped, by a 10 only inside the script.
+-- A replay ends in time where it ends with no job late, or is stopped by a refusal that is no 10 outside the script.
 abbrev EndsInTime : (end : ℕ) → Played → Type 0
-EndsInTime end (whole p) = p .since .late ≡ 0
+EndsInTime end (whole p) = p .so-far .late ≡ 0
 EndsInTime end (stopped r) = Inside end r
 
 module _ {t : Table} (fits : EveryLengthFits (tableDemand t)) where
-  -- A tick keeps it, as it counts no late job.
-  tick-keeps : (s : Since) → Good (s .run) → s .run .clock .0 < maxTime → NoneLate t s → NoneLate t (oneMore s)
+  -- A tick keeps that no job has been late, since it counts no late job.
+  tick-keeps : (s : SoFar) → Good (s .run) → s .run .clock .0 < maxTime → NoneLate t s → NoneLate t (oneMore s)
   tick-keeps s good in-time n =
       record { events = _; bridge = tick-keeps-bridge (n .bridge); none-late = omega (arith, n .none-late, tick-counts-none fits (n .bridge) in-time) }
 
-  -- An accepted release keeps it too.
-  calls-keep : Keeps (λ p. NoneLate t (p .since))
+  -- A tick and an accepted release both keep that no job has been late.
+  calls-keep : Keeps (λ p. NoneLate t (p .so-far))
   calls-keep = record {
-    tick = λ p. tick-keeps (p .since);
+    tick = λ p. tick-keeps (p .so-far);
     release = λ p row cost a good e n. record { events = _; bridge = release-keeps-bridge (n .bridge) row cost; none-late = n .none-late };
   }
 
-  -- The final ticks come to their end: were a job pending still, the clock would be at the last time.
-  final-in-time : (end : ℕ) (p : Progress) → NoneLate t (p .since) → EndsInTime end (finalTicks end p)
+  -- The final ticks come to their end. If a job were pending still, the clock would be at 2^40, where nothing is pending.
+  final-in-time : (end : ℕ) (p : Progress) → NoneLate t (p .so-far) → EndsInTime end (finalTicks end p)
   unfolding finalTicks
   final-in-time end p n =
       let good = still-sound n in
-      let many = maxTime - p .since .run .clock .0 in
-      let room : p .since .run .clock .0 + many ≤ maxTime = omega (arith, facts (p .since .run) good .clock-in-time) in
-      let last = ticksWhilePending many (p .since) in
-      let kept = along-draining (NoneLate t) tick-keeps many (p .since) good room n in
+      let many = maxTime - p .so-far .run .clock .0 in
+      let room : p .so-far .run .clock .0 + many ≤ maxTime = omega (arith, facts (p .so-far .run) good .clock-in-time) in
+      let last = ticksWhilePending many (p .so-far) in
+      let kept = along-draining (NoneLate t) tick-keeps many (p .so-far) good room n in
       let nothing : last .run .pending .count ≡ 0 = by-lt 0 (last .run .pending .count)
-      (λ some. nothing-at-the-last fits (kept .bridge) (omega (arith, none-left-out many (p .since) good room some)))
+      (λ some. nothing-at-the-last fits (kept .bridge) (omega (arith, none-left-out many (p .so-far) good room some)))
       (λ none. omega arith) in
       rw (eq-eqb (last .run .pending .count) 0 nothing) (kept .none-late)
 
 -- ---- where a record stops a replay
 
--- What the tests of a record say: ready, or a refusal that is a 10 only before the end.
+-- The tests of a record answer ready, or a refusal that is no 10 outside the script.
 data TestedInside (end : ℕ) : Tested → Type 0 where
   ready : (r : Ready) → TestedInside end (tested.Ready r)
   refused : (r : Refusal) (place : ℕ) → (refusalNumber r ≡ 10 → place < end) → TestedInside end (refusedAt r place)
 
--- What the record comes to: it goes on, or a 10 stops it only before the end.
+-- A record goes on, or stops the replay with a refusal that is no 10 outside the script.
 abbrev StepInside : (end : ℕ) → Step → Type 0
 StepInside end (goes-on p next) = Unit {0}
 StepInside end (stops r) = Inside end r
 
 module _ {end : ℕ} where
-  -- A number of a script that can't be read is no 10.
+  -- A number of a script that can't be read is refused with 14 and not with 10.
   number-inside : (s : List ℕ) (at : ℕ) (k : Number → Tested) → ((n : Number) → TestedInside end (k n)) → TestedInside end (onNumber (scriptNumber s at) k)
   number-inside s at k h = number-or-14 (λ v. TestedInside end (onNumber v k)) s at h (λ place. refused ScriptMisspelled place (λ e. absurd (omega arith)))
 
-  -- A row number that is not in use is no 10.
+  -- A row number that is not in use is refused with 6 and not with 10.
   row-inside : (most : CostLimit) (place : ℕ) (then : Tested) → TestedInside end then → TestedInside end (onRow most place then)
   row-inside (limit.Units most) place then h = h
   row-inside limit.NoSuchRow place then h = refused NoSuchRow place (λ e. absurd (omega arith))
 
-  -- A cost that is not allowed is no 10.
+  -- A cost that is 0 or above the row's c is refused with 7 and not with 10.
   cost-inside : (most : CostLimit) (cost place : ℕ) (then : Tested) → TestedInside end then → TestedInside end (onCost (costAnswer most cost) place then)
   cost-inside (limit.Units most) cost place then h =
       by-test (fromOneTo most cost) (λ allowed. rw allowed h) (λ out. rw out (refused CostOutOfRange place (λ e. absurd (omega arith))))
   cost-inside limit.NoSuchRow cost place then h = refused NoSuchRow place (λ e. absurd (omega arith))
 
-  -- A time that is too late is refused at the place that is named.
+  -- A script time above 2^40 is refused at the place that is named, which is inside the script.
   time-inside : (test : Bool) (then : Tested) (place : ℕ) → place < end → TestedInside end then → TestedInside end (cond test then (refusedAt TimeTooLate place))
   time-inside true then place inside h = h
   time-inside false then place inside h = refused TimeTooLate place (λ e. inside)
 
 module _ (s : List ℕ) (at : ℕ) (inside : at < length s) where
-  -- The tests of the record at a place answer 10 at this place only.
+  -- The tests of the record at a place answer 10 at this place only, which is inside the script.
   tests-inside : (t : Table) (time : ℕ) → TestedInside (length s) (testedNumbers t time (numbersAt s at))
   tests-inside t time =
       let n = numbersAt s at in
@@ -210,29 +209,29 @@ module _ (s : List ℕ) (at : ℕ) (inside : at < length s) where
       (number-inside s (n .cost .place) _ λ cost.
       cost-inside (limitOf (costLimits t) (row .value)) (cost .value) (n .cost .place) _ (ready _)))
 
-  -- A release is refused at this place too.
+  -- A release of a replay is refused at the record's start, which is inside the script.
   release-inside : (r : Ready) (p : Progress) (a : Released) → StepInside (length s) (afterRelease at r p a)
   release-inside r p (release.Accepted a) = tt
   release-inside r p (release.Refused refusal) = λ e. inside
 
-  -- (The release comes after the tests.)
+  -- A record that passes its tests stops the replay only by its release.
   after-tests-inside : (p : Progress) {x : Tested} → TestedInside (length s) x → StepInside (length s) (afterTests at p x)
   after-tests-inside p (ready r) =
       let there = tickedTo (r .time .0) p in
-      release-inside r there (released (there .since .run) (r .row .0) (r .cost) .answer)
+      release-inside r there (released (there .so-far .run) (r .row .0) (r .cost) .answer)
   after-tests-inside p (refused r place h) = h
 
-  -- So a record that stops a replay by a 10 does so inside the script.
+  -- A record that stops a replay with a 10 does so inside the script.
   step-inside : (p : Progress) → StepInside (length s) (stepped p (numbersAt s at))
   unfolding stepped
-  step-inside p = after-tests-inside p (tests-inside (p .since .run .table) (p .since .run .clock .0))
+  step-inside p = after-tests-inside p (tests-inside (p .so-far .run .table) (p .so-far .run .clock .0))
 
 -- ---- a whole script
 
 module _ {t : Table} (fits : EveryLengthFits (tableDemand t)) (s : List ℕ) (bytes : Bytes s) where
-  -- After a record the replay goes on at a place of the script, with no job late so far, or is stopped as it may be.
-  after-record : (at : ℕ) (p : Progress) → at < length s → NoneLate t (p .since) → (k : Progress → ℕ → Played)
-      → ((q : Progress) (next : ℕ) → next ≤ length s → NoneLate t (q .since) → EndsInTime (length s) (k q next))
+  -- After a record the replay goes on at a place of the script, with no job late so far, or it is stopped by a refusal that is no 10 outside the script.
+  after-record : (at : ℕ) (p : Progress) → at < length s → NoneLate t (p .so-far) → (k : Progress → ℕ → Played)
+      → ((q : Progress) (next : ℕ) → next ≤ length s → NoneLate t (q .so-far) → EndsInTime (length s) (k q next))
       → EndsInTime (length s) (andThen (stepped p (numbersAt s at)) k)
   after-record at p inside n k further = by-step (stepped p (numbersAt s at)) refl
     where
@@ -240,12 +239,12 @@ module _ {t : Table} (fits : EveryLengthFits (tableDemand t)) (s : List ℕ) (by
       by-step (goes-on q next) e =
           let w = went-on p (numbersAt s at) q next e in
           let spelled = record-is-spelled s at _ bytes (passed-is-read s at inside (w .passed)) in
-          let there = step-keeps (λ o. NoneLate t (o .since)) (calls-keep fits) p (numbersAt s at) q next w (n, still-sound n) in
+          let there = step-keeps (λ o. NoneLate t (o .so-far)) (calls-keep fits) p (numbersAt s at) q next w (n, still-sound n) in
           further q next (rw (w .goes-on-after) (spelled .within)) (there .0)
       by-step (stops r) e = subst (StepInside (length s)) e (step-inside s at inside p)
 
-  -- So from any of its places on the script is played in time.
-  from-in-time : (m at : ℕ) (p : Progress) → at ≤ length s → NoneLate t (p .since) → EndsInTime (length s) (playedFrom m s at p)
+  -- From any place on, the script is played in time.
+  from-in-time : (m at : ℕ) (p : Progress) → at ≤ length s → NoneLate t (p .so-far) → EndsInTime (length s) (playedFrom m s at p)
   unfolding playedFrom
   from-in-time zero at p before n = final-in-time fits (length s) p n
   from-in-time (suc m) at p before n = by-eq at (length s)
@@ -254,25 +253,25 @@ module _ {t : Table} (fits : EveryLengthFits (tableDemand t)) (s : List ℕ) (by
 
 -- ---- the answer
 
--- A run is started on a table that is feasible.
+-- A run is started on every table that is found feasible.
 feasible-starts : (t : Table) (a : TableAnswer) (v : Verdict) → RightOfRead t a v → verdictSays v .number ≡ 20 → startAnswer a ≡ start.Ready
 feasible-starts t (table.Accepted period) v right says = refl
 feasible-starts t (table.Refused r) v right says = let refused-so = rw right at says in absurd (no-answer (r .refusal) (omega arith) (omega arith))
 
 module _ (bytes script : List ℕ) (table : Bytes bytes) (fine : Bytes script) where
-  -- So on a feasible table every script is played in time.
+  -- On a feasible table every script is played in time.
   played-in-time : SaidFeasible bytes → EndsInTime (length script) (played bytes script)
   unfolding played
   played-in-time said =
       rw (feasible-starts (tableRead bytes .table) (tableRead bytes .answer) (said .answer) (said .judged) (said .feasible))
       (from-in-time (feasible-fits bytes said) script fine (length script) 0 (begun (started bytes .run)) (omega arith) (at-the-start bytes table))
 
-  -- What is answered then: jobs late are the sum of the ticks' late counts.
+  -- A replay that ends in time answers neither 23 nor any job late. Its jobs late are the sum of the ticks' late counts.
   says-in-time : (room : ℕ) (p : Played) → played bytes script ≡ p → EndsInTime (length script) p
-      → NotLate (length script) (replaySays (answerOf room (length script) p))
+      → NotLate (length script) (replaySays (replayOutcome room (length script) p))
   says-in-time room (whole p) e none =
-      let none-late : lateFinishes (p .since .finishes) ≡ 0 = late-is-the-sum bytes script p table fine e ∙ none in
-      by-test (leb (length (spelledLog (p .since .finishes))) room)
+      let none-late : lateFinishes (p .so-far .finishes) ≡ 0 = late-is-the-sum bytes script p table fine e ∙ none in
+      by-test (leb (length (spelledLog (p .so-far .finishes))) room)
       (λ fits. rw (fits, none-late) (record { not-23 = λ q. omega arith; none-late = λ q. refl; not-stopped = λ q. absurd (omega arith) }))
       (λ full. rw full (record { not-23 = λ q. omega arith; none-late = λ q. refl; not-stopped = λ q. absurd (omega arith) }))
   says-in-time room (stopped r) e inside =
@@ -285,12 +284,12 @@ at-host bytes script table fine said room =
 
 -- ---- the host's calls
 
--- The verdict's call returns 20 where `judge` says feasible.
+-- Where the call `verdict` returns 20, `judge` says feasible.
 pub call-said-feasible : (table lent written : List ℕ) → VerdictAnswered table lent 20 written → SaidFeasible table
 call-said-feasible table lent written (host.VerdictAnswered.wrong-size l s w) = absurd (omega arith)
 call-said-feasible table lent written (host.VerdictAnswered.said l v j s w) = record { answer = v; judged = j; feasible = sym s }
 
--- So the replay's call is not late: with sixteen bytes it tells what the replay says, and with another size it returns 13.
+-- The call `replay` is not late on a feasible table. With an answer buffer of 16 bytes it answers what the replay says, and with another size it returns 13.
 pub at-host-calls : AtHostCalls
 at-host-calls table script fine fine′ lent written feasible log answer status after left leaves = by-eq (length answer) answerLength
     (λ sixteen.

@@ -1,4 +1,4 @@
--- The cheats are shut out.
+-- The cheats are shut out: the proofs.
 use Prim.Native.Nat.{ℕ, _≤_, _<_}
 use mathlib.Core.Path.{_≡_, refl}
 use mathlib.Core.List.{_∷_, flatten}
@@ -33,7 +33,7 @@ use Rattle.run.specs.Answers.{accepted, idle, releaseSays, tickSays}
 use Rattle.promise.specs.Traces.{Call, runAt}
 use Rattle.promise.specs.Examples.{v1, v8}
 use Rattle.promise.specs.Cheats.{NotAllRefused, NotAllReleasesRefused, NotAlwaysFeasible, NoBlankWitness, NotAlwaysIdle, NotIdleAfterARelease}
-use Rattle.promise.proofs.BridgeHolds.{bridge}
+use Rattle.promise.proofs.RunsFollow.{bridge}
 use Rattle.promise.proofs.Ticks.{each-tick}
 use Rattle.promise.proofs.NoOrder.{says-overloaded}
 use Rattle.promise.proofs.Examples.{v1-is-feasible, v8-is-overloaded}
@@ -46,7 +46,7 @@ not-all-refused v judged = rw (one-verdict v1 v verdict.Feasible judged v1-is-fe
 pub not-always-feasible : NotAlwaysFeasible
 not-always-feasible v judged = rw (one-verdict v8 v (verdict.Overloaded (record { length = 26; demand = 27 })) judged v8-is-overloaded)
 
--- A witness that is right of what was read.
+-- The witness of a right overloaded verdict has a length that fails, and the table's demand in it.
 witness-is-right : (t : Table) (a : TableAnswer) (w : Witness) → RightOfRead t a (verdict.Overloaded w)
     → (1 ≤ w .length) × (w .length < w .demand) × (w .demand ≡ tableDemand t (w .length))
 witness-is-right t (answer.Accepted period) w right = (right .0 .some-length, rw (right .1) (right .0 .fails), right .1)
@@ -70,12 +70,12 @@ unfolding
     reading.spelt spelling.groupsOf flatten
 not-always-idle = refl
 
--- What says accepted was accepted.
+-- An answer that says accepted is an accepted release.
 says-accepted : (r : Released) (serial due : ℕ) → releaseSays r ≡ accepted serial due → (a : Accepted) × (r ≡ release.Accepted a)
 says-accepted (release.Accepted a) serial due said = (a, refl)
 says-accepted (release.Refused r) serial due said = impossible cc
 
--- A tick is idle only where nothing is pending, and after an accepted release something is.
+-- A tick is idle only where nothing is pending, and after an accepted release something is pending.
 pub not-idle-after-a-release : NotIdleAfterARelease
 unfolding runAt
 not-idle-after-a-release bytes ok calls row cost serial due said =

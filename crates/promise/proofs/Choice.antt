@@ -1,6 +1,5 @@
--- Choice is proved. The run chooses among its pending jobs, and these are the unfinished accepted ones; so what the choice says of the pending jobs it says of
--- the trace. The late count is over the jobs that are pending after the tick, and these are the ones that are unfinished then.
--- (docs/RULES.md, sections 6.10 to 6.16.)
+-- Choice: the proof. The run chooses among its pending jobs, and these are the unfinished accepted ones. So what the choice says about the pending jobs it says
+-- about the trace. The late count is over the jobs that are pending after the tick, which are the ones that are unfinished then. (6.10, 6.11, 6.12, 6.14)
 use Prim.Native.Nat.{ℕ, suc, _+_, _≤_, _<_}
 use mathlib.Core.Path.{_≡_, refl, sym, ap, subst, _∙_}
 use mathlib.Core.Logic.{_↔_}
@@ -24,45 +23,45 @@ use Rattle.jobs.specs.Choice.{firstPlace}
 use Rattle.jobs.specs.Units.{ranOf}
 use Rattle.jobs.specs.Late.{isLate, lateCount}
 use Rattle.jobs.specs.Turns.{firstJob}
-use Rattle.jobs.specs.Laws.{NotAfter, IsFirst}
-use Rattle.jobs.proofs.Laws.{choice-is-first, job-among-the-rest, place-holds-job}
+use Rattle.jobs.specs.JobChanges.{NotAfter, IsFirst}
+use Rattle.jobs.proofs.Changes.{choice-is-first, job-among-the-rest, place-holds-job}
 use Rattle.run.specs.declared.Run.{Run}
 use Rattle.run.specs.Ticking.{ticked}
 use Rattle.run.proofs.Ticking.{counted}
 use Rattle.jobs.specs.Answers.{hasFinished}
 use Rattle.run.specs.Answers.{idle, ran, tickSays}
-use Rattle.promise.specs.Traces.{Call, Event, eventOf, runAt, trace, clockOf, jobsIn, unitsOf, unfinished}
+use Rattle.promise.specs.Traces.{Call, Event, eventOf, runAt, trace, clockOf, jobsOfTrace, unitsOf, unfinished}
 use Rattle.promise.specs.Choice.{IdleWhenAllHaveTheirCost, GoesFirst, RanFirst, EarliestDueFirst, lateAt, LateCountIsTheLate}
 use Rattle.promise.specs.Link.{jobOf}
-use Rattle.promise.proofs.Bridge.{Bridge}
-use Rattle.promise.proofs.BridgeHolds.{bridge}
+use Rattle.promise.proofs.RunAndTrace.{Bridge}
+use Rattle.promise.proofs.RunsFollow.{bridge}
 use Rattle.promise.proofs.Units.{total-same, sound-facts, pending-is-owed, pending-is-unfinished, unfinished-is-pending}
 use Rattle.promise.proofs.Units.{finished-had-its-cost, unfinished-weigh-as-pending}
 use Rattle.promise.proofs.Ticks.{no-job-by-a-tick, each-tick}
 
--- What counts under two tests, one after the other, counts where both hold.
+-- A number that counts under two tests, one after the other, counts where both hold.
 counts-if-both : (a b : Bool) (n : ℕ) → cond b (cond a n 0) 0 ≡ cond (a && b) n 0
 counts-if-both true true n = refl
 counts-if-both true false n = refl
 counts-if-both false true n = refl
 counts-if-both false false n = refl
 
--- The late count is a sum over the jobs.
+-- The late count is a sum over the pending jobs.
 late-count-is-total : (time : ℕ) (ps : List PendingJob) → lateCount time ps ≡ total (weightIf (isLate time) (λ _. 1)) ps
 unfolding lateCount total
 late-count-is-total time [] = refl
 late-count-is-total time (p ∷ ps) = omega (arith, late-count-is-total time ps)
 
 module _ {t : Table} {run : Run} {es : List Event} (b : Bridge t run es) where
-  -- The pending jobs.
+  -- `pending` lists the run's pending jobs.
   abbrev pub pending : List PendingJob
   pending = jobsOf (run .pending)
 
-  -- As many jobs are pending as are counted.
+  -- The list of pending jobs is as long as the run's count says.
   many : length pending ≡ run .pending .count
   many = counted run (b .sound, b .whole)
 
-  -- What holds at every place in use holds of every pending job.
+  -- What holds at every place in use holds for every pending job.
   each-pending : (P : PendingJob → Type 0) → ((i : ℕ) → i < length pending → P (getD pending i noJob)) → (p : PendingJob) → List·Memᴰ p pending → P p
   each-pending P f = each-taken P (run .pending .count) (run .pending .places) noJob
       (λ i h.
@@ -71,12 +70,12 @@ module _ {t : Table} {run : Run} {es : List Event} (b : Bridge t run es) where
 
   -- ---- idle
 
-  -- Where none is counted there is none.
+  -- Where the count is 0, no job is pending.
   no-jobs : run .pending .count ≡ 0 → pending ≡ []
   no-jobs = ap (λ n. take n (run .pending .places))
 
   -- Where nothing is pending, every accepted job has had its cost.
-  pub none-pending : run .pending .count ≡ 0 → (j : Job) → List·Memᴰ j (jobsIn es) → unitsOf (j .name) es ≡ j .cost
+  pub none-pending : run .pending .count ≡ 0 → (j : Job) → List·Memᴰ j (jobsOfTrace es) → unitsOf (j .name) es ≡ j .cost
   none-pending none j m = by-test (unfinished es j)
       (λ h. let found = unfinished-is-pending b j m h in absurd (List·Memᴰ·not-nil (subst (λ l. List·Memᴰ (found .place) l) (no-jobs none) (found .pending))))
       (finished-had-its-cost b j m)
@@ -84,27 +83,28 @@ module _ {t : Table} {run : Run} {es : List Event} (b : Bridge t run es) where
   -- ---- the job that goes first
 
   module _ (some : 1 ≤ run .pending .count) where
-    -- The job that goes first stands at its place.
+    -- The job that goes first stands at the first place by the rule of choice.
     place : IsFirst pending (firstPlace pending)
     place = choice-is-first pending (omega (arith, many))
 
-    -- That is its place in the run's array too.
+    -- `first` is the pending job that goes first.
     abbrev pub first : PendingJob
     first = getD pending (firstPlace pending) noJob
 
+    -- The job that the run chooses is `first`.
     pub first-stands : firstJob (run .pending) ≡ first
     first-stands = place-holds-job (run .pending) (firstPlace pending) (place .inside)
 
-    -- It is pending.
+    -- The job that goes first is pending.
     pub first-pending : List·Memᴰ first pending
     first-pending = subst (λ l. List·Memᴰ first l) (sym (job-among-the-rest pending (firstPlace pending) (place .inside)))
         (Memᴰ·append-right (take (firstPlace pending) pending) (List·Memᴰ·head refl))
 
-    -- It comes after no other pending job.
+    -- The job that goes first comes after no other pending job.
     after-none : (p : PendingJob) → List·Memᴰ p pending → NotAfter first p
     after-none = each-pending (NotAfter first) (place .first)
 
-    -- So it goes first of the unfinished accepted jobs.
+    -- The job that goes first in the run goes first among the unfinished accepted jobs.
     first-goes-first : GoesFirst es (jobOf first)
     first-goes-first = record {
       accepted = pending-is-owed b first first-pending .was-accepted;
@@ -118,7 +118,7 @@ module _ {t : Table} {run : Run} {es : List Event} (b : Bridge t run es) where
           (λ e. after-none (found .place) (found .pending) .serial (sym e));
     }
 
-    -- It finishes exactly where this unit makes up its cost.
+    -- The job that goes first finishes exactly where this unit makes up its cost.
     first-finishes : (hasFinished (ranOf first .finished) ≡ true) ↔ (suc (unitsOf (first .serial .0) es) ≡ first .cost)
     first-finishes =
         let owed = pending-is-owed b first first-pending in
@@ -126,19 +126,19 @@ module _ {t : Table} {run : Run} {es : List Event} (b : Bridge t run es) where
         (λ more. rw (lt-leb (first .left) 1 more) (λ e. impossible cc, λ e. absurd (omega arith)))
         (λ last. rw (le-leb (first .left) 1 last) (λ e. omega arith, λ e. refl))
 
-    -- So this is what a tick that runs it says.
+    -- A tick that runs the first job answers as the promise says.
     first-ran : RanFirst es (first .serial .0) (hasFinished (ranOf first .finished))
     first-ran = record { job = jobOf first; its-serial = refl; first = first-goes-first; finishes = first-finishes }
 
   -- ---- the answer of a tick
 
-  -- Idle exactly when every accepted job has had its cost.
+  -- A tick is idle exactly when every accepted job has had its cost.
   pub idle-when-done : clockOf es < maxTime
-      → (tickSays (ticked run .answer) ≡ idle) ↔ ((j : Job) → List·Memᴰ j (jobsIn es) → unitsOf (j .name) es ≡ j .cost)
+      → (tickSays (ticked run .answer) ≡ idle) ↔ ((j : Job) → List·Memᴰ j (jobsOfTrace es) → unitsOf (j .name) es ≡ j .cost)
   idle-when-done in-time =
       let clock = b .same-clock in
       each-tick run (b .sound)
-      (λ step. (tickSays (step .answer) ≡ idle) ↔ ((j : Job) → List·Memᴰ j (jobsIn es) → unitsOf (j .name) es ≡ j .cost))
+      (λ step. (tickSays (step .answer) ≡ idle) ↔ ((j : Job) → List·Memᴰ j (jobsOfTrace es) → unitsOf (j .name) es ≡ j .cost))
       (λ last. absurd (omega arith))
       (λ h none. (λ e. none-pending none, λ done. refl))
       (λ h some. (
@@ -159,24 +159,25 @@ module _ {t : Table} {run : Run} {es : List Event} (b : Bridge t run es) where
 
   -- ---- the late count
 
-  -- Of the pending jobs, which all have some units left, those that are late are those that are due just now; and these are the late ones of the trace.
-  late-by-the-trace : (time : ℕ) → lateCount time pending ≡ total (weightIf (lateAt time es) (λ _. 1)) (jobsIn es)
+  -- Every pending job has units left, so the late ones are those that are due at this time. By the trace they are the unfinished jobs that are due at this
+  -- time.
+  late-by-the-trace : (time : ℕ) → lateCount time pending ≡ total (weightIf (lateAt time es) (λ _. 1)) (jobsOfTrace es)
   late-by-the-trace time =
       let due-now : Job → ℕ = weightIf (λ j. eqb (j .due) time) (λ _. 1) in
       late-count-is-total time pending
       ∙ total-same (weightIf (isLate time) (λ _. 1)) (λ p. due-now (jobOf p)) pending
       (all-of-members pending (λ p m. rw (lt-ltb 0 (p .left) (pending-is-owed b p m .some-left), and-true)))
       ∙ sym (unfinished-weigh-as-pending b due-now)
-      ∙ total-same (weightIf (unfinished es) due-now) (weightIf (lateAt time es) (λ _. 1)) (jobsIn es)
-      (all-of (λ j. counts-if-both (eqb (j .due) time) (unfinished es j) 1) (jobsIn es))
+      ∙ total-same (weightIf (unfinished es) due-now) (weightIf (lateAt time es) (λ _. 1)) (jobsOfTrace es)
+      (all-of (λ j. counts-if-both (eqb (j .due) time) (unfinished es j) 1) (jobsOfTrace es))
 
-  -- No pending job is due past the last time.
+  -- No pending job is due after 2^40.
   none-due-past : (time : ℕ) → maxTime < time → lateCount time pending ≡ 0
   none-due-past time past = late-count-is-total time pending ∙ none-passes (isLate time) (λ _. 1) pending
       (all-of-members pending (each-pending (λ p. isLate time p ≡ false)
       (λ i h. rw (ne-eqb (getD pending i noJob .due .0) time (λ e. omega (arith, sound-facts b .jobs i h .due-in-time))))))
 
-  -- What a tick answers is the late count over the jobs that are pending after it.
+  -- The late count that a tick answers is over the jobs that are pending after it.
   late-after-the-tick : ticked run .late ≡ lateCount (run .clock .0 + 1) (jobsOf (ticked run .run .pending))
   unfolding lateCount
   late-after-the-tick = each-tick run (b .sound) (λ step. step .late ≡ lateCount (run .clock .0 + 1) (jobsOf (step .run .pending)))
@@ -184,9 +185,9 @@ module _ {t : Table} {run : Run} {es : List Event} (b : Bridge t run es) where
       (λ h none. ap (lateCount (run .clock .0 + 1)) (sym (no-jobs none)))
       (λ h some. refl)
 
--- The late count of a tick is the number of accepted jobs that are late by the trace after it. At the last time, too: no job is due past it.
+-- The late count of a tick is the number of accepted jobs that are late by the trace after it. This holds at the clock 2^40 too, since no job is due after it.
 pub late-of-the-trace : {t : Table} {run : Run} {es : List Event} → Bridge t run es → Bridge t (ticked run .run) (eventOf run Call.tick ∷ es)
-    → ticked run .late ≡ total (weightIf (lateAt (clockOf es + 1) (eventOf run Call.tick ∷ es)) (λ _. 1)) (jobsIn es)
+    → ticked run .late ≡ total (weightIf (lateAt (clockOf es + 1) (eventOf run Call.tick ∷ es)) (λ _. 1)) (jobsOfTrace es)
 late-of-the-trace {run = run} {es = es} b next =
     let no-job = no-job-by-a-tick (tickSays (ticked run .answer)) (ticked run .late) es in
     rw (← b .same-clock, ← no-job) (late-after-the-tick b ∙ late-by-the-trace next _)
@@ -197,11 +198,11 @@ late-of-the-trace {run = run} {es = es} b next =
 pub idle-when-all-have-their-cost : IdleWhenAllHaveTheirCost
 idle-when-all-have-their-cost bytes ok calls = idle-when-done (bridge bytes ok calls)
 
--- Else the unit goes to the unfinished job that is due first.
+-- A tick that runs a job runs the unfinished job with the earliest due time.
 pub earliest-due-first : EarliestDueFirst
 earliest-due-first bytes ok calls = ran-the-first (bridge bytes ok calls)
 
--- The late count is the number of accepted jobs that are late then.
+-- The late count of a tick is the number of accepted jobs that are due at the new clock and unfinished.
 pub late-count-is-the-late : LateCountIsTheLate
 unfolding runAt trace
 late-count-is-the-late bytes ok calls = late-of-the-trace (bridge bytes ok calls) (bridge bytes ok (Call.tick ∷ calls))

@@ -1,6 +1,5 @@
--- An earlier point of a trace: at every time that the clock has passed, the trace was at a point where the clock was at that time; the ticks since then are the
--- newest, and the jobs that were released before that time had been accepted. So a job that is due had its cost before its due time. (docs/RULES.md, sections 5
--- and 6.)
+-- An earlier point of a trace. At every time that the clock has passed, the trace was at a point where the clock was at that time. The ticks since then are the
+-- newest, and the jobs that were released before that time had been accepted. So a job that is due had its cost before its due time. (6.26)
 use Prim.Native.Nat.{ℕ, suc, _-_, _≤_, _<_}
 use mathlib.Core.Path.{_≡_, refl, sym}
 use mathlib.Core.List.{List, [], _∷_, List·Memᴰ, List·Memᴰ·head, List·Memᴰ·tail}
@@ -10,22 +9,23 @@ use Rattle.theory.specs.Jobs.{Job}
 use Rattle.theory.proofs.Cases.{by-eq}
 use Rattle.run.specs.Answers.{accepted, idle, ran}
 use Rattle.run.specs.Answers as says
-use Rattle.promise.specs.Traces.{Call, Event, runAt, eventOf, trace, told, clockOf, jobsIn, ticksOf}
+use Rattle.promise.specs.Traces.{Call, Event, runAt, eventOf, trace, told, clockOf, jobsOfTrace, ticksOf}
 use Rattle.promise.specs.InTime.{InTimeBeforeDue}
 use Rattle.promise.proofs.InTime.{in-time, due-times-come}
 
--- One answer back: the time was reached before it, and all that is of that time was there.
+-- The time was reached before the event e, and e changes neither the ticks up to that time nor the jobs that were released before it.
 record OneBack (time : ℕ) (e : Event) (es : List Event) : Type 0 where
   reached : time ≤ clockOf es
   same-ticks : drop (clockOf (e ∷ es) - time) (ticksOf (e ∷ es)) ≡ drop (clockOf es - time) (ticksOf es)
-  same-jobs : (j : Job) → List·Memᴰ j (jobsIn (e ∷ es)) → j .release < time → List·Memᴰ j (jobsIn es)
+  same-jobs : (j : Job) → List·Memᴰ j (jobsOfTrace (e ∷ es)) → j .release < time → List·Memᴰ j (jobsOfTrace es)
 
--- A job that was released at the clock was not released before an earlier time.
+-- A job that was released at a time or later is not among those that were released before it.
 not-the-newest : (time : ℕ) {i : Job} {js : List Job} → time ≤ i .release → (j : Job) → List·Memᴰ j (i ∷ js) → j .release < time → List·Memᴰ j js
 not-the-newest time late j (List·Memᴰ·head e) = λ early. absurd (omega (arith, late, rw e at early))
 not-the-newest time late j (List·Memᴰ·tail m) = λ early. m
 
 module _ (time : ℕ) (es : List Event) where
+  -- Where the clock is past a time after one more event, the time was reached before that event.
   one-back : (e : Event) → time < clockOf (e ∷ es) → OneBack time e es
   unfolding told
   one-back (Event.release row cost (accepted serial due)) h = record { reached = omega arith; same-ticks = refl; same-jobs = not-the-newest time (omega arith) }
@@ -38,14 +38,14 @@ module _ (time : ℕ) (es : List Event) where
       record { reached = omega arith; same-ticks = rw one; same-jobs = λ j m early. m }
   one-back (Event.tick (says.TickSays.refused n place) late) h = record { reached = omega arith; same-ticks = refl; same-jobs = λ j m early. m }
 
--- The point of a trace at which the clock was at a time.
+-- This is the point of a trace at which the clock was at a time.
 record PointAt (time : ℕ) (bytes : List ℕ) (calls : List Call) : Type 0 where
   before : List Call
   clock-there : clockOf (trace bytes before) ≡ time
   ticks-there : ticksOf (trace bytes before) ≡ drop (clockOf (trace bytes calls) - time) (ticksOf (trace bytes calls))
-  jobs-there : (j : Job) → List·Memᴰ j (jobsIn (trace bytes calls)) → j .release < time → List·Memᴰ j (jobsIn (trace bytes before))
+  jobs-there : (j : Job) → List·Memᴰ j (jobsOfTrace (trace bytes calls)) → j .release < time → List·Memᴰ j (jobsOfTrace (trace bytes before))
 
--- It may be the last point.
+-- Where the clock is at the time now, the point is the present one.
 the-last : (time : ℕ) (bytes : List ℕ) (calls : List Call) → time ≡ clockOf (trace bytes calls) → PointAt time bytes calls
 the-last time bytes calls e =
     let none : clockOf (trace bytes calls) - time ≡ 0 = omega arith in
@@ -56,7 +56,7 @@ clock-at-first : (bytes : List ℕ) → clockOf (trace bytes []) ≡ 0
 unfolding trace told
 clock-at-first bytes = refl
 
--- There is one for every time up to the clock.
+-- Every time up to the clock has its point.
 point-at : (time : ℕ) (bytes : List ℕ) (calls : List Call) → time ≤ clockOf (trace bytes calls) → PointAt time bytes calls
 unfolding trace
 point-at time bytes [] h = the-last time bytes [] (omega (arith, clock-at-first bytes))
@@ -72,7 +72,7 @@ point-at time bytes (c ∷ calls) h = by-eq time (clockOf (trace bytes (c ∷ ca
       jobs-there = λ j m early. point .jobs-there j (back .same-jobs j m early) early;
     })
 
--- So a job that is due had its cost before its due time.
+-- A job that is due had its cost before its due time.
 pub in-time-before-due : InTimeBeforeDue
 in-time-before-due bytes ok said calls j m due =
     let point = point-at (j .due) bytes calls due in

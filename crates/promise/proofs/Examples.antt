@@ -1,4 +1,5 @@
--- The examples hold. A table's verdict is settled by a look at finitely many lengths, which is made by computing; the theory's bound says that these are enough.
+-- The examples hold. A table's verdict is settled by a look at finitely many lengths, which is made by computing. The theory's bound says that these lengths
+-- are enough.
 use Prim.Native.Nat.{ℕ, zero, suc, _+_, _≤_}
 use mathlib.Core.Path.{_≡_, refl, sym, ap, subst, _∙_}
 use mathlib.Core.Bool.{Bool, true, _&&_}
@@ -7,7 +8,7 @@ use native.Mathlib.Omega.{arith}
 use lib.Dec.{leb, ltb}
 use borrow.Author.Tests.{leb-true, ltb-true}
 use Rattle.kinds.specs.Numbering.{maxTime}
-use Rattle.numbers.specs.Laws.{Bytes}
+use Rattle.numbers.specs.SpelledNumbers.{Bytes}
 use Rattle.numbers.specs.Reading as reading
 use Rattle.numbers.specs.Spelling as spelling
 use Rattle.theory.specs.Lists.{total}
@@ -28,33 +29,35 @@ use Rattle.table.specs.Period.{firstMultiple, leastCommonMultiple}
 use Rattle.due.specs.declared.Kept.{Kept}
 use Rattle.due.specs.declared.Due.the-variants as due
 use Rattle.due.specs.Kept.{nothingKept, dueOf, keptWith}
-use Rattle.due.specs.Laws.{KeepsNewest}
-use Rattle.due.proofs.Laws.{due-given, keeps-on-keeping, due-is-the-papers, starts-empty}
+use Rattle.due.specs.KeptTimes.{KeepsNewest}
+use Rattle.due.proofs.NewestKept.{due-given, keeps-on-keeping, due-is-the-papers, starts-empty}
 use Rattle.verdict.specs.declared.Verdict.{Verdict}
 use Rattle.verdict.specs.declared.Verdict.the-variants as verdict
 use Rattle.verdict.specs.Demand.{tableDemand, tableGrowth, largestD, largestOf}
 use Rattle.verdict.specs.Verdict.{RightOf, RightOfRead, Judged, verdictSays}
 use Rattle.verdict.proofs.Accepted.{accepted-is-known}
-use Rattle.verdict.proofs.Verdicts.{said-apart}
-use Rattle.promise.specs.Examples.{dueTimesFrom, VerdictSays, feasible, overloaded, v1, v2, v3, v4, v5, v6, v7, v8, ExamplesHold}
+use Rattle.verdict.proofs.Verdicts.{verdicts-said-apart}
+use Rattle.promise.specs.Examples.{dueTimesFrom, RightVerdictSays, feasible, overloaded, v1, v2, v3, v4, v5, v6, v7, v8, ExamplesHold}
 
 -- ---- looks that can be made by computing
 
--- Every element of a list is a byte.
+-- `allBytes` tests that every element of a list is a byte.
 abbrev allBytes : List ℕ → Bool
 allBytes [] = true
 allBytes (b ∷ s) = ltb b 256 && allBytes s
 
+-- A list that passes this test is a list of bytes.
 pub are-bytes : (s : List ℕ) → allBytes s ≡ true → Bytes s
 are-bytes [] h i = omega arith
 are-bytes (b ∷ s) h zero = ltb-true b 256 (both-true (ltb b 256) (allBytes s) h .0)
 are-bytes (b ∷ s) h (suc i) = are-bytes s (both-true (ltb b 256) (allBytes s) h .1) i
 
--- Every length from 1 to n fits.
+-- `looks` tests that every length from 1 to n fits.
 abbrev looks : (ℕ → ℕ) → (n : ℕ) → Bool
 looks f zero = true
 looks f (suc n) = leb (f (suc n)) (suc n) && looks f n
 
+-- Where this test passes, every length from 1 to n fits.
 looked : (f : ℕ → ℕ) (n : ℕ) → looks f n ≡ true → FitsUpTo f n
 looked f zero h L some most = absurd (omega arith)
 looked f (suc n) h L some most =
@@ -64,14 +67,14 @@ looked f (suc n) h L some most =
 
 -- ---- verdicts by a look
 
--- What is right of a table that was accepted is right of the bytes.
+-- A verdict that is right for an accepted table is right for the bytes.
 accepted-right : (t : Table) (a : TableAnswer) (period : ℕ) (v : Verdict) → a ≡ answer.Accepted period → RightOf t v → RightOfRead t a v
 accepted-right t a period v accepted right = rw accepted right
 
 module _ (s : List ℕ) (period : ℕ) (bytes : allBytes s ≡ true) (accepted : tableRead s .answer ≡ answer.Accepted period) where
-  -- Growth within the period, and every length up to period + largest d fits.
+  -- A table is feasible where its demand grows by at most the period in a period, and every length up to period + largest d fits.
   feasible-by-look : leb (tableGrowth (tableRead s .table) period) period ≡ true → looks (tableDemand (tableRead s .table)) (period + largestD (tableRead s .table)) ≡ true
-      → VerdictSays s feasible
+      → RightVerdictSays s feasible
   feasible-by-look within fits =
       let known = accepted-is-known s period (are-bytes s bytes) accepted in (
         verdict.Feasible,
@@ -81,8 +84,9 @@ module _ (s : List ℕ) (period : ℕ) (bytes : allBytes s ≡ true) (accepted :
         refl,
       )
 
+  -- A table is overloaded where all shorter lengths fit and this one does not.
   overloaded-by-look : (shorter units : ℕ) → looks (tableDemand (tableRead s .table)) shorter ≡ true → tableDemand (tableRead s .table) (suc shorter) ≡ units
-      → ltb (suc shorter) units ≡ true → VerdictSays s (overloaded (suc shorter) units)
+      → ltb (suc shorter) units ≡ true → RightVerdictSays s (overloaded (suc shorter) units)
   overloaded-by-look shorter units fits asks more = (
     verdict.Overloaded (record { length = suc shorter; demand = units }),
     accepted-right (tableRead s .table) (tableRead s .answer) period _ accepted
@@ -92,17 +96,17 @@ module _ (s : List ℕ) (period : ℕ) (bytes : allBytes s ≡ true) (accepted :
 
 -- ---- due times by the paper's rule
 
--- The due times of releases by the rule, over the whole history of those before, which is listed newest first.
+-- `ruled` lists the due times of releases by the rule, over the whole history of the due times before, which is listed newest first.
 abbrev ruled : (x y d : ℕ) (history : List ℕ) (releases : List ℕ) → List ℕ
 ruled x y d history [] = []
 ruled x y d history (t ∷ ts) = dueTime x y d history t ∷ ruled x y d (dueTime x y d history t ∷ history) ts
 
--- No one of them is too late.
+-- `noneLate` tests that no time of a list is above 2^40.
 abbrev noneLate : List ℕ → Bool
 noneLate [] = true
 noneLate (t ∷ ts) = leb t maxTime && noneLate ts
 
--- The definitions that a release goes by give those times.
+-- The definitions that a release uses give the due times of the rule.
 by-the-rule : (r : Row) → rowInRange r ≡ true → (k : Kept) (history ts : List ℕ) → KeepsNewest k (r .x) history
     → noneLate (ruled (r .x) (r .y) (r .d) history ts) ≡ true → dueTimesFrom k r ts ≡ ruled (r .x) (r .y) (r .d) history ts
 by-the-rule r in-range k history [] keeps fits = refl
@@ -116,13 +120,15 @@ by-the-rule r in-range k history (t ∷ ts) keeps fits =
     }) in
     rw given (ap (λ l. D ∷ l) (by-the-rule r in-range (keptWith k r (record { 0 = D })) (D ∷ history) ts (keeps-on-keeping k r history (record { 0 = D }) in-range keeps) (both .1)))
 
+-- A value in range is at least 1.
 some-of : (most n : ℕ) → fromOneTo most n ≡ true → 1 ≤ n
 some-of most n h = leb-true 1 n (both-true (leb 1 n) (leb n most) h .0)
 
+-- A value in range is at most the most.
 most-of : (most n : ℕ) → fromOneTo most n ≡ true → n ≤ most
 most-of most n h = leb-true n most (both-true (leb 1 n) (leb n most) h .1)
 
--- A row of an example is in range for every cost in range.
+-- The due times of an example hold for every cost in range.
 module _ (x y d : ℕ) (releases times : List ℕ) (xs : fromOneTo maxX x ≡ true) (ys : fromOneTo maxY y ≡ true) (ds : fromOneTo maxD d ≡ true) where
   due-by-rule : ruled x y d [] releases ≡ times → noneLate times ≡ true → (c : ℕ) → 1 ≤ c → c ≤ maxC
       → dueTimesFrom nothingKept (record { x = x; y = y; d = d; c = c }) releases ≡ times
@@ -139,7 +145,7 @@ module _ (x y d : ℕ) (releases times : List ℕ) (xs : fromOneTo maxX x ≡ tr
         most-c = most;
       })) nothingKept [] releases (starts-empty x) (rw same fits) ∙ same
 
--- One example after another.
+-- `then` puts the proof of one example before those of the rest.
 then : {P Q : Type 0} → P → Q → P × Q
 then p q = (p, q)
 
@@ -161,11 +167,11 @@ examples-hold =
     (then (due-by-rule 1 2 6 (0 ∷ 20 ∷ []) _ refl refl refl refl refl)
     tt)))))))))))
 
--- What says the same as a verdict is that verdict.
-judged-so : (bytes : List ℕ) (w : Verdict) → VerdictSays bytes (verdictSays w) → Judged bytes w
-judged-so bytes w says = subst (Judged bytes) (said-apart (says .0) w (says .2)) (says .1)
+-- A right verdict that says the same as w is w.
+judged-so : (bytes : List ℕ) (w : Verdict) → RightVerdictSays bytes (verdictSays w) → Judged bytes w
+judged-so bytes w says = subst (Judged bytes) (verdicts-said-apart (says .0) w (says .2)) (says .1)
 
--- Some of them by themselves.
+-- These are the verdicts of V1, V3, V4 and V8 by themselves.
 pub v1-is-feasible : Judged v1 verdict.Feasible
 v1-is-feasible = judged-so v1 verdict.Feasible (examples-hold .0)
 

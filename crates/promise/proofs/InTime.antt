@@ -1,6 +1,6 @@
--- In time is proved. On a feasible table every length fits; in no window do the accepted jobs ask for more than the table's demand, row by row; and the ticks
--- so far are a trace of the theory in which earliest due goes first and nothing idles in vain. So the theory's theorem applies. Beside it stand the clock,
--- which comes to every due time, and the due times, which are all within reach. (docs/RULES.md, sections 5 and 6.)
+-- In time: the proof. On a feasible table every length fits. In no window do the accepted jobs ask for more than the table's demand, row by row. The ticks so
+-- far are a trace of the theory in which the earliest due job goes first and no tick idles while a job waits. So the theory's theorem applies. Beside it stand
+-- the clock, which comes to every due time, and the due times, which are all at 2^40 or before. (5.4, 6.26)
 use Prim.Native.Nat.{ℕ, suc, _+_, _≤_, _<_, min}
 use mathlib.Core.Path.{_≡_, refl}
 use mathlib.Core.Logic.{⊎-elim}
@@ -9,7 +9,7 @@ use native.Mathlib.Omega.{arith}
 use lib.Seq.{getD-take}
 use Rattle.kinds.specs.Numbering.{maxTime}
 use Rattle.kinds.proofs.Numbering.{never-an-answer}
-use Rattle.numbers.specs.Laws.{Bytes}
+use Rattle.numbers.specs.SpelledNumbers.{Bytes}
 use Rattle.theory.specs.Lists.{All}
 use Rattle.theory.specs.Curves.{EveryLengthFits}
 use Rattle.theory.specs.Jobs.{Job, BoundedBy}
@@ -19,7 +19,7 @@ use Rattle.theory.proofs.Lists.{all-imply, all-at, total-zero}
 use Rattle.theory.proofs.Demand.{no-demand-below-d}
 use Rattle.theory.proofs.DueTimes.{due-at-least-d}
 use Rattle.theory.proofs.Ticks.{all-free}
-use Rattle.theory.proofs.EarliestDue.{in-time as in-time-by-the-theory}
+use Rattle.theory.proofs.EarliestDue.{trace-is-in-time as in-time-by-the-theory}
 use Rattle.theory.proofs.Sources.{sum-of-sources}
 use Rattle.table.specs.declared.Row.{Row}
 use Rattle.table.specs.declared.Table.{Table}
@@ -32,22 +32,22 @@ use Rattle.verdict.specs.declared.Verdict.the-variants as verdict
 use Rattle.verdict.specs.Demand.{rowDemandOf, tableDemand}
 use Rattle.verdict.specs.Verdict.{RightOfRead, verdictSays}
 use Rattle.verdict.proofs.Rows.{row-within, rows-within}
-use Rattle.due.proofs.Laws.{due-given}
+use Rattle.due.proofs.NewestKept.{due-given}
 use Rattle.run.specs.declared.Run.{Run}
 use Rattle.run.specs.Runs.{rowAt, keptOf}
 use Rattle.run.proofs.Release.{each-release}
 use Rattle.run.specs.Answers.{releaseSays, tickSays}
-use Rattle.promise.specs.Traces.{Call, Event, runAt, eventOf, trace, told, clockOf, jobsIn, ticksOf, unitsOf}
+use Rattle.promise.specs.Traces.{Call, Event, runAt, eventOf, trace, told, clockOf, jobsOfTrace, ticksOf, unitsOf}
 use Rattle.promise.specs.InTime.{SaidFeasible, InTime, NeverMore, OneJobASerial, ticksIn, ClockCountsTicks, DueTimesCome}
-use Rattle.promise.proofs.Bridge.{Bridge}
-use Rattle.promise.proofs.BridgeHolds.{bridge}
+use Rattle.promise.proofs.RunAndTrace.{Bridge}
+use Rattle.promise.proofs.RunsFollow.{bridge}
 use Rattle.promise.proofs.Units.{sound-facts, never-more-units}
 use Rattle.promise.proofs.Ticks.{no-job-by-a-tick, no-tick-by-a-release, each-tick}
 use Rattle.promise.proofs.Share.{own-member, row-share}
 
 -- ---- a feasible table
 
--- Only `feasible` has the number 20, and it is right where every length fits.
+-- Only the verdict feasible has the number 20, and it is right only where every length fits.
 right-and-feasible : (t : Table) (a : TableAnswer) (v : Verdict) → RightOfRead t a v → verdictSays v .number ≡ 20 → EveryLengthFits (tableDemand t)
 right-and-feasible t (answer.Accepted period) verdict.Feasible right says = right
 right-and-feasible t (answer.Accepted period) (verdict.Overloaded w) right says = absurd (omega arith)
@@ -56,7 +56,7 @@ right-and-feasible t (answer.Refused r) v right says =
     let refused = rw right at says in
     ⊎-elim (λ h. absurd (omega arith)) (λ h. absurd (omega arith)) (never-an-answer (r .refusal))
 
--- So where `judge` says feasible, every length fits.
+-- Where `judge` says feasible, every length fits.
 pub feasible-fits : (bytes : List ℕ) → SaidFeasible bytes → EveryLengthFits (tableDemand (tableRead bytes .table))
 feasible-fits bytes said = right-and-feasible (tableRead bytes .table) (tableRead bytes .answer) (said .answer) (said .judged) (said .feasible)
 
@@ -64,14 +64,14 @@ module _ {t : Table} {run : Run} {es : List Event} (b : Bridge t run es) where
   -- ---- what the accepted jobs ask for
 
   -- In every window the accepted jobs ask for at most the table's demand.
-  demand-bounds : BoundedBy (tableDemand t) (jobsIn es)
+  demand-bounds : BoundedBy (tableDemand t) (jobsOfTrace es)
   unfolding tableDemand
-  demand-bounds = sum-of-sources Row rowDemandOf noRow (rowsOf t) (jobsIn es) (rw (rows-used (b .table-in-range)) (b .rows-in-use))
+  demand-bounds = sum-of-sources Row rowDemandOf noRow (rowsOf t) (jobsOfTrace es) (rw (rows-used (b .table-in-range)) (b .rows-in-use))
       (λ row h.
       let in-use : row < t .count = omega (arith, rows-used (b .table-in-range)) in
       rw (getD-take (t .count) (t .rows) row noRow in-use) (row-share b row in-use))
 
-  -- In no time the table has no demand.
+  -- In a window of no length the table has no demand.
   no-demand-at-zero : tableDemand t 0 ≡ 0
   unfolding tableDemand
   no-demand-at-zero =
@@ -82,7 +82,7 @@ module _ {t : Table} {run : Run} {es : List Event} (b : Bridge t run es) where
   -- ---- in time
 
   -- Where every length fits, an accepted job that is due has had its cost.
-  pub due-had-its-cost : EveryLengthFits (tableDemand t) → (j : Job) → List·Memᴰ j (jobsIn es) → j .due ≤ clockOf es → unitsOf (j .name) es ≡ j .cost
+  pub due-had-its-cost : EveryLengthFits (tableDemand t) → (j : Job) → List·Memᴰ j (jobsOfTrace es) → j .due ≤ clockOf es → unitsOf (j .name) es ≡ j .cost
   due-had-its-cost fits j m due =
       let f = b .follows in
       let all = in-time-by-the-theory (f .events) (f .earliest-due) (f .never-idle) (b .distinct) (tableDemand t) (λ L. 0) demand-bounds
@@ -96,7 +96,7 @@ module _ {t : Table} {run : Run} {es : List Event} (b : Bridge t run es) where
 -- ---- the clock
 
 module _ {t : Table} {run : Run} {es : List Event} (b : Bridge t run es) where
-  -- A tick takes the clock one on, up to the last time.
+  -- A tick takes the clock up by one, and never above 2^40.
   clock-after-a-tick : clockOf (eventOf run Call.tick ∷ es) ≡ min (suc (clockOf es)) maxTime
   unfolding told
   clock-after-a-tick =
@@ -109,54 +109,54 @@ module _ {t : Table} {run : Run} {es : List Event} (b : Bridge t run es) where
 
 -- ---- due times
 
--- No accepted job is due later than any may be.
-dues-in-time : (bytes : List ℕ) (calls : List Call) → All (λ j. j .due ≤ maxTime) (jobsIn (trace bytes calls))
+-- No accepted job is due after 2^40.
+dues-in-time : (bytes : List ℕ) (calls : List Call) → All (λ j. j .due ≤ maxTime) (jobsOfTrace (trace bytes calls))
 unfolding runAt trace told
 dues-in-time bytes [] = tt
 dues-in-time bytes (Call.release row cost ∷ calls) =
     let run = runAt bytes calls in
     let before = dues-in-time bytes calls in
     each-release run row cost
-    (λ step. All (λ j. j .due ≤ maxTime) (jobsIn (Event.release row cost (releaseSays (step .answer)) ∷ trace bytes calls)))
+    (λ step. All (λ j. j .due ≤ maxTime) (jobsOfTrace (Event.release row cost (releaseSays (step .answer)) ∷ trace bytes calls)))
     (λ r. before)
     (λ due passed given. (due-given (keptOf run row) (rowAt (run .table) row) (run .clock .0) cost due .0 given .in-time, before))
 dues-in-time bytes (Call.tick ∷ calls) = rw no-job-by-a-tick (dues-in-time bytes calls)
 
 -- Every accepted job is due after its release.
-due-after-release : {t : Table} {run : Run} {es : List Event} → Bridge t run es → (j : Job) → List·Memᴰ j (jobsIn es) → suc (j .release) ≤ j .due
+due-after-release : {t : Table} {run : Run} {es : List Event} → Bridge t run es → (j : Job) → List·Memᴰ j (jobsOfTrace es) → suc (j .release) ≤ j .due
 due-after-release {t = t} {es = es} b j m =
     let in-use = all-at (λ (i : Job). i .source < t .count) (b .rows-in-use) m in
     let r = rowAt t (j .source) in
     let later = all-at (λ i. i .release + r .d ≤ i .due)
-    (due-at-least-d (r .x) (r .y) (r .d) (r .c) (own (j .source) (jobsIn es)) (b .by-rule (j .source) in-use)) (own-member j m) in
+    (due-at-least-d (r .x) (r .y) (r .d) (r .c) (own (j .source) (jobsOfTrace es)) (b .by-rule (j .source) in-use)) (own-member j m) in
     omega (arith, later, row-within (b .table-in-range) (j .source) in-use .some-d)
 
 -- ---- the promises
 
--- Every accepted job has had its cost once it is due.
+-- Once the clock is at an accepted job's due time or past it, the job has had its cost.
 pub in-time : InTime
 in-time bytes ok said calls = due-had-its-cost (bridge bytes ok calls) (feasible-fits bytes said)
 
--- No job has more than its cost.
+-- No job ever has more units than its cost.
 pub never-more : NeverMore
 never-more bytes ok calls = never-more-units (bridge bytes ok calls)
 
--- No two accepted jobs have one serial.
+-- No two accepted jobs have the same serial.
 pub one-job-a-serial : OneJobASerial
 one-job-a-serial bytes ok calls = bridge bytes ok calls .distinct
 
--- The clock is the number of ticks that were called, up to the last time.
+-- The clock is the number of ticks called for, up to 2^40.
 clock-counts : (bytes : List ℕ) → Bytes bytes → (calls : List Call) → clockOf (trace bytes calls) ≡ min (ticksIn calls) maxTime
 unfolding trace ticksIn told
 clock-counts bytes ok [] = refl
 clock-counts bytes ok (Call.release row cost ∷ calls) = rw no-tick-by-a-release (clock-counts bytes ok calls)
 clock-counts bytes ok (Call.tick ∷ calls) = omega (arith, clock-after-a-tick (bridge bytes ok calls), clock-counts bytes ok calls)
 
--- The run's own clock says the same.
+-- The run's own clock is the clock that the answers tell.
 pub clock-counts-ticks : ClockCountsTicks
 clock-counts-ticks bytes ok calls = (clock-counts bytes ok calls, bridge bytes ok calls .same-clock)
 
--- Every accepted job is due after its release, and by the last time.
+-- Every accepted job is due after its release, and at 2^40 or before.
 pub due-times-come : DueTimesCome
 due-times-come bytes ok calls j m =
     (due-after-release (bridge bytes ok calls) j m, all-at (λ (i : Job). i .due ≤ maxTime) (dues-in-time bytes calls) m)

@@ -1,9 +1,9 @@
--- The promises at work.
+-- The promises at work: the proofs.
 use Prim.Native.Nat.{_≤_}
 use mathlib.Core.Path.{_≡_, refl}
 use mathlib.Core.List.{[], _∷_, flatten, List·Memᴰ, List·Memᴰ·head, List·Memᴰ·tail}
 use native.Mathlib.Omega.{arith}
-use Rattle.numbers.specs.Laws.{Bytes}
+use Rattle.numbers.specs.SpelledNumbers.{Bytes}
 use Rattle.numbers.specs.Reading as reading
 use Rattle.numbers.specs.Spelling as spelling
 use Rattle.theory.specs.Lists.{total}
@@ -23,7 +23,7 @@ use Rattle.run.specs.Sound.{soundOf, jobFits, jobSound}
 use Rattle.run.specs.Release.{released}
 use Rattle.run.specs.Ticking.{ticked}
 use Rattle.verdict.specs.declared.Verdict.the-variants.{Feasible, Overloaded}
-use Rattle.promise.specs.Traces.{runAt, trace, told, clockOf, jobsIn}
+use Rattle.promise.specs.Traces.{runAt, trace, told, clockOf, jobsOfTrace}
 use Rattle.promise.specs.NoOrder.{firstJobs, keptAfter, unitsBy}
 use Rattle.promise.specs.Examples.{v3, v4}
 use Rattle.promise.specs.Instances.{calls, AnswersAreThese, job, ThreeJobs, AllThreeInTime, ShareIsReached, NamedByV4, NobodyServesV4, SomebodyServesV4Later}
@@ -46,7 +46,7 @@ v3-in-bytes = are-bytes v3 refl
 
 -- Each of the three jobs was accepted, and the clock is at its due time or past it.
 record Due (j : Job) : Type 0 where
-  pub accepted : List·Memᴰ j (jobsIn (trace v3 calls))
+  pub accepted : List·Memᴰ j (jobsOfTrace (trace v3 calls))
   pub due : j .due ≤ clockOf (trace v3 calls)
 
 clock-at-8 : clockOf (trace v3 calls) ≡ 8
@@ -55,7 +55,7 @@ clock-at-8 = rw answers-are-these (three-jobs .1)
 among-the-three : (j : Job) → List·Memᴰ j (job 2 0 4 8 2 ∷ job 1 1 0 6 3 ∷ job 0 0 0 4 2 ∷ []) → j .due ≤ 8 → Due j
 among-the-three j m due = record { accepted = rw answers-are-these (rw (three-jobs .0) m); due = rw clock-at-8 due }
 
--- So each has had its cost: by *In time*.
+-- By *In time*, each of the three jobs has had its cost.
 pub all-three-in-time : AllThreeInTime
 all-three-in-time =
     let says = in-time v3 v3-in-bytes (record { answer = Feasible; judged = v3-is-feasible; feasible = refl }) calls in
@@ -67,7 +67,7 @@ all-three-in-time =
       says (job 2 0 4 8 2) (third .accepted) (third .due),
     )
 
--- The share of row 0, worked out of the answers.
+-- What row 0 consumes is worked out from the answers.
 pub share-is-reached : ShareIsReached
 unfolding told units own weighed total
 share-is-reached = rw answers-are-these (refl, refl)
@@ -81,13 +81,13 @@ v4-in-bytes : Bytes v4
 unfolding spelling.groupsOf flatten
 v4-in-bytes = are-bytes v4 refl
 
--- Nobody serves them: by *No order*.
+-- By *No order*, nobody serves the jobs that the witness of V4 names.
 pub nobody-serves-v4 : NobodyServesV4
 nobody-serves-v4 who =
     rw named-by-v4 at
     (no-order v4 v4-in-bytes (Overloaded (record { length = 11; demand = 12 })) v4-is-overloaded 11 12 refl who)
 
--- Somebody serves them one tick later: the units are counted.
+-- The units of this order are counted, and they serve the same jobs where each is due one tick later.
 pub somebody-serves-v4-later : SomebodyServesV4Later
 unfolding unitsBy
 somebody-serves-v4-later = rw named-by-v4 (omega arith, (omega arith, (omega arith, (omega arith, (omega arith, tt)))))

@@ -1,7 +1,7 @@
-pub mod Bridge
+pub mod RunAndTrace
 pub mod Waiting
 pub mod Histories
-pub mod BridgeHolds
+pub mod RunsFollow
 pub mod Units
 pub mod Ticks
 pub mod Share

@@ -1,5 +1,5 @@
--- The jobs that a length names are those of the theory that are all released at zero: the definitions that a release goes by give them the same due times. So
--- they are as many as the demand counts, due by the recurrence and within the length, and cost the demand. (docs/RULES.md, section 5.)
+-- The jobs that a length names are the theory's jobs that are all released at zero: the definitions that a release uses give them the same due times. So they
+-- are as many as the demand counts, they are due by the recurrence and within the length, and they cost the demand. (5.10)
 use Prim.Native.Nat.{ℕ, zero, suc, _+_, _-_, _≤_, _<_}
 use mathlib.Core.Path.{_≡_, refl, ap, ap₂, _∙_}
 use mathlib.Core.Logic.{_≢_}
@@ -22,28 +22,28 @@ use Rattle.theory.proofs.Sources.{own-of-it, own-of-another, numbered-through}
 use Rattle.table.specs.declared.Row.{Row}
 use Rattle.table.specs.declared.Table.{Table}
 use Rattle.table.specs.Tables.{noRow, rowsOf, tableRead}
-use Rattle.table.specs.Laws.{WithinLimits}
+use Rattle.table.specs.SpelledTables.{WithinLimits}
 use Rattle.table.proofs.Ranges.{in-range-of}
 use Rattle.table.proofs.Tables.{rows-used}
 use Rattle.due.specs.declared.Due.the-variants as due
 use Rattle.due.specs.Kept.{dueOf}
-use Rattle.due.specs.Laws.{KeepsNewest}
-use Rattle.due.proofs.Laws.{due-given, keeps-on-keeping, due-is-the-papers, starts-empty}
+use Rattle.due.specs.KeptTimes.{KeepsNewest}
+use Rattle.due.proofs.NewestKept.{due-given, keeps-on-keeping, due-is-the-papers, starts-empty}
 use Rattle.verdict.specs.Demand.{rowDemandOf, tableDemand}
 use Rattle.verdict.proofs.Rows.{row-within, rows-within}
 use Rattle.run.specs.Runs.{rowAt}
 use Rattle.promise.specs.NoOrder.{keptAfter, firstJobs, namedJobs}
 use Rattle.promise.specs.NamedJobs.{NamedOfRow, NamedJobsAreThePapers}
-use Rattle.promise.proofs.BridgeHolds.{bridge}
+use Rattle.promise.proofs.RunsFollow.{bridge}
 
 -- ---- the jobs of one row
 
 module _ (r : Row) (within : WithinLimits r) (L : ℕ) (not-too-late : L ≤ maxTime) where
-  -- The first n jobs, as the theory has them.
+  -- `ofTheory` is the theory's list of the first n jobs of the row.
   abbrev ofTheory : (source first n : ℕ) → List Job
   ofTheory source first n = allAtZero (r .x) (r .y) (r .d) (r .c) source first n
 
-  -- Where the next is due by the rule, a release gives that due time.
+  -- Where the kept due times are the newest of the theory's jobs, a release of the next job gives it the theory's due time.
   same-due : (source first n : ℕ) → KeepsNewest (keptAfter r n) (r .x) (dues (ofTheory source first n)) → suc n ≤ rowJobs (r .x) (r .y) (r .d) L
       → dueOf (keptAfter r n) r 0 (r .c) ≡ due.At (record { 0 = dueTime (r .x) (r .y) (r .d) (dues (ofTheory source first n)) 0 })
   unfolding allAtZero
@@ -55,7 +55,7 @@ module _ (r : Row) (within : WithinLimits r) (L : ℕ) (not-too-late : L ≤ max
         in-time = omega (arith, first-are-due-within (r .x) (r .y) (r .d) (r .c) source first L (suc n) (within .some-x) (within .some-y) named .0);
       })
 
-  -- A release keeps it, so that the next one is by the rule too.
+  -- After n releases the kept due times are the newest of the theory's first n jobs.
   keeps-the-first : (source first n : ℕ) → n ≤ rowJobs (r .x) (r .y) (r .d) L → KeepsNewest (keptAfter r n) (r .x) (dues (ofTheory source first n))
   unfolding allAtZero keptAfter
   keeps-the-first source first zero named = starts-empty (r .x)
@@ -63,6 +63,7 @@ module _ (r : Row) (within : WithinLimits r) (L : ℕ) (not-too-late : L ≤ max
       let before = keeps-the-first source first n (omega arith) in
       rw (same-due source first n before named) (keeps-on-keeping (keptAfter r n) r (dues (ofTheory source first n)) _ (in-range-of r within) before)
 
+  -- The first n jobs that a length names are the theory's.
   same-jobs : (source first n : ℕ) → n ≤ rowJobs (r .x) (r .y) (r .d) L → firstJobs source first r n ≡ ofTheory source first n
   unfolding allAtZero firstJobs
   same-jobs source first zero named = refl
@@ -71,15 +72,16 @@ module _ (r : Row) (within : WithinLimits r) (L : ℕ) (not-too-late : L ≤ max
 
 -- ---- the jobs of all rows
 
--- Of a row as many jobs as can be released and due in L ticks: as the witness names them, and as the theory has them.
+-- `named` lists the jobs of a row that the witness names.
 abbrev named : (L source first : ℕ) → Row → List Job
 named L source first r = firstJobs source first r (rowJobs (r .x) (r .y) (r .d) L)
 
+-- `theirs` lists the theory's jobs of a row, as many as can be released and due in L ticks.
 abbrev pub theirs : (L source first : ℕ) → Row → List Job
 theirs L source first r = allAtZero (r .x) (r .y) (r .d) (r .c) source first (rowJobs (r .x) (r .y) (r .d) L)
 
 module _ (L : ℕ) where
-  -- They are the same, row by row.
+  -- The named jobs and the theory's jobs are the same, row by row.
   pub same-lists : L ≤ maxTime → (i first : ℕ) (rows : List Row) → All WithinLimits rows → inTurn (named L) i first rows ≡ inTurn (theirs L) i first rows
   unfolding inTurn
   same-lists h i first [] all = refl
@@ -87,7 +89,7 @@ module _ (L : ℕ) where
       rw (same-jobs r (all .0) L h i first (rowJobs (r .x) (r .y) (r .d) L) (omega arith))
       (ap (λ l. theirs L i first r ∷ l) (same-lists h (suc i) (first + length (theirs L i first r)) rows (all .1)))
 
-  -- The jobs are due by L.
+  -- The theory's jobs are due by L.
   pub all-due : (i first : ℕ) (rows : List Row) → All WithinLimits rows → All (All (λ j. j .due ≤ L)) (inTurn (theirs L) i first rows)
   unfolding inTurn
   all-due i first [] all = tt
@@ -96,24 +98,25 @@ module _ (L : ℕ) where
     all-due (suc i) (first + length (theirs L i first r)) rows (all .1),
   )
 
-  -- Together they cost the demand of the rows.
+  -- Together the theory's jobs cost the demand of the rows.
   pub all-cost : (i first : ℕ) (rows : List Row) → total (λ js. total (λ j. j .cost) js) (inTurn (theirs L) i first rows) ≡ total (λ r. rowDemandOf r L) rows
   unfolding inTurn total
   all-cost i first [] = refl
   all-cost i first (r ∷ rows) =
       ap₂ _+_ (first-cost-the-demand (r .x) (r .y) (r .d) (r .c) i first L) (all-cost (suc i) (first + length (theirs L i first r)) rows)
 
-  -- No two of them have one name.
+  -- No two of the theory's jobs have the same name.
   pub all-distinct : (rows : List Row) → DistinctNames (flatten (inTurn (theirs L) 0 0 rows))
   all-distinct rows =
       numbered-through Row (theirs L) (λ i first r. all-at-zero-are-numbered (r .x) (r .y) (r .d) (r .c) i first (rowJobs (r .x) (r .y) (r .d) L)) 0 0 rows .distinct
 
--- The first jobs of a row are released at zero, and so are those of all rows.
+-- The theory's first jobs of a row are released at zero.
 released-at-zero : (x y d c source first n : ℕ) → All (λ j. j .release ≡ 0) (allAtZero x y d c source first n)
 unfolding allAtZero
 released-at-zero x y d c source first zero = tt
 released-at-zero x y d c source first (suc n) = (refl, released-at-zero x y d c source first n)
 
+-- The theory's first jobs of all rows are released at zero.
 pub all-at-zero : (L i first : ℕ) (rows : List Row) → All (All (λ j. j .release ≡ 0)) (inTurn (theirs L) i first rows)
 unfolding inTurn
 all-at-zero L i first [] = tt
@@ -124,19 +127,19 @@ all-at-zero L i first (r ∷ rows) = (
 
 -- ---- the jobs of each row among them all
 
--- Jobs of the source i are all its own.
+-- Where all jobs are of source i, the own jobs of i are all of them.
 own-all : (i : ℕ) (js : List Job) → All (λ j. j .source ≡ i) js → own i js ≡ js
 unfolding own
 own-all i [] h = refl
 own-all i (j ∷ js) h = own-of-it i j js (h .0) ∙ ap (λ l. j ∷ l) (own-all i js (h .1))
 
--- None of other sources' jobs are its own.
+-- Where no job is of source i, it has no own jobs.
 own-none : (i : ℕ) (js : List Job) → All (λ j. j .source ≢ i) js → own i js ≡ []
 unfolding own
 own-none i [] h = refl
 own-none i (j ∷ js) h = own-of-another i j js (h .0) ∙ own-none i js (h .1)
 
--- Of two lists in a row the own jobs are those of the one and those of the other.
+-- The own jobs of two lists, one after the other, are those of the first and then those of the second.
 own-append : (i : ℕ) (js ks : List Job) → own i (js ++ ks) ≡ own i js ++ own i ks
 unfolding own
 own-append i [] ks = refl
@@ -145,7 +148,7 @@ own-append i (j ∷ js) ks = by-eq (j .source) i
     (λ e. own-of-another i j (js ++ ks) e ∙ rw (own-of-another i j js e) (own-append i js ks))
 
 module _ {A : Type 0} (jobs : (i first : ℕ) → A → List Job) (its-own : (i first : ℕ) (a : A) → All (λ j. j .source ≡ i) (jobs i first a)) where
-  -- The jobs of the sources from i on are of these sources.
+  -- The jobs of the sources from i on all belong to one of these sources.
   of-these-sources : (i first : ℕ) (l : List A) → All (λ j. (i ≤ j .source) × (j .source < i + length l)) (flatten (inTurn jobs i first l))
   unfolding inTurn flatten
   of-these-sources i first [] = tt
@@ -155,7 +158,7 @@ module _ {A : Type 0} (jobs : (i first : ℕ) → A → List Job) (its-own : (i 
       (all-imply (λ j e. (omega arith, omega arith)) (jobs i first a) (its-own i first a))
       (all-imply (λ j h. (omega arith, omega arith)) rest (of-these-sources (suc i) (first + length (jobs i first a)) l))
 
-  -- Among the jobs of all sources those of one are its own.
+  -- The own jobs of one source among the jobs of all sources are the jobs that this source was given.
   own-in-turn : (other : A) (i first : ℕ) (l : List A) (k : ℕ) → k < length l
       → (from : ℕ) × (own (i + k) (flatten (inTurn jobs i first l)) ≡ jobs (i + k) from (getD l k other))
   unfolding inTurn flatten
@@ -176,19 +179,19 @@ module _ {A : Type 0} (jobs : (i first : ℕ) → A → List Job) (its-own : (i 
 -- ---- the paper's jobs of a row
 
 module _ (x y d c source first : ℕ) where
-  -- They are n jobs.
+  -- The list of the first n jobs has n jobs.
   number-of-jobs : (n : ℕ) → length (allAtZero x y d c source first n) ≡ n
   unfolding allAtZero
   number-of-jobs zero = refl
   number-of-jobs (suc n) = omega (arith, number-of-jobs n)
 
-  -- Each costs c.
+  -- Each of the first jobs costs c.
   each-costs : (n : ℕ) → All (λ j. j .cost ≡ c) (allAtZero x y d c source first n)
   unfolding allAtZero
   each-costs zero = tt
   each-costs (suc n) = (refl, each-costs n)
 
-  -- Each is of its row.
+  -- Each of the first jobs belongs to its row.
   each-of-its-row : (n : ℕ) → All (λ j. j .source ≡ source) (allAtZero x y d c source first n)
   unfolding allAtZero
   each-of-its-row zero = tt
@@ -200,7 +203,7 @@ releases-are-zero [] h k = refl
 releases-are-zero (j ∷ js) h zero = h .0
 releases-are-zero (j ∷ js) h (suc k) = releases-are-zero js (h .1) k
 
--- So the jobs of a row that a length names are the paper's.
+-- The jobs of a row that a length names are the paper's.
 named-of-row : (r : Row) → WithinLimits r → (L source first : ℕ) → NamedOfRow r L (theirs L source first r)
 named-of-row r within L source first =
     let n = rowJobs (r .x) (r .y) (r .d) L in
@@ -220,7 +223,7 @@ named-of-row r within L source first =
 
 -- ---- the paper's jobs of a table
 
--- The jobs that a length names are the theory's.
+-- The jobs of a table that a length names are the theory's.
 pub same-named : (t : Table) (L : ℕ) → All WithinLimits (rowsOf t) → L ≤ maxTime → namedJobs t L ≡ flatten (inTurn (theirs L) 0 0 (rowsOf t))
 same-named t L within in-time = ap flatten (same-lists L in-time 0 0 (rowsOf t) within)
 

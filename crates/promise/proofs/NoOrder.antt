@@ -1,4 +1,4 @@
--- No order. The jobs that a witness L names are due by L and cost more than L, so no assignment serves them. (docs/RULES.md, section 5.)
+-- No order: the proof. The jobs that a witness of length L names are due by L and cost more than L, so no assignment serves them. (5.11)
 use Prim.Native.Nat.{ℕ, zero, suc, _+_, _≤_}
 use mathlib.Core.Path.{_≡_, refl, ap}
 use mathlib.Core.Logic.{⊎-elim}
@@ -7,7 +7,7 @@ use mathlib.Core.List.{List, [], _∷_, flatten}
 use native.Mathlib.Omega.{arith}
 use Rattle.kinds.specs.Numbering.{maxTime}
 use Rattle.kinds.proofs.Apart.{impossible}
-use Rattle.numbers.specs.Laws.{Bytes}
+use Rattle.numbers.specs.SpelledNumbers.{Bytes}
 use Rattle.theory.specs.Lists.{All}
 use Rattle.theory.specs.Jobs.{Job}
 use Rattle.theory.specs.Ticks.{had, noneTaken}
@@ -22,14 +22,14 @@ use Rattle.table.specs.declared.Table.{Table}
 use Rattle.table.specs.declared.TableAnswer.{TableAnswer}
 use Rattle.table.specs.declared.TableAnswer.the-variants as answer
 use Rattle.table.specs.Tables.{rowsOf, tableRead}
-use Rattle.table.specs.Laws.{WithinLimits}
+use Rattle.table.specs.SpelledTables.{WithinLimits}
 use Rattle.verdict.specs.declared.Witness.{Witness}
 use Rattle.verdict.specs.declared.Verdict.{Verdict}
 use Rattle.verdict.specs.declared.Verdict.the-variants as verdict
 use Rattle.verdict.specs.Demand.{tableDemand, tableGrowth, largestD}
 use Rattle.verdict.specs.Verdict.{RightOfRead, Judged, verdictSays}
 use Rattle.verdict.proofs.Accepted.{Known, accepted-is-known}
-use Rattle.verdict.proofs.Verdicts.{said-apart}
+use Rattle.verdict.proofs.Verdicts.{verdicts-said-apart}
 use Rattle.verdict.proofs.Rows.{rows-within}
 use Rattle.verdict.proofs.Bounds.{last-at-most}
 use Rattle.promise.specs.NoOrder.{namedJobs, unitsBy, NoOrder}
@@ -38,17 +38,18 @@ use Rattle.promise.proofs.NamedJobs.{theirs, all-due, all-cost, all-dis
 
 -- ---- assignments
 
--- Units that count for a job by its due time are those of the theory, where every tick is free and the job is released at zero.
+-- The units that count for a job by its due time are the theory's units, where every tick is free and the job is released at zero.
 same-units : (who : ℕ → Option ℕ) (n t : ℕ) → unitsBefore noneTaken who n t ≡ unitsBy t who n
 unfolding unitsBefore unitsBy
 same-units who n zero = refl
 same-units who n (suc t) = ap (λ m. had n (who t) + m) (same-units who n t)
 
+-- No unit counts before time 0.
 none-before : (who : ℕ → Option ℕ) (n : ℕ) → unitsBy 0 who n ≡ 0
 unfolding unitsBy
 none-before who n = refl
 
--- Jobs released at zero that have their cost by that count have it by the theory's.
+-- Jobs released at zero that have their cost in units that count have it by the theory's count too.
 meets : (who : ℕ → Option ℕ) (js : List Job) → All (λ j. j .release ≡ 0) js → All (λ j. j .cost ≤ unitsBy (j .due) who (j .name)) js
     → Meets noneTaken who js
 unfolding unitsIn
@@ -83,12 +84,12 @@ not-served t period known L smallest who served =
     (omega (arith, all-free 0 L, all-cost L 0 0 (rowsOf t), smallest .fails)) who
     (meets who (flatten (inTurn (theirs L) 0 0 (rowsOf t))) (all-flatten (λ j. j .release ≡ 0) _ (all-at-zero L 0 0 (rowsOf t))) (rw same at served))
 
--- What says 21 with L is the overloaded verdict with the length L.
+-- A verdict that says 21 with the length L is the overloaded verdict with that length.
 pub says-overloaded : (v : Verdict) (L demand : ℕ) → verdictSays v ≡ record { number = 21; first = L; second = demand }
     → v ≡ verdict.Overloaded (record { length = L; demand = demand })
-says-overloaded v L demand said = said-apart v (verdict.Overloaded (record { length = L; demand = demand })) said
+says-overloaded v L demand said = verdicts-said-apart v (verdict.Overloaded (record { length = L; demand = demand })) said
 
--- It is given only of a table that was accepted, where that length is the smallest that fails.
+-- An overloaded verdict is right only for an accepted table, where its length is the smallest that fails.
 overloaded-is-right : (t : Table) (a : TableAnswer) (w : Witness) → RightOfRead t a (verdict.Overloaded w)
     → (period : ℕ) × (a ≡ answer.Accepted period) × SmallestFailing (tableDemand t) (w .length)
 overloaded-is-right t (answer.Accepted period) w right = (period, refl, right .0)
@@ -96,7 +97,7 @@ overloaded-is-right t (answer.Refused r) w right = impossible cc
 
 module _ (bytes : List ℕ) (fine : Bytes bytes) (v : Verdict) (judged : Judged bytes v) (L demand : ℕ)
     (said : verdictSays v ≡ record { number = 21; first = L; second = demand }) where
-  -- So of the bytes that were judged.
+  -- The bytes that were judged are an accepted table, and L is the smallest length that fails.
   witness : (period : ℕ) × (tableRead bytes .answer ≡ answer.Accepted period) × SmallestFailing (tableDemand (tableRead bytes .table)) L
   witness =
       overloaded-is-right (tableRead bytes .table) (tableRead bytes .answer) (record { length = L; demand = demand })
@@ -105,7 +106,7 @@ module _ (bytes : List ℕ) (fine : Bytes bytes) (v : Verdict) (judged : Judged 
   known : Known (tableRead bytes .table) (witness .0)
   known = accepted-is-known bytes (witness .0) fine (witness .1)
 
--- The witness is at most 2^40.
+-- The length of a witness is at most 2^40.
 pub witness-is-in-time : WitnessIsInTime
 witness-is-in-time bytes fine v judged L demand said =
     witness-in-time (tableRead bytes .table) (witness bytes fine v judged L demand said .0) (known bytes fine v judged L demand said) L

@@ -1,4 +1,4 @@
--- The verdict is the paper's Theorem 4.2: the table's demand is the sum of the expressions of Lemma 4.1.
+-- The verdict is the paper's Theorem 4.2, since the table's demand is the sum of the expressions of Lemma 4.1. (5.2, 5.4)
 use Prim.Native.Nat.{ℕ, _+_}
 use mathlib.Core.Path.{_≡_, refl, ap₂}
 use mathlib.Core.Logic.{_↔_}
@@ -13,7 +13,7 @@ use Rattle.table.specs.declared.Row.{Row}
 use Rattle.table.specs.declared.Table.{Table}
 use Rattle.table.specs.declared.TableAnswer.the-variants as answer
 use Rattle.table.specs.Tables.{rowsOf, tableRead}
-use Rattle.table.specs.Laws.{WithinLimits}
+use Rattle.table.specs.SpelledTables.{WithinLimits}
 use Rattle.table.proofs.Answers.{tables-said-apart}
 use Rattle.verdict.specs.declared.Verdict.{Verdict}
 use Rattle.verdict.specs.declared.Verdict.the-variants as verdict
@@ -23,7 +23,7 @@ use Rattle.verdict.proofs.Accepted.{accepted-is-known}
 use Rattle.verdict.proofs.Rows.{rows-within}
 use Rattle.promise.specs.Paper.{FeasibleIsTheorem42}
 
--- The rows' demand is the sum of the paper's expressions.
+-- The demand of some rows is the sum of the paper's expressions.
 demand-is-the-papers : (rows : List Row) (L : ℕ) → All WithinLimits rows
     → total (λ r. rowDemandOf r L) rows ≡ total (λ (r : Row). paperDemand (r .x) (r .y) (r .d) (r .c) L) rows
 unfolding total
@@ -31,7 +31,7 @@ demand-is-the-papers [] L within = refl
 demand-is-the-papers (r ∷ rows) L within =
     ap₂ _+_ (demand-is-lemma41 (r .x) (r .y) (r .d) (r .c) L (within .0 .some-y)) (demand-is-the-papers rows L (within .1))
 
--- Of a right verdict of a table: it says feasible exactly when every length fits.
+-- A right verdict for a table says feasible exactly when every length fits.
 feasible-means : (t : Table) (v : Verdict) → RightOf t v → (verdictSays v .number ≡ 20) ↔ EveryLengthFits (tableDemand t)
 feasible-means t verdict.Feasible right = (λ _. right, λ _. refl)
 feasible-means t (verdict.Overloaded w) right =

@@ -1,6 +1,6 @@
--- Refused exactly when. Each test of a release and of a tick looks at the run, and each asks of it what the trace says too: the table is the one that was
--- started on, as many jobs are pending as are unfinished, the next serial is the number of accepted jobs, and the due time over what is kept is the paper's
--- over all accepted jobs of the row. (docs/RULES.md, sections 6 and 10.)
+-- Refused exactly when: the proof. Each test of a release and of a tick looks at the run, and the trace tells the same. The table is the one that the run was
+-- started on. As many jobs are pending as are unfinished. The next serial is the number of accepted jobs. The due time over the kept due times is the paper's
+-- over all accepted jobs of the row. (6.8, 6.16, 6.18)
 use Prim.Native.Nat.{ℕ, _≤_, _<_}
 use mathlib.Core.Path.{_≡_, refl, ap, _∙_}
 use mathlib.Core.Logic.{_↔_}
@@ -23,7 +23,7 @@ use Rattle.table.specs.Costs.{costLimits, limitOf, costAnswer}
 use Rattle.table.specs.Rows.{fromOneTo, rowInRange}
 use Rattle.table.proofs.Ranges.{in-range-of}
 use Rattle.due.specs.Kept.{earlier, dueOf}
-use Rattle.due.proofs.Laws.{due-is-the-papers}
+use Rattle.due.proofs.NewestKept.{due-is-the-papers}
 use Rattle.jobs.specs.Places.{maxPlaces, jobsOf}
 use Rattle.run.specs.declared.Run.{Run}
 use Rattle.run.specs.Runs.{rowInUse, rowAt, costLimit, keptOf}
@@ -34,26 +34,26 @@ use Rattle.run.proofs.Release.{bounded, each-release, one-test-means}
 use Rattle.run.proofs.Ticking.{counted}
 use Rattle.run.specs.Answers.{accepted, releaseSays, tickSays}
 use Rattle.run.specs.Answers as says
-use Rattle.promise.specs.Traces.{Call, Event, runAfter, eventOf, runAt, Told, told, clockOf, jobsIn, unfinishedIn}
+use Rattle.promise.specs.Traces.{Call, Event, runAfter, eventOf, runAt, Told, told, clockOf, jobsOfTrace, unfinishedIn}
 use Rattle.promise.specs.Refusals.{nextDue, releaseAnswer, ReleasesByTheTrace, TicksByTheTrace, PlacesAreEnough, Refused, RefusedChangesNothing}
-use Rattle.promise.proofs.Bridge.{Bridge}
-use Rattle.promise.proofs.BridgeHolds.{bridge}
+use Rattle.promise.proofs.RunAndTrace.{Bridge}
+use Rattle.promise.proofs.RunsFollow.{bridge}
 use Rattle.promise.proofs.Units.{sound-facts, unfinished-weigh-as-pending}
 use Rattle.promise.proofs.Ticks.{each-tick}
 
 -- ---- what a release looks at
 
--- Elements that weigh one each weigh their number.
+-- Elements that weigh 1 each weigh as much as their number.
 total-of-ones : {A : Type 0} (l : List A) → total (λ _. 1) l ≡ length l
 unfolding total
 total-of-ones [] = refl
 total-of-ones (a ∷ l) = omega (arith, total-of-ones l)
 
--- The due time of the row's next job, over what the run keeps.
+-- `dueKept` is the due time of the row's next job, over the due times that the run keeps.
 abbrev dueKept : Run → (row : ℕ) → ℕ
 dueKept run row = let r = rowAt (run .table) row in dueTime (r .x) (r .y) (r .d) (earlier (keptOf run row)) (run .clock .0)
 
--- The one test of row number and cost, in the table's own terms.
+-- The one test of row number and cost says what the table's own terms say.
 one-test : (run : Run) (row cost : ℕ) → soundOf run ≡ true → Whole run
     → costAnswer (limitOf (costLimits (run .table)) row) cost
     ≡ cond (rowInUse (run .table) row)
@@ -61,7 +61,7 @@ one-test : (run : Run) (row cost : ℕ) → soundOf run ≡ true → Whole run
     (cost-answer.Refused NoSuchRow)
 one-test run row cost sound whole = one-test-means (run .table) (bounded run sound .few-rows) (whole .all-rows) row cost
 
--- What a release of a sound run says, by its tests, of a row that is in use.
+-- A release of a row in use, on a sound run, is answered by these tests in their order.
 says-by-tests : (run : Run) (row cost : ℕ) → soundOf run ≡ true → Whole run → row < run .table .count → rowInRange (rowAt (run .table) row) ≡ true
     → releaseSays (released run row cost .answer)
     ≡ cond (fromOneTo (costLimit (run .table) row) cost)
@@ -77,7 +77,7 @@ says-by-tests run row cost sound whole in-use in-range = rw (sound, one-test run
     (λ full. rw full)))
     (λ fits-not. rw fits-not))
 
--- What it says of a row that is not in use.
+-- A release of a row that is not in use, on a sound run, is refused with 6.
 says-no-such-row : (run : Run) (row cost : ℕ) → soundOf run ≡ true → Whole run → run .table .count ≤ row
     → releaseSays (released run row cost .answer) ≡ says.ReleaseSays.refused 6 0
 unfolding released
@@ -94,22 +94,22 @@ module _ {t : Table} {run : Run} {es : List Event} (b : Bridge t run es) where
     row-in-range : rowInRange (rowAt (run .table) row) ≡ true
     row-in-range = in-range-of (rowAt (run .table) row) (sound-facts b .rows row in-use)
 
-    -- The due time over what is kept is the paper's over all accepted jobs of the row.
+    -- The due time over the kept due times is the paper's over all accepted jobs of the row.
     due-as-next : dueKept run row ≡ nextDue (run .table) es row
     due-as-next =
         let r = rowAt (run .table) row in
-        let history = dues (own row (jobsIn es)) in
+        let history = dues (own row (jobsOfTrace es)) in
         due-is-the-papers (keptOf run row) r history (run .clock .0) row-in-range (b .keeps-history .newest row in-use)
         ∙ ap (dueTime (r .x) (r .y) (r .d) history) (b .same-clock)
 
-  -- A release is answered by the trace.
+  -- A release is answered as the trace says.
   pub release-by-the-trace : (row cost : ℕ) → releaseSays (released run row cost .answer) ≡ releaseAnswer t es row cost
   release-by-the-trace row cost = rw (← b .same-table) (by-lt row (run .table .count)
       (λ in-use. says-by-tests run row cost (b .sound) (b .whole) in-use (row-in-range row in-use)
       ∙ rw (lt-ltb row (run .table .count) in-use, due-as-next row in-use, pending-count, ← b .next-serial))
       (λ unused. says-no-such-row run row cost (b .sound) (b .whole) unused ∙ rw (le-ltb row (run .table .count) unused)))
 
-  -- A tick is refused with 10 at place 0, and at the last time only.
+  -- A tick is refused only at the clock 2^40, with 10 at place 0.
   pub tick-by-the-trace : (number place : ℕ)
       → (tickSays (ticked run .answer) ≡ says.TickSays.refused number place) ↔ ((number ≡ 10) × (place ≡ 0) × (clockOf es ≡ maxTime))
   tick-by-the-trace number place =
@@ -139,11 +139,11 @@ refused-leaves-the-run run sound Call.tick =
 pub releases-by-the-trace : ReleasesByTheTrace
 releases-by-the-trace bytes ok calls = release-by-the-trace (bridge bytes ok calls)
 
--- A tick is refused after the last time only.
+-- A tick is refused exactly when 2^40 ticks have gone by.
 pub ticks-by-the-trace : TicksByTheTrace
 ticks-by-the-trace bytes ok calls = tick-by-the-trace (bridge bytes ok calls)
 
--- There is a place for every unfinished job.
+-- There are never more unfinished jobs than places.
 pub places-are-enough : PlacesAreEnough
 places-are-enough bytes ok calls = let b = bridge bytes ok calls in omega (arith, pending-count b, sound-facts b .few-pending)
 

@@ -1,5 +1,5 @@
--- A replay is a trace. Each of its ticks and releases is a call that the trace has one more of, and what the call adds to the replay its answer tells.
--- (docs/RULES.md, sections 8.1 to 8.7.)
+-- A replay is a trace: the proof. Each tick and each release of a replay is one more call of the trace, and the call's answer tells what it adds to the
+-- replay. (8.2, 8.3)
 use Prim.Native.Nat.{ℕ, zero, suc, _+_, _-_, _≤_, _<_}
 use mathlib.Core.Path.{_≡_, refl, sym, ap, subst, _∙_}
 use mathlib.Core.Logic.{_≢_}
@@ -11,7 +11,7 @@ use lib.ListN.{length}
 use borrow.Author.Tests.{eq-eqb, ne-eqb, lt-ltb}
 use Rattle.kinds.specs.Numbering.{maxTime}
 use Rattle.kinds.proofs.Apart.{impossible}
-use Rattle.numbers.specs.Laws.{Bytes}
+use Rattle.numbers.specs.SpelledNumbers.{Bytes}
 use Rattle.theory.specs.Lists.{All}
 use Rattle.theory.specs.Jobs.{Job, DistinctNames}
 use Rattle.theory.proofs.Cases.{by-test}
@@ -25,26 +25,26 @@ use Rattle.run.specs.declared.Accepted.{Accepted}
 use Rattle.run.specs.declared.Released.the-variants as release
 use Rattle.run.specs.Release.{newJob, released}
 use Rattle.run.specs.Ticking.{ticked}
-use Rattle.run.specs.Advance.{Since, finishedBy, oneMore, ticks, ticksWhilePending}
+use Rattle.run.specs.ManyTicks.{SoFar, finishedBy, oneMore, ticks, ticksWhilePending}
 use Rattle.run.specs.Answers.{ReleaseSays, accepted, releaseSays, tickSays}
 use Rattle.run.specs.Answers as says
 use Rattle.run.proofs.Release.{each-release}
 use Rattle.run.proofs.Ticking.{Good, facts}
 use Rattle.script.specs.declared.Record.{Record}
-use Rattle.script.specs.Laws.{Reads, ended, then}
-use Rattle.script.proofs.Laws.{record-is-spelled, end-is-the-length}
+use Rattle.script.specs.SpelledScripts.{Reads, ended, then}
+use Rattle.script.proofs.Scripts.{record-is-spelled, end-is-the-length}
 use Rattle.records.specs.declared.Ready.{Ready}
 use Rattle.records.specs.Numbers.{numbersAt}
 use Rattle.play.specs.Play.{Progress, begun, tickedTo, whole, finalTicks, playedFrom, played}
 use Rattle.play.proofs.SingleTicks.{tick-clock}
-use Rattle.records.proofs.Passing.{passed-is-read}
-use Rattle.play.proofs.Through.{releaseMore, Went, by-record, came-to-the-end, was-started}
-use Rattle.promise.specs.Traces.{Call, Event, runAt, eventOf, trace, Told, told, jobsIn, lateIn, finishesIn, jobOfSerial}
+use Rattle.records.proofs.ReadRecords.{passed-is-read}
+use Rattle.play.proofs.KeptThroughout.{releaseMore, Went, by-record, came-to-the-end, was-started}
+use Rattle.promise.specs.Traces.{Call, Event, runAt, eventOf, trace, Told, told, jobsOfTrace, lateIn, finishesIn, jobOfSerial}
 use Rattle.promise.specs.Link.{jobOf}
 use Rattle.promise.specs.Refusals.{Refused}
 use Rattle.promise.specs.Replays.{moreTicks, callsAfter, callsOf, ReplaysAreTraces}
-use Rattle.promise.proofs.Bridge.{Bridge}
-use Rattle.promise.proofs.BridgeHolds.{bridge}
+use Rattle.promise.proofs.RunAndTrace.{Bridge}
+use Rattle.promise.proofs.RunsFollow.{bridge}
 use Rattle.promise.proofs.Units.{pending-is-owed}
 use Rattle.promise.proofs.Ticks.{no-job-by-a-tick, each-tick}
 use Rattle.promise.proofs.Choice.{first, first-stands, first-pending}
@@ -59,7 +59,7 @@ found-by-serial j distinct (List·Memᴰ·tail {x = i} m) =
     rw (ne-eqb (i .name) (j .name) (λ e. all-at (λ (k : Job). k .name ≢ i .name) (distinct .0) m (sym e))) (found-by-serial j (distinct .1) m)
 
 module _ {t : Table} {run : Run} {es : List Event} (b : Bridge t run es) (in-time : run .clock .0 < maxTime) where
-  -- A tick's late count is added to those before.
+  -- A tick's late count is added to the late counts before.
   late-told : lateIn (eventOf run Call.tick ∷ es) ≡ lateIn es + ticked run .late
   unfolding told
   late-told = each-tick run (b .sound) (λ step. lateIn (Event.tick (tickSays (step .answer)) (step .late) ∷ es) ≡ lateIn es + step .late)
@@ -67,7 +67,7 @@ module _ {t : Table} {run : Run} {es : List Event} (b : Bridge t run es) (in-tim
       (λ h none. refl)
       (λ h some. refl)
 
-  -- What a tick finishes is recorded behind what finished before.
+  -- The job that a tick finishes is recorded behind the jobs that finished before.
   finish-told : finishesIn (eventOf run Call.tick ∷ es) ≡ finishesIn es ++ finishedBy run
   unfolding told
   finish-told = each-tick run (b .sound) (λ step. finishesIn (Event.tick (tickSays (step .answer)) (step .late) ∷ es) ≡ finishesIn es ++ finishedBy run)
@@ -75,12 +75,12 @@ module _ {t : Table} {run : Run} {es : List Event} (b : Bridge t run es) (in-tim
       (λ h none. rw none)
       (λ h some.
       let j = first b some in
-      let found : jobOfSerial (j .serial .0) (jobsIn es) ≡ jobOf j = found-by-serial (jobOf j) (b .distinct) (pending-is-owed b j (first-pending b some) .was-accepted) in
+      let found : jobOfSerial (j .serial .0) (jobsOfTrace es) ≡ jobOf j = found-by-serial (jobOf j) (b .distinct) (pending-is-owed b j (first-pending b some) .was-accepted) in
       by-test (lastUnit (firstJob (run .pending)))
       (λ last. rw (last, lt-ltb 0 (run .pending .count) some, first-stands b some, found, b .same-clock, add-one))
       (λ more. rw (more, lt-ltb 0 (run .pending .count) some)))
 
-  -- A tick before the last time is not refused.
+  -- A tick before the clock 2^40 is not refused.
   tick-not-refused : ¬ Refused (eventOf run Call.tick)
   tick-not-refused = each-tick run (b .sound) (λ step. ¬ Refused (Event.tick (tickSays (step .answer)) (step .late)))
       (λ last refused. absurd (omega arith))
@@ -89,24 +89,25 @@ module _ {t : Table} {run : Run} {es : List Event} (b : Bridge t run es) (in-tim
 
 -- ---- what a release's answer tells
 
--- A release tells of no late job, and of no finished one.
+-- A release leaves the sum of the late counts as it was.
 release-late : (row cost : ℕ) (a : ReleaseSays) (es : List Event) → lateIn (Event.release row cost a ∷ es) ≡ lateIn es
 unfolding told
 release-late row cost (accepted serial due) es = refl
 release-late row cost (says.ReleaseSays.refused number place) es = refl
 
+-- A release leaves the list of finished jobs as it was.
 release-finishes : (row cost : ℕ) (a : ReleaseSays) (es : List Event) → finishesIn (Event.release row cost a ∷ es) ≡ finishesIn es
 unfolding told
 release-finishes row cost (accepted serial due) es = refl
 release-finishes row cost (says.ReleaseSays.refused number place) es = refl
 
 module _ {t : Table} {run : Run} {es : List Event} (b : Bridge t run es) (row cost : ℕ) (a : Accepted) (e : released run row cost .answer ≡ release.Accepted a) where
-  -- An accepted release tells of its job.
-  job-told : jobsIn (eventOf run (Call.release row cost) ∷ es) ≡ jobOf (newJob run row cost (a .due)) ∷ jobsIn es
+  -- An accepted release tells about its job.
+  job-told : jobsOfTrace (eventOf run (Call.release row cost) ∷ es) ≡ jobOf (newJob run row cost (a .due)) ∷ jobsOfTrace es
   unfolding told
   job-told = each-release run row cost
       (λ step. step .answer ≡ release.Accepted a
-      → jobsIn (Event.release row cost (releaseSays (step .answer)) ∷ es) ≡ jobOf (newJob run row cost (a .due)) ∷ jobsIn es)
+      → jobsOfTrace (Event.release row cost (releaseSays (step .answer)) ∷ es) ≡ jobOf (newJob run row cost (a .due)) ∷ jobsOfTrace es)
       (λ r q. impossible cc)
       (λ due passed given q. let same : due ≡ a .due = cc in rw (same, b .same-clock))
       e
@@ -117,23 +118,23 @@ module _ {t : Table} {run : Run} {es : List Event} (b : Bridge t run es) (row co
 
 -- ---- a replay on its way
 
--- How far a replay has come is what the trace of these calls tells.
+-- A replay so far is what the trace of these calls tells.
 record Traced (t : List ℕ) (calls : List Call) (p : Progress) : Type 0 where
-  run-there : p .since .run ≡ runAt t calls
-  jobs-there : map jobOf (p .accepted) ≡ reverse (jobsIn (trace t calls))
-  late-there : p .since .late ≡ lateIn (trace t calls)
-  finishes-there : p .since .finishes ≡ finishesIn (trace t calls)
+  run-there : p .so-far .run ≡ runAt t calls
+  jobs-there : map jobOf (p .accepted) ≡ reverse (jobsOfTrace (trace t calls))
+  late-there : p .so-far .late ≡ lateIn (trace t calls)
+  finishes-there : p .so-far .finishes ≡ finishesIn (trace t calls)
   none-refused-so-far : All (λ e. ¬ Refused e) (trace t calls)
 
 module _ (t : List ℕ) (fine : Bytes t) where
-  -- A replay is traced before any call.
+  -- Before any call a replay is what the empty trace tells.
   at-the-start : Traced t [] (begun (runAt t []))
   unfolding trace told
   at-the-start = record { run-there = refl; jobs-there = refl; late-there = refl; finishes-there = refl; none-refused-so-far = tt }
 
-  module _ (calls : List Call) (s : Since) (jobs : List PendingJob) (so-far : Traced t calls (record { since = s; accepted = jobs })) where
-    -- It is traced after a tick.
-    after-a-tick : s .run .clock .0 < maxTime → Traced t (Call.tick ∷ calls) (record { since = oneMore s; accepted = jobs })
+  module _ (calls : List Call) (s : SoFar) (jobs : List PendingJob) (so-far : Traced t calls (record { so-far = s; accepted = jobs })) where
+    -- After a tick a replay is what the longer trace tells.
+    after-a-tick : s .run .clock .0 < maxTime → Traced t (Call.tick ∷ calls) (record { so-far = oneMore s; accepted = jobs })
     unfolding runAt trace
     after-a-tick in-time =
         let b = bridge t fine calls in
@@ -148,9 +149,9 @@ module _ (t : List ℕ) (fine : Bytes t) where
           none-refused-so-far = (tick-not-refused b clock, so-far .none-refused-so-far);
         }
 
-    -- It is traced after an accepted release.
+    -- After an accepted release a replay is what the longer trace tells.
     after-a-release : (row cost : ℕ) (a : Accepted) → released (s .run) row cost .answer ≡ release.Accepted a
-        → Traced t (Call.release row cost ∷ calls) (releaseMore (record { since = s; accepted = jobs }) row cost (a .due))
+        → Traced t (Call.release row cost ∷ calls) (releaseMore (record { so-far = s; accepted = jobs }) row cost (a .due))
     unfolding runAt trace
     after-a-release row cost a e =
         let b = bridge t fine calls in
@@ -168,23 +169,23 @@ module _ (t : List ℕ) (fine : Bytes t) where
 
   -- ---- many ticks
 
-  -- The run is sound all the way.
-  still-sound : (calls : List Call) (p : Progress) → Traced t calls p → Good (p .since .run)
+  -- The run of a replay is sound at every point.
+  still-sound : (calls : List Call) (p : Progress) → Traced t calls p → Good (p .so-far .run)
   still-sound calls p so-far = let b = bridge t fine calls in rw (so-far .run-there) (b .sound, b .whole)
 
   module _ (jobs : List PendingJob) where
-    -- Ticks until a record's time are so many calls more.
-    after-ticks : (n : ℕ) (calls : List Call) (s : Since) → Traced t calls (record { since = s; accepted = jobs }) → s .run .clock .0 + n ≤ maxTime
-        → Traced t (moreTicks n calls) (record { since = ticks n s; accepted = jobs })
+    -- The ticks until a record's script time are as many calls of the trace.
+    after-ticks : (n : ℕ) (calls : List Call) (s : SoFar) → Traced t calls (record { so-far = s; accepted = jobs }) → s .run .clock .0 + n ≤ maxTime
+        → Traced t (moreTicks n calls) (record { so-far = ticks n s; accepted = jobs })
     unfolding ticks moreTicks
     after-ticks zero calls s so-far room = so-far
     after-ticks (suc n) calls s so-far room =
         let one = tick-clock (s .run) (still-sound calls _ so-far) (omega arith) in
         after-ticks n (Call.tick ∷ calls) (oneMore s) (after-a-tick calls s jobs so-far (omega arith)) (omega arith)
 
-    -- The final ticks are so many calls more, however many they are.
-    after-final-ticks : (n : ℕ) (calls : List Call) (s : Since) → Traced t calls (record { since = s; accepted = jobs }) → s .run .clock .0 + n ≤ maxTime
-        → (final : ℕ) × Traced t (moreTicks final calls) (record { since = ticksWhilePending n s; accepted = jobs })
+    -- The final ticks are calls of the trace too, however many they are.
+    after-final-ticks : (n : ℕ) (calls : List Call) (s : SoFar) → Traced t calls (record { so-far = s; accepted = jobs }) → s .run .clock .0 + n ≤ maxTime
+        → (final : ℕ) × Traced t (moreTicks final calls) (record { so-far = ticksWhilePending n s; accepted = jobs })
     unfolding ticksWhilePending moreTicks
     after-final-ticks zero calls s so-far room = (0, so-far)
     after-final-ticks (suc n) calls s so-far room = by-test (eqb (s .run .pending .count) 0)
@@ -197,20 +198,20 @@ module _ (t : List ℕ) (fine : Bytes t) where
   -- ---- a script
 
   module _ (s : List ℕ) (script : Bytes s) where
-    -- From a place on, the script's records and the final ticks were played.
+    -- From a place on, the script's records and the final ticks were played, and nothing is pending.
     record PlayedOut (at : ℕ) (calls : List Call) (q : Progress) : Type 0 where
       records : List Record
       are-read : Reads s at records
       final : ℕ
       all-traced : Traced t (moreTicks final (callsAfter calls records)) q
-      nothing-pending : q .since .run .pending .count ≡ 0
+      nothing-pending : q .so-far .run .pending .count ≡ 0
 
-    -- At the script's end the final ticks alone are played.
+    -- At the script's end only the final ticks are played.
     at-its-end : (at : ℕ) (calls : List Call) (p q : Progress) → at ≡ length s → Traced t calls p → finalTicks (length s) p ≡ whole q → PlayedOut at calls q
     unfolding callsAfter
     at-its-end at calls p q end so-far e =
-        let in-time = facts (p .since .run) (still-sound calls p so-far) .clock-in-time in
-        let last = after-final-ticks (p .accepted) (maxTime - p .since .run .clock .0) calls (p .since) so-far (omega arith) in
+        let in-time = facts (p .so-far .run) (still-sound calls p so-far) .clock-in-time in
+        let last = after-final-ticks (p .accepted) (maxTime - p .so-far .run .clock .0) calls (p .so-far) so-far (omega arith) in
         let ends = came-to-the-end (length s) p q e in
         record {
           records = [];
@@ -220,28 +221,29 @@ module _ (t : List ℕ) (fine : Bytes t) where
           nothing-pending = ends .1;
         }
 
-    -- Before it one record is played, and then the rest.
+    -- Before the script's end one record is played, and then the rest.
     module _ (at : ℕ) (inside : at < length s) (calls : List Call) (p m : Progress) (next : ℕ) (so-far : Traced t calls p) (w : Went p (numbersAt s at) m next) where
-      -- The calls that lead to the place after the record.
+      -- `longer` lists the calls up to the place after the record.
       abbrev longer : List Call
       longer = Call.release (w .ready .row .0) (w .ready .cost) ∷ moreTicks (w .passed .gap .value) calls
 
       -- The record's gap is the number of ticks until its time.
-      its-gap : w .ready .time .0 - p .since .run .clock .0 ≡ w .passed .gap .value
+      its-gap : w .ready .time .0 - p .so-far .run .clock .0 ≡ w .passed .gap .value
       its-gap =
-          let time : w .ready .time .0 ≡ p .since .run .clock .0 + w .passed .gap .value = ap (λ (r : Ready). r .time .0) (w .passed .asks-for) in
+          let time : w .ready .time .0 ≡ p .so-far .run .clock .0 + w .passed .gap .value = ap (λ (r : Ready). r .time .0) (w .passed .asks-for) in
           omega arith
 
-      -- So the replay is traced after the record.
+      -- After the record the replay is what the longer trace tells.
       record-traced : Traced t longer m
       record-traced =
           let there = tickedTo (w .ready .time .0) p in
-          let in-time : p .since .run .clock .0 + w .passed .gap .value ≤ maxTime = w .passed .row-fits .gap-fits .in-time in
+          let in-time : p .so-far .run .clock .0 + w .passed .gap .value ≤ maxTime = w .passed .row-fits .gap-fits .in-time in
           let reached : Traced t (moreTicks (w .passed .gap .value) calls) there =
-          rw its-gap (after-ticks (p .accepted) (w .passed .gap .value) calls (p .since) so-far in-time) in
+          rw its-gap (after-ticks (p .accepted) (w .passed .gap .value) calls (p .so-far) so-far in-time) in
           rw (w .reached)
-          (after-a-release (moreTicks (w .passed .gap .value) calls) (there .since) (p .accepted) reached (w .ready .row .0) (w .ready .cost) (w .answer) (w .answered))
+          (after-a-release (moreTicks (w .passed .gap .value) calls) (there .so-far) (p .accepted) reached (w .ready .row .0) (w .ready .cost) (w .answer) (w .answered))
 
+      -- Where the rest of the script was played out after the record, the script was played out from the record on.
       with-record : (q : Progress) → PlayedOut next longer q → PlayedOut at calls q
       unfolding callsAfter
       with-record q rest = record {
@@ -252,7 +254,7 @@ module _ (t : List ℕ) (fine : Bytes t) where
         nothing-pending = rest .nothing-pending;
       }
 
-    -- A script with at most as many records as bytes left is played out.
+    -- A replay that comes to its end, with as many steps as bytes are left, has played out the script.
     played-out : (n at : ℕ) (calls : List Call) (p q : Progress) → at ≤ length s → length s ≤ at + n → Traced t calls p
         → playedFrom n s at p ≡ whole q → PlayedOut at calls q
     unfolding playedFrom
@@ -266,7 +268,7 @@ module _ (t : List ℕ) (fine : Bytes t) where
         with-record at inside calls p m next so-far w q
         (played-out n next (longer at inside calls p m next so-far w) m q (further .1) (omega arith) (record-traced at inside calls p m next so-far w) rest))
 
--- So a replay that comes to its end is a trace.
+-- A replay that comes to its end is a trace.
 pub replays-are-traces : ReplaysAreTraces
 unfolding runAt
 replays-are-traces t s p fine script e =

@@ -1,4 +1,5 @@
--- To serve jobs is to give each its ticks: every tick before the due time that goes to a job counts as one unit, and no other does. (docs/RULES.md, section 5.)
+-- An assignment serves jobs exactly when it gives each its ticks: every tick before the due time that goes to a job counts as one unit for it, and no other
+-- does. (1.8)
 use Prim.Native.Nat.{ℕ, zero, suc, _≤_}
 use mathlib.Core.Path.{_≡_, refl}
 use mathlib.Core.Option.{Option, none, some}
@@ -17,7 +18,7 @@ module _ (who : ℕ → Option ℕ) (n : ℕ) where
   one-unit : (t : ℕ) → who t ≡ some n → had n (who t) ≡ 1
   one-unit t e = rw (e, eq-eqb n n refl)
 
-  -- So the units that count are at least as many as the ticks.
+  -- The units that count for a job are at least as many as the ticks before its due time that go to it.
   ticks-count : (due : ℕ) (ticks : List ℕ) → LatestFirst due ticks → All (λ t. who t ≡ some n) ticks → length ticks ≤ unitsBy due who n
   unfolding unitsBy
   ticks-count zero [] before given = omega arith
@@ -27,19 +28,19 @@ module _ (who : ℕ → Option ℕ) (n : ℕ) where
       (λ e. omega (arith, one-unit due (rw e at (given .0)), ticks-count due ticks (rw e at (before .1)) (given .1)))
       (λ e. omega (arith, ticks-count due (t ∷ ticks) (omega (arith, before .0), before .1) given))
 
-  -- The ticks before a time that go to the job, one for each unit that counts.
+  -- These are the ticks before a time that go to the job, one for each unit that counts.
   record TicksOf (due : ℕ) : Type 0 where
     ticks : List ℕ
     before : LatestFirst due ticks
     given : All (λ t. who t ≡ some n) ticks
     each-counts : length ticks ≡ unitsBy due who n
 
-  -- What comes before a time comes before a later one.
+  -- Ticks that come before a time come before a later one.
   one-later : (due : ℕ) (ticks : List ℕ) → LatestFirst due ticks → LatestFirst (suc due) ticks
   one-later due [] before = tt
   one-later due (t ∷ ticks) before = (omega (arith, before .0), before .1)
 
-  -- One tick more: it goes to the job, or it does not count.
+  -- One more tick goes to the job, or it does not count.
   with-tick : (t : ℕ) → TicksOf t → (o : Option ℕ) → who t ≡ o → TicksOf (suc t)
   unfolding unitsBy
   with-tick t f none e = record { ticks = f .ticks; before = one-later t (f .ticks) (f .before); given = f .given; each-counts = rw e (omega (arith, f .each-counts)) }
@@ -57,12 +58,13 @@ module _ (who : ℕ → Option ℕ) (n : ℕ) where
         each-counts = rw (e, ne-eqb m n q) (omega (arith, f .each-counts));
       })
 
+  -- For each due time there is a list of the ticks before it that go to the job.
   ticks-of : (due : ℕ) → TicksOf due
   unfolding unitsBy
   ticks-of zero = record { ticks = []; before = tt; given = tt; each-counts = refl }
   ticks-of (suc t) = with-tick t (ticks-of t) (who t) refl
 
--- Each job that is served is given its ticks, and each that is given its ticks has its cost.
+-- A job that is served is given its ticks, and a job that is given its ticks has its cost.
 pub served-means-given-ticks : ServedMeansGivenTicks
 served-means-given-ticks who js = (
   all-imply (λ j had-it.

@@ -1,5 +1,5 @@
--- A script that a replay ends in 22 was served in time: the replay is a trace, on a feasible table every job of a trace had its cost before its due time, and
--- the log was written from the trace's finished jobs. (docs/RULES.md, sections 8 and 9.)
+-- A script whose replay ends in 22 was served in time. The replay is a trace, on a feasible table every job of a trace had its cost before its due time, and
+-- the log was written from the trace's finished jobs. (6.26, 8.8, 9.5)
 use Prim.Native.Nat.{ℕ, _-_}
 use mathlib.Core.Path.{_≡_, refl, sym, ap, subst, _∙_}
 use mathlib.Core.List.{List, [], _∷_, _++_, map, reverse, List·Memᴰ}
@@ -7,26 +7,26 @@ use native.Mathlib.Omega.{arith}
 use lib.Dec.{leb, eqb}
 use lib.ListN.{length, drop, length-map, length-reverse}
 use Rattle.kinds.proofs.Numbering.{no-answer}
-use Rattle.numbers.specs.Laws.{Bytes}
+use Rattle.numbers.specs.SpelledNumbers.{Bytes}
 use Rattle.theory.specs.Jobs.{Job}
 use Rattle.theory.proofs.Cases.{by-lt, by-test, by-eq}
 use Rattle.jobs.specs.declared.Job.{Job as PendingJob}
 use Rattle.script.specs.declared.Record.{Record}
-use Rattle.script.proofs.Laws.{read-in-one-way}
-use Rattle.log.specs.Laws.{spelledLog}
+use Rattle.script.proofs.Scripts.{read-in-one-way}
+use Rattle.log.specs.SpelledLogs.{spelledLog}
 use Rattle.replay.specs.declared.Replayed.the-variants as replayed
 use Rattle.play.specs.Play.{Progress, Played, whole, stopped, played}
 use Rattle.play.specs.Late.{lateFinishes}
-use Rattle.replay.specs.Outcome.{answerOf, replayOf, replaySays, logLeft}
-use Rattle.play.specs.Laws.{AskedFor}
-use Rattle.play.proofs.Laws.{every-record-is-accepted}
+use Rattle.replay.specs.Outcome.{replayOutcome, replayOf, replaySays, logLeft}
+use Rattle.play.specs.LogRecords.{AskedFor}
+use Rattle.play.proofs.WholePlays.{every-record-is-accepted}
 use Rattle.host.specs.Answer.{answerLength}
 use Rattle.host.proofs.Answering.{replay-of-another-size, replay-of-sixteen}
-use Rattle.promise.specs.Traces.{Call, trace, clockOf, jobsIn, unfinishedIn}
+use Rattle.promise.specs.Traces.{Call, trace, clockOf, jobsOfTrace, unfinishedIn}
 use Rattle.promise.specs.Link.{jobOf}
-use Rattle.promise.specs.InTime.{SaidFeasible, unitsBefore}
+use Rattle.promise.specs.InTime.{SaidFeasible, unitsOfTraceBefore}
 use Rattle.promise.specs.Replays.{callsOf, IsTheTrace, ServedInTime, ServedInTimeAtHostCalls}
-use Rattle.promise.proofs.BridgeHolds.{bridge}
+use Rattle.promise.proofs.RunsFollow.{bridge}
 use Rattle.promise.proofs.Choice.{none-pending}
 use Rattle.promise.proofs.Refusals.{pending-count}
 use Rattle.promise.proofs.Share.{share}
@@ -36,9 +36,9 @@ use Rattle.promise.proofs.Replays.{replays-are-traces}
 
 -- ---- the jobs of a trace that ends with none unfinished
 
--- Each had its cost before its due time, whether the clock came there or not.
+-- Where no accepted job is unfinished, each had its cost before its due time, whether or not the clock has come there.
 had-before-due : (bytes : List ℕ) → Bytes bytes → SaidFeasible bytes → (calls : List Call) → unfinishedIn (trace bytes calls) ≡ 0
-    → (j : Job) → List·Memᴰ j (jobsIn (trace bytes calls)) → unitsBefore (j .due) (j .name) (trace bytes calls) ≡ j .cost
+    → (j : Job) → List·Memᴰ j (jobsOfTrace (trace bytes calls)) → unitsOfTraceBefore (j .due) (j .name) (trace bytes calls) ≡ j .cost
 had-before-due bytes fine said calls none j m = by-lt (clockOf (trace bytes calls)) (j .due)
     (λ early.
     let b = bridge bytes fine calls in
@@ -46,7 +46,7 @@ had-before-due bytes fine said calls none j m = by-lt (clockOf (trace bytes call
     rw no-more (none-pending b (pending-count b ∙ none) j m))
     (λ due. in-time-before-due bytes fine said calls j m due)
 
--- Jobs that records ask for are as many as the records.
+-- The jobs that some records ask for are as many as the records.
 as-many-as-asked : (time : ℕ) (rs : List Record) (js : List PendingJob) → AskedFor time rs js → length js ≡ length rs
 as-many-as-asked time [] [] asked = refl
 as-many-as-asked time [] (j ∷ js) asked = absurd asked
@@ -55,18 +55,19 @@ as-many-as-asked time (r ∷ rs) (j ∷ js) asked = omega (arith, as-many-as-ask
 
 -- ---- a replay that ends in 22
 
--- It came to its end, and its log had room.
+-- A replay that ends in 22 came to its end, and its log had room.
 record EndsIn22 (table script : List ℕ) (room : ℕ) : Type 0 where
   progress : Progress
   came-to-its-end : played table script ≡ whole progress
-  answered : replayOf table script room ≡ replayed.InTime (length (spelledLog (progress .since .finishes)))
+  answered : replayOf table script room ≡ replayed.InTime (length (spelledLog (progress .so-far .finishes)))
 
+-- A replay whose number is 22 came to its end, and its log had room.
 ends-in-22 : (table script : List ℕ) (room : ℕ) → replaySays (replayOf table script room) .number ≡ 22 → EndsIn22 table script room
 ends-in-22 table script room said = by-play (played table script) refl said
   where
-    by-play : (p : Played) → played table script ≡ p → replaySays (answerOf room (length script) p) .number ≡ 22 → EndsIn22 table script room
+    by-play : (p : Played) → played table script ≡ p → replaySays (replayOutcome room (length script) p) .number ≡ 22 → EndsIn22 table script room
     by-play (whole p) e n =
-        let fs = p .since .finishes in
+        let fs = p .so-far .finishes in
         by-test (leb (length (spelledLog fs)) room)
         (λ fits. by-test (eqb (lateFinishes fs) 0)
         (λ none. record { progress = p; came-to-its-end = e; answered = rw (e, fits, none) })
@@ -75,12 +76,12 @@ ends-in-22 table script room said = by-play (played table script) refl said
     by-play (stopped r) e n = absurd (no-answer (r .refusal) (omega arith) (omega arith))
 
 module _ (table script : List ℕ) (fine : Bytes table) (fine′ : Bytes script) (said : SaidFeasible table) (log : List ℕ) where
-  -- The log holds the jobs that finished.
+  -- The log has the finished jobs, and the bytes past them stay as they were.
   log-left : (end : EndsIn22 table script (length log))
-      → let spelled = spelledLog (end .progress .since .finishes) in logLeft table script log ≡ spelled ++ drop (length spelled) log
+      → let spelled = spelledLog (end .progress .so-far .finishes) in logLeft table script log ≡ spelled ++ drop (length spelled) log
   log-left end = rw (end .answered, end .came-to-its-end)
 
-  -- So the script was served in time.
+  -- A script whose replay ends in 22 was served in time.
   served-in-time : EndsIn22 table script (length log) → ServedInTime table script log (logLeft table script log)
   served-in-time end =
       let p = end .progress in
@@ -88,7 +89,7 @@ module _ (table script : List ℕ) (fine : Bytes table) (fine′ : Bytes script)
       let calls = callsOf (is .records) (is .final) in
       let asked = every-record-is-accepted table script p fine fine′ (end .came-to-its-end) in
       let same-records : asked .0 ≡ is .records = read-in-one-way script 0 (asked .0) (is .records) (asked .1) (is .are-read) in
-      let many : length (map jobOf (p .accepted)) ≡ length (reverse (jobsIn (trace table calls))) = ap length (is .same-jobs) in
+      let many : length (map jobOf (p .accepted)) ≡ length (reverse (jobsOfTrace (trace table calls))) = ap length (is .same-jobs) in
       record {
         records = is .records;
         are-read = is .are-read;
@@ -98,7 +99,7 @@ module _ (table script : List ℕ) (fine : Bytes table) (fine′ : Bytes script)
           arith,
           many,
           length-map (p .accepted) jobOf,
-          length-reverse (jobsIn (trace table calls)),
+          length-reverse (jobsOfTrace (trace table calls)),
           as-many-as-asked 0 (asked .0) (p .accepted) (asked .2),
           ap length same-records,
         );
@@ -107,6 +108,7 @@ module _ (table script : List ℕ) (fine : Bytes table) (fine′ : Bytes script)
         its-log = subst (λ fs. logLeft table script log ≡ spelledLog fs ++ drop (length (spelledLog fs)) log) (is .same-finishes) (log-left end);
       }
 
+-- Where the call `verdict` returns 20 and the call `replay` returns 22, the script was served in time.
 pub served-in-time-at-host-calls : ServedInTimeAtHostCalls
 served-in-time-at-host-calls table script fine fine′ lent written feasible log answer after left leaves = by-eq (length answer) answerLength
     (λ sixteen.

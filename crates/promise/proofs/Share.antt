@@ -1,5 +1,5 @@
--- Share is proved: the accepted jobs of each row come by the rule of due times, so that in any window they cost no more than the row's demand, whatever the
--- other rows release; and no job is ever given more units than its cost. (docs/RULES.md, section 5.)
+-- Share: the proof. The accepted jobs of each row come by the rule of due times, so in any window they cost no more than the row's demand, whatever the other
+-- rows release. No job is ever given more units than its cost. (5.12)
 use Prim.Native.Nat.{ℕ, _≤_, _<_}
 use mathlib.Core.Path.{refl}
 use mathlib.Core.List.{List, [], _∷_, List·Memᴰ, List·Memᴰ·head, List·Memᴰ·tail}
@@ -19,13 +19,13 @@ use Rattle.verdict.specs.Demand.{rowDemandOf}
 use Rattle.verdict.proofs.Rows.{row-within}
 use Rattle.run.specs.declared.Run.{Run}
 use Rattle.run.specs.Runs.{rowAt}
-use Rattle.promise.specs.Traces.{Event, jobsIn, unitsOf}
+use Rattle.promise.specs.Traces.{Event, jobsOfTrace, unitsOf}
 use Rattle.promise.specs.Share.{costsIn, consumedIn, Share, NoDemandInNoTime}
-use Rattle.promise.proofs.Bridge.{Bridge}
-use Rattle.promise.proofs.BridgeHolds.{bridge}
+use Rattle.promise.proofs.RunAndTrace.{Bridge}
+use Rattle.promise.proofs.RunsFollow.{bridge}
 use Rattle.promise.proofs.Units.{never-more-units}
 
--- What every job of a list has, every job of a source has.
+-- What holds for every job of a list holds for every job of one source in it.
 all-own : (P : Job → Type 0) (i : ℕ) (js : List Job) → All P js → All P (own i js)
 unfolding own
 all-own P i [] h = tt
@@ -33,7 +33,7 @@ all-own P i (j ∷ js) h = by-eq (j .source) i
     (λ e. rw (own-of-it i j js e) (h .0, all-own P i js (h .1)))
     (λ e. rw (own-of-another i j js e) (all-own P i js (h .1)))
 
--- A job is one of its own source's.
+-- A job is among the jobs of its own source.
 pub own-member : (j : Job) {js : List Job} → List·Memᴰ j js → List·Memᴰ j (own (j .source) js)
 unfolding own
 own-member j (List·Memᴰ·head {xs = js} e) = rw (← e, own-of-it (j .source) j js refl) (List·Memᴰ·head refl)
@@ -43,35 +43,35 @@ own-member j (List·Memᴰ·tail {x = i} {xs = js} m) = by-eq (i .source) (j .so
 
 module _ {t : Table} {run : Run} {es : List Event} (b : Bridge t run es) where
   -- In every window the accepted jobs of a row in use cost at most its demand.
-  pub row-share : (row : ℕ) → row < t .count → BoundedBy (rowDemandOf (rowAt t row)) (own row (jobsIn es))
+  pub row-share : (row : ℕ) → row < t .count → BoundedBy (rowDemandOf (rowAt t row)) (own row (jobsOfTrace es))
   row-share row h =
       let limits = row-within (b .table-in-range) row h in
       let r = rowAt t row in
-      row-is-bounded (r .x) (r .y) (r .d) (r .c) (own row (jobsIn es)) (limits .some-x) (limits .some-y) (b .by-rule row h)
+      row-is-bounded (r .x) (r .y) (r .d) (r .c) (own row (jobsOfTrace es)) (limits .some-x) (limits .some-y) (b .by-rule row h)
 
-  -- They are given no more units than they cost.
+  -- The jobs of a row in a window are given no more units than they cost.
   consumed-at-most-costs : (from to row : ℕ) → consumedIn from to row es ≤ costsIn from to row es
   unfolding weighed
   consumed-at-most-costs from to row =
       let its-units : Job → ℕ = λ j. unitsOf (j .name) es in
       let its-cost : Job → ℕ = λ j. j .cost in
-      let few = all-own (λ j. its-units j ≤ its-cost j) row (jobsIn es) (all-of-members (jobsIn es) (never-more-units b)) in
-      total-monotone (weightIf (within from to) its-units) (weightIf (within from to) its-cost) (own row (jobsIn es))
+      let few = all-own (λ j. its-units j ≤ its-cost j) row (jobsOfTrace es) (all-of-members (jobsOfTrace es) (never-more-units b)) in
+      total-monotone (weightIf (within from to) its-units) (weightIf (within from to) its-cost) (own row (jobsOfTrace es))
       (all-imply
       (λ j h. by-test (within from to j)
       (λ inside. omega (arith, weight-if (within from to) its-units j inside, weight-if (within from to) its-cost j inside))
       (λ outside. omega (arith, weight-unless (within from to) its-units j outside)))
-      (own row (jobsIn es))
+      (own row (jobsOfTrace es))
       few)
 
--- In any window a row's jobs cost at most its demand, and are given no more units than that.
+-- In any window a row's jobs cost at most its demand, and are given at most as many units.
 pub share : Share
 share bytes ok calls row in-use from to h =
     let b = bridge bytes ok calls in
     let costs-fit = row-share b row in-use from to h in
     (costs-fit, le-trans (consumed-at-most-costs b from to row) costs-fit)
 
--- In no time no row has any demand.
+-- In a window of no length no row has any demand.
 pub no-demand-in-no-time : NoDemandInNoTime
 no-demand-in-no-time bytes ok row in-use =
     let r = rowAt (tableRead bytes .table) row in

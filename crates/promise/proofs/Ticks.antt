@@ -1,5 +1,5 @@
--- A tick of a sound run has three answers: refused (10) at the last clock, idle where nothing is pending, and else it ran the job that goes first.
--- (docs/RULES.md, sections 6.10 to 6.16.)
+-- A tick of a sound run has three answers. It is refused with 10 at the clock 2^40. Else it is idle where nothing is pending, and where something is pending it
+-- ran the job that goes first. (6.12, 6.16)
 use Prim.Native.Nat.{ℕ, _≤_, _<_}
 use mathlib.Core.Path.{_≡_, refl}
 use mathlib.Core.Bool.{true}
@@ -15,22 +15,22 @@ use Rattle.run.specs.Ticking.{refusedTick, idleTick, busyTick, ticked}
 use Rattle.run.specs.Answers.{ReleaseSays, accepted, TickSays, idle, ran}
 use Rattle.run.specs.Answers as says
 use Rattle.run.proofs.Ticking.{tick-too-late, tick-idle, tick-busy}
-use Rattle.promise.specs.Traces.{Event, told, clockOf, jobsIn}
+use Rattle.promise.specs.Traces.{Event, told, clockOf, jobsOfTrace}
 
--- Whatever it is answered, a tick tells of no job.
-pub no-job-by-a-tick : (a : TickSays) (late : ℕ) (es : List Event) → jobsIn (Event.tick a late ∷ es) ≡ jobsIn es
+-- A tick tells about no job, whatever its answer is.
+pub no-job-by-a-tick : (a : TickSays) (late : ℕ) (es : List Event) → jobsOfTrace (Event.tick a late ∷ es) ≡ jobsOfTrace es
 unfolding told
 no-job-by-a-tick idle late es = refl
 no-job-by-a-tick (ran serial fin) late es = refl
 no-job-by-a-tick (says.TickSays.refused number place) late es = refl
 
--- Whatever it is answered, a release tells of no tick.
+-- A release tells about no tick, whatever its answer is.
 pub no-tick-by-a-release : (row cost : ℕ) (a : ReleaseSays) (es : List Event) → clockOf (Event.release row cost a ∷ es) ≡ clockOf es
 unfolding told
 no-tick-by-a-release row cost (accepted serial due) es = refl
 no-tick-by-a-release row cost (says.ReleaseSays.refused number place) es = refl
 
--- What holds of each of the three, where it is given, holds of the tick.
+-- What holds for each of the three answers, where it is given, holds for the tick.
 pub each-tick : (run : Run) → soundOf run ≡ true → (P : TickStep → Type 0)
     → (maxTime ≤ run .clock .0 → P (refusedTick run TimeTooLate))
     → (run .clock .0 < maxTime → run .pending .count ≡ 0 → P (idleTick run))

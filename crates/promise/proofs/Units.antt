@@ -1,5 +1,5 @@
 -- Units. An accepted job that has had fewer units than its cost is a pending one, and conversely. So a sum over the unfinished accepted jobs is the same sum
--- over the pending ones. (docs/RULES.md, sections 1.7, 6.1 and 6.26.)
+-- over the pending ones. (1.7)
 use Prim.Native.Nat.{ℕ, _+_, _≤_}
 use mathlib.Core.Path.{_≡_, refl, sym, ap, subst, _∙_}
 use mathlib.Core.Logic.{_≢_}
@@ -21,23 +21,23 @@ use Rattle.table.proofs.Ranges.{both-true}
 use Rattle.jobs.specs.declared.Job.{Job as PendingJob}
 use Rattle.jobs.specs.Places.{jobsOf}
 use Rattle.jobs.specs.Serials.{hasNot, distinctSerials}
-use Rattle.jobs.proofs.Laws.{distinct-means}
+use Rattle.jobs.proofs.Changes.{distinct-means}
 use Rattle.run.specs.declared.Run.{Run}
 use Rattle.run.specs.Sound.{Sound}
 use Rattle.run.proofs.Ticking.{facts}
-use Rattle.promise.specs.Traces.{Event, jobsIn, ticksOf, unitsOf, unfinished}
+use Rattle.promise.specs.Traces.{Event, jobsOfTrace, ticksOf, unitsOf, unfinished}
 use Rattle.promise.specs.Link.{jobOf, waitingOf, waitingIn}
-use Rattle.promise.proofs.Bridge.{Bridge}
+use Rattle.promise.proofs.RunAndTrace.{Bridge}
 
 -- ---- sums
 
--- A sum of sums can be taken either way round.
+-- A sum of sums can be taken in either order.
 sums-either-way : {A B : Type 0} (f : A → B → ℕ) (l : List A) (m : List B) → total (λ a. total (f a) m) l ≡ total (λ b. total (λ a. f a b) l) m
 unfolding total
 sums-either-way f [] m = sym (total-zero (λ b. 0) m (all-of (λ b. refl) m))
 sums-either-way f (a ∷ l) m = omega (arith, sums-either-way f l m, total-plus (f a) (λ b. total (λ c. f c b) l) m)
 
--- Where each member weighs the same by v and by w, so do all of them.
+-- Where each member weighs the same by v and by w, the sums are the same.
 pub total-same : {A : Type 0} (v w : A → ℕ) (l : List A) → All (λ a. v a ≡ w a) l → total v l ≡ total w l
 unfolding total
 total-same v w [] h = refl
@@ -67,9 +67,9 @@ at-most-one-pending s (p ∷ ps) h =
 
 -- ---- what waits is unfinished
 
--- A pending job was accepted, and has had all but what it has left, which is not nothing.
+-- A pending job was accepted, and has had its cost in units except for those that it has left, which are at least one.
 pub record Owed (es : List Event) (p : PendingJob) : Type 0 where
-  pub was-accepted : List·Memᴰ (jobOf p) (jobsIn es)
+  pub was-accepted : List·Memᴰ (jobOf p) (jobsOfTrace es)
   pub some-left : 1 ≤ p .left
   pub had-the-rest : unitsOf (p .serial .0) es + p .left ≡ p .cost
 
@@ -80,27 +80,27 @@ pub record IsPending (run : Run) (j : Job) : Type 0 where
   pub its-own : jobOf place ≡ j
 
 module _ {t : Table} {run : Run} {es : List Event} (b : Bridge t run es) where
-  -- What a sound run has.
+  -- The facts of a sound run hold at every point.
   pub sound-facts : Sound run
   sound-facts = facts run (b .sound, b .whole)
 
   -- No accepted job has had more than its cost.
-  pub never-more-units : (j : Job) → List·Memᴰ j (jobsIn es) → unitsOf (j .name) es ≤ j .cost
+  pub never-more-units : (j : Job) → List·Memᴰ j (jobsOfTrace es) → unitsOf (j .name) es ≤ j .cost
   never-more-units j m =
       all-at (λ (i : Job). unitsOf (i .name) es ≤ i .cost) (never-more-than-its-cost (b .follows .events) (b .distinct)) m
 
-  -- What is pending is owed.
+  -- Every pending job was accepted and has units left.
   pub pending-is-owed : (p : PendingJob) → List·Memᴰ p (jobsOf (run .pending)) → Owed es p
   pending-is-owed p m =
-      let a = all-at (Accounted (jobsIn es) (ticksOf es)) (waiting-are-accounted (b .follows .events) (b .distinct)) (Memᴰ·map waitingOf m) in
+      let a = all-at (Accounted (jobsOfTrace es) (ticksOf es)) (waiting-are-accounted (b .follows .events) (b .distinct)) (Memᴰ·map waitingOf m) in
       record { was-accepted = a .was-accepted; some-left = a .some-left; had-the-rest = a .had-the-rest }
 
-  -- So a pending job is unfinished.
+  -- A pending job is unfinished.
   pub pending-is-unfinished : (p : PendingJob) → List·Memᴰ p (jobsOf (run .pending)) → unfinished es (jobOf p) ≡ true
   pending-is-unfinished p m = let o = pending-is-owed p m in lt-ltb (unitsOf (p .serial .0) es) (p .cost) (omega arith)
 
   -- An unfinished accepted job is pending.
-  pub unfinished-is-pending : (j : Job) → List·Memᴰ j (jobsIn es) → unfinished es j ≡ true → IsPending run j
+  pub unfinished-is-pending : (j : Job) → List·Memᴰ j (jobsOfTrace es) → unfinished es j ≡ true → IsPending run j
   unfinished-is-pending j m h = by-fate (all-at _ (every-job-has-its-fate (b .follows .events) (b .distinct)) m)
     where
       by-fate : Fate j (waitingIn run) (ticksOf es) [] → IsPending run j
@@ -110,8 +110,8 @@ module _ {t : Table} {run : Run} {es : List Event} (b : Bridge t run es) where
       by-fate (over (served e)) = absurd (omega (arith, e, ltb-true (unitsOf (j .name) es) (j .cost) h))
       by-fate (over (ended u)) = absurd (List·Memᴰ·not-nil (u .among))
 
-  -- The others have had their cost.
-  pub finished-had-its-cost : (j : Job) → List·Memᴰ j (jobsIn es) → unfinished es j ≡ false → unitsOf (j .name) es ≡ j .cost
+  -- An accepted job that is not unfinished has had exactly its cost.
+  pub finished-had-its-cost : (j : Job) → List·Memᴰ j (jobsOfTrace es) → unfinished es j ≡ false → unitsOf (j .name) es ≡ j .cost
   finished-had-its-cost j m h = omega (arith, never-more-units j m, ltb-false (unitsOf (j .name) es) (j .cost) h)
 
   -- ---- sums over the unfinished
@@ -121,19 +121,19 @@ module _ {t : Table} {run : Run} {es : List Event} (b : Bridge t run es) where
   serials-apart = distinct-means (jobsOf (run .pending)) .1 (sound-facts .apart)
 
   -- No pending job has the serial of a finished one.
-  not-its : (j : Job) → List·Memᴰ j (jobsIn es) → unfinished es j ≡ false → (p : PendingJob) → List·Memᴰ p (jobsOf (run .pending)) → j .name ≢ p .serial .0
+  not-its : (j : Job) → List·Memᴰ j (jobsOfTrace es) → unfinished es j ≡ false → (p : PendingJob) → List·Memᴰ p (jobsOf (run .pending)) → j .name ≢ p .serial .0
   not-its j m h p k e =
       let same : jobOf p ≡ j = one-job-a-name (b .distinct) (pending-is-owed p k .was-accepted) m (sym e) in
       let open-still : unfinished es j ≡ true = subst (λ i. unfinished es i ≡ true) same (pending-is-unfinished p k) in
       impossible cc
 
   module _ (w : Job → ℕ) where
-    -- What an accepted job weighs for a pending one: its weight, if it has the serial of that.
+    -- `shared` is the weight of an accepted job where the pending job has its serial, and else 0.
     abbrev shared : Job → PendingJob → ℕ
     shared j p = weightIf (λ q. eqb (j .name) (q .serial .0)) (λ _. w j) p
 
-    -- For all pending jobs together an accepted job weighs what it should if it is unfinished, and else nothing.
-    weight-of-accepted : (j : Job) → List·Memᴰ j (jobsIn es) → weightIf (unfinished es) w j ≡ total (shared j) (jobsOf (run .pending))
+    -- Summed over the pending jobs, an accepted job weighs its weight where it is unfinished, and else nothing.
+    weight-of-accepted : (j : Job) → List·Memᴰ j (jobsOfTrace es) → weightIf (unfinished es) w j ≡ total (shared j) (jobsOf (run .pending))
     weight-of-accepted j m =
         let its : PendingJob → Bool = λ p. eqb (j .name) (p .serial .0) in
         by-test (unfinished es j)
@@ -145,16 +145,16 @@ module _ {t : Table} {run : Run} {es : List Event} (b : Bridge t run es) where
         (λ h. weight-unless (unfinished es) w j h ∙ sym (none-passes its (λ _. w j) (jobsOf (run .pending))
         (all-of-members (jobsOf (run .pending)) (λ p k. ne-eqb (j .name) (p .serial .0) (not-its j m h p k)))))
 
-    -- For one pending job all accepted jobs together weigh what that job does.
-    weight-of-pending : (p : PendingJob) → List·Memᴰ p (jobsOf (run .pending)) → total (λ j. shared j p) (jobsIn es) ≡ w (jobOf p)
+    -- Summed over the accepted jobs, a pending job weighs its weight.
+    weight-of-pending : (p : PendingJob) → List·Memᴰ p (jobsOf (run .pending)) → total (λ j. shared j p) (jobsOfTrace es) ≡ w (jobOf p)
     unfolding weighed
     weight-of-pending p m =
-        the-only-one (named (p .serial .0)) w (at-most-one-named (p .serial .0) (jobsIn es) (b .distinct)) (pending-is-owed p m .was-accepted)
+        the-only-one (named (p .serial .0)) w (at-most-one-named (p .serial .0) (jobsOfTrace es) (b .distinct)) (pending-is-owed p m .was-accepted)
         (eq-eqb (p .serial .0) (p .serial .0) refl)
 
-    -- So the unfinished accepted jobs weigh what the pending ones do.
-    pub unfinished-weigh-as-pending : total (weightIf (unfinished es) w) (jobsIn es) ≡ total (λ p. w (jobOf p)) (jobsOf (run .pending))
+    -- The unfinished accepted jobs weigh as much as the pending ones.
+    pub unfinished-weigh-as-pending : total (weightIf (unfinished es) w) (jobsOfTrace es) ≡ total (λ p. w (jobOf p)) (jobsOf (run .pending))
     unfinished-weigh-as-pending =
-        total-same _ _ (jobsIn es) (all-of-members (jobsIn es) weight-of-accepted)
-        ∙ sums-either-way shared (jobsIn es) (jobsOf (run .pending))
+        total-same _ _ (jobsOfTrace es) (all-of-members (jobsOfTrace es) weight-of-accepted)
+        ∙ sums-either-way shared (jobsOfTrace es) (jobsOf (run .pending))
         ∙ total-same _ _ (jobsOf (run .pending)) (all-of-members (jobsOf (run .pending)) weight-of-pending)

@@ -1,5 +1,5 @@
--- What waits: the pending jobs in the theory's terms, and the theory's trace one event longer. A job that is put in comes last; one that gets a unit leaves its
--- place, or goes back to it with one unit less to get. (docs/RULES.md, sections 6.7 and 6.10 to 6.13.)
+-- Waiting jobs: the pending jobs in the theory's terms, and the theory's trace one event longer. A job that is put in comes last. A job that gets a unit leaves
+-- its place, or goes back to it with one unit less to get. (6.7, 6.10, 6.13)
 use Prim.Native.Nat.{ℕ, zero, suc, _-_, _≤_, _<_, suc-le-suc}
 use mathlib.Core.Path.{_≡_, refl}
 use mathlib.Core.Bool.{Bool}
@@ -11,13 +11,13 @@ use lib.ListN.{length, set, getD}
 use borrow.Author.Tests.{le-leb, lt-leb}
 use Rattle.theory.specs.Lists.{All, Insert, here, there}
 use Rattle.theory.specs.Jobs.{Job}
-use Rattle.theory.specs.Trace.{Waiting, Onward, done, on, accept, serve, EarliestDueFirst, NeverIdlesInVain}
+use Rattle.theory.specs.Trace.{Waiting, Onward, done, on, accept, serve, ServesEarliestDue, NeverIdlesInVain}
 use Rattle.theory.specs.Trace as theory
 use Rattle.jobs.specs.declared.Job.{Job as PendingJob}
 use Rattle.jobs.specs.declared.Pending.{Pending}
 use Rattle.jobs.specs.Places.{noJob, jobsOf, without}
 use Rattle.jobs.specs.Units.{worked}
-use Rattle.jobs.specs.Laws.{IsFirst, unitAt}
+use Rattle.jobs.specs.JobChanges.{IsFirst, unitAt}
 use Rattle.run.specs.declared.Run.{Run}
 use Rattle.run.specs.Ticking.{runWith}
 use Rattle.run.specs.Answers.{accepted, idle, ran}
@@ -28,42 +28,42 @@ use Rattle.promise.specs.Link.{waitingOf, waitingIn, Follows}
 -- ---- an element and its place
 
 module _ {A : Type 0} where
-  -- What comes last is put in.
+  -- A list with an element behind it is the list with that element put in.
   insert-last : (a : A) (l : List A) → Insert a l (l ++ (a ∷ []))
   insert-last a [] = here
   insert-last a (b ∷ l) = there (insert-last a l)
 
-  -- What stands at a place was put in there.
+  -- The element at a place is put into the list without it.
   insert-at : (d : A) (l : List A) (i : ℕ) → i < length l → Insert (getD l i d) (without l i) l
   insert-at d [] i h = absurd (not-suc-le-zero h)
   insert-at d (a ∷ l) zero h = here
   insert-at d (a ∷ l) (suc i) h = there (insert-at d l i (le-of-suc-le-suc h))
 
-  -- What takes its place is put in there.
+  -- An element that replaces the one at a place is put into the list without that one.
   insert-set : (a : A) (l : List A) (i : ℕ) → i < length l → Insert a (without l i) (set l i a)
   insert-set a [] i h = absurd (not-suc-le-zero h)
   insert-set a (b ∷ l) zero h = here
   insert-set a (b ∷ l) (suc i) h = there (insert-set a l i (le-of-suc-le-suc h))
 
-  -- What holds at every place holds of every element.
+  -- What holds at every place of a list holds for every element.
   all-of-places : (P : A → Type 0) (d : A) (l : List A) → ((i : ℕ) → i < length l → P (getD l i d)) → All P l
   all-of-places P d [] f = tt
   all-of-places P d (a ∷ l) f = (f 0 (omega arith), all-of-places P d l (λ i h. f (suc i) (suc-le-suc h)))
 
 module _ {A B : Type 0} (f : A → B) where
-  -- An element that is put in is so in other terms.
+  -- An element that is put into a list is put in after both are mapped.
   insert-map : {a : A} {l m : List A} → Insert a l m → Insert (f a) (map f l) (map f m)
   insert-map here = here
   insert-map (there i) = there (insert-map i)
 
-  -- What every element has in other terms, every element in these terms has.
+  -- What holds for the image of every element holds for every element of the mapped list.
   all-map : (P : B → Type 0) (l : List A) → All (λ a. P (f a)) l → All P (map f l)
   all-map P [] h = tt
   all-map P (a ∷ l) h = (h .0, all-map P l (h .1))
 
 -- ---- what waits
 
--- A pending job that is put in comes last among what waits.
+-- A pending job that is put in comes last among the jobs that wait.
 waits-last : (js : List PendingJob) (j : PendingJob) → Insert (waitingOf j) (map waitingOf js) (map waitingOf (js ++ (j ∷ [])))
 waits-last js j = rw map-append (insert-last (waitingOf j) (map waitingOf js))
 
@@ -72,21 +72,22 @@ waits-on : {j : Job} {rest after : List Waiting} (left : ℕ) → 1 ≤ left →
 waits-on zero h put = absurd (not-suc-le-zero h)
 waits-on (suc left) h put = on put
 
--- The job at a place gets a unit.
+-- In this module the job at a place gets a unit.
 module _ (js : List PendingJob) (at : ℕ) where
-  -- The job, and what it has left after that.
+  -- `its` is the job at the place.
   abbrev its : PendingJob
   its = getD js at noJob
 
+  -- `left` is the units that the job has left after this unit.
   abbrev left : ℕ
   left = its .left - 1
 
   module _ (inside : at < length js) (some-left : 1 ≤ its .left) where
-    -- The job waited, beside the rest.
+    -- The job waited among the rest.
     waited : Insert (record { job = waitingOf its .job; left = suc left }) (map waitingOf (without js at)) (map waitingOf js)
     waited = let q : suc left ≡ its .left = omega arith in rw q (insert-map waitingOf (insert-at noJob js at inside))
 
-    -- It is gone after its last unit, and else waits on.
+    -- The job is gone after its last unit, and else it waits on.
     onward : Onward (waitingOf its .job) left (map waitingOf (without js at)) (map waitingOf (unitAt js at))
     onward = elim (decLe (its .left) 1) [
       | yes l ↦ let q : left ≡ 0 = omega arith in rw (le-leb (its .left) 1 l, q) done
@@ -94,7 +95,7 @@ module _ (js : List PendingJob) (at : ℕ) where
           rw (lt-leb (its .left) 1 (omega arith)) (waits-on left (omega arith) (insert-map waitingOf (insert-set (worked its) js at inside)))
     ]
 
-  -- Where it comes after none of the others, it is due no later than any that waited.
+  -- Where the job comes after none of the others, it is due no later than any job that waited.
   due-first : IsFirst js at → All (λ w. its .due .0 ≤ w .job .due) (map waitingOf js)
   due-first first =
       all-map waitingOf (λ w. its .due .0 ≤ w .job .due) js (all-of-places (λ j. its .due .0 ≤ j .due .0) noJob js (λ i h. first .first i h .due))
@@ -107,32 +108,32 @@ module _ {run : Run} {es : List Event} (f : Follows run es) where
   unfolding told
   follows-refused-release row cost number place = record { events = f .events; earliest-due = f .earliest-due; never-idle = f .never-idle }
 
-  -- A refused tick is no event of it.
+  -- A refused tick is no event of the theory's trace.
   pub follows-refused-tick : (number place late : ℕ) → Follows run (Event.tick (says.TickSays.refused number place) late ∷ es)
   unfolding told
   follows-refused-tick number place late = record { events = f .events; earliest-due = f .earliest-due; never-idle = f .never-idle }
 
-  -- A job is accepted, at the end of what is pending: released now, with all of its cost left.
+  -- An accepted job is put behind the pending jobs, released at the clock, with all of its cost left.
   pub follows-accepted : (next : Run) (row cost serial due : ℕ) (j : PendingJob) → 1 ≤ cost
       → waitingOf j ≡ record { job = record { name = serial; source = row; release = clockOf es; due = due; cost = cost }; left = cost }
       → jobsOf (next .pending) ≡ jobsOf (run .pending) ++ (j ∷ []) → Follows next (Event.release row cost (accepted serial due) ∷ es)
-  unfolding told EarliestDueFirst NeverIdlesInVain
+  unfolding told ServesEarliestDue NeverIdlesInVain
   follows-accepted next row cost serial due j some-cost its jobs =
       let job : Job = record { name = serial; source = row; release = clockOf es; due = due; cost = cost } in
       let put : Insert (record { job = job; left = cost }) (waitingIn run) (waitingIn next) = rw (jobs, ← its) (waits-last (jobsOf (run .pending)) j) in
       record { events = accept (f .events) job refl some-cost put; earliest-due = f .earliest-due; never-idle = f .never-idle }
 
   module _ (clock late : ℕ) where
-    -- A tick idles: nothing waits.
+    -- A tick idles where nothing waits.
     pub follows-idle : waitingIn run ≡ [] → Follows (runWith run clock (run .pending)) (Event.tick idle late ∷ es)
-    unfolding told EarliestDueFirst NeverIdlesInVain
+    unfolding told ServesEarliestDue NeverIdlesInVain
     follows-idle none = record { events = theory.Trace.idle (f .events) refl; earliest-due = f .earliest-due; never-idle = (none, f .never-idle) }
 
-    -- A job has the tick: the one at a place that comes after none of the others.
+    -- A tick goes to the job at a place that comes after none of the others.
     pub follows-ran : (p : Pending) (at : ℕ) (finished : Bool) → IsFirst (jobsOf (run .pending)) at → 1 ≤ getD (jobsOf (run .pending)) at noJob .left
         → jobsOf p ≡ unitAt (jobsOf (run .pending)) at
         → Follows (runWith run clock p) (Event.tick (ran (getD (jobsOf (run .pending)) at noJob .serial .0) finished) late ∷ es)
-    unfolding told EarliestDueFirst NeverIdlesInVain
+    unfolding told ServesEarliestDue NeverIdlesInVain
     follows-ran p at finished first some-left jobs =
         let js = jobsOf (run .pending) in
         let goes : Onward (waitingOf (its js at) .job) (left js at) (map waitingOf (without js at)) (map waitingOf (jobsOf p)) =

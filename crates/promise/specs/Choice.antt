@@ -1,5 +1,6 @@
--- Choice. A tick runs the unfinished accepted job with the earliest due time, the one with the lowest serial among equals, and is idle exactly when there is
--- none. All of it is said of the trace alone, on any table that a run can be started on. (Demand 2; docs/RULES.md, sections 6.10 to 6.16.)
+-- Choice. A tick runs the unfinished accepted job with the earliest due time, and the one with the lowest serial among equal due times. It is idle exactly when
+-- every accepted job is finished. Its late count is the number of jobs that became late in it. All of this is said in terms of the answers before the tick, on
+-- the run that `start` makes of any bytes. (1.19, 6.10, 6.11, 6.12, 6.14)
 use Prim.Native.Nat.{ℕ, suc, _+_, _≤_, _<_}
 use mathlib.Core.Path.{_≡_}
 use mathlib.Core.Logic.{_↔_}
@@ -7,51 +8,53 @@ use mathlib.Core.Bool.{Bool, true, _&&_}
 use mathlib.Core.List.{List, _∷_, List·Memᴰ}
 use lib.Dec.{eqb}
 use Rattle.kinds.specs.Numbering.{maxTime}
-use Rattle.numbers.specs.Laws.{Bytes}
+use Rattle.numbers.specs.SpelledNumbers.{Bytes}
 use Rattle.theory.specs.Lists.{total, weightIf}
 use Rattle.theory.specs.Jobs.{Job}
 use Rattle.run.specs.Ticking.{ticked}
 use Rattle.run.specs.Answers.{TickSays, idle, ran, tickSays}
-use Rattle.promise.specs.Traces.{Call, Event, runAt, trace, clockOf, jobsIn, unitsOf, unfinished}
+use Rattle.promise.specs.Traces.{Call, Event, runAt, trace, clockOf, jobsOfTrace, unitsOf, unfinished}
 
--- What the next tick answers after some calls, and its late count.
+-- `nextTick` is the answer of a tick that follows some calls. (6.12)
 abbrev pub nextTick : (bytes : List ℕ) → List Call → TickSays
 nextTick bytes calls = tickSays (ticked (runAt bytes calls) .answer)
 
+-- `nextLate` is the late count of a tick that follows some calls. (6.14)
 abbrev pub nextLate : (bytes : List ℕ) → List Call → ℕ
 nextLate bytes calls = ticked (runAt bytes calls) .late
 
--- Idle exactly when every accepted job has had its cost.
+-- Before the clock is at 2^40, a tick is idle exactly when every accepted job has had its stated cost. (6.12)
 abbrev pub IdleWhenAllHaveTheirCost : Type 0
 IdleWhenAllHaveTheirCost = (bytes : List ℕ) → Bytes bytes → (calls : List Call) → clockOf (trace bytes calls) < maxTime
     → (nextTick bytes calls ≡ idle)
-    ↔ ((j : Job) → List·Memᴰ j (jobsIn (trace bytes calls)) → unitsOf (j .name) (trace bytes calls) ≡ j .cost)
+    ↔ ((j : Job) → List·Memᴰ j (jobsOfTrace (trace bytes calls)) → unitsOf (j .name) (trace bytes calls) ≡ j .cost)
 
--- The job goes first of all accepted jobs that have had fewer units than their cost: no other is due earlier, and none that is due with it has a lower serial.
+-- The job goes first among the accepted jobs that are unfinished: none of them is due earlier, and none that is due at the same time has a lower serial. (6.11)
 pub record GoesFirst (es : List Event) (j : Job) : Type 0 where
-  pub accepted : List·Memᴰ j (jobsIn es)
+  pub accepted : List·Memᴰ j (jobsOfTrace es)
   pub not-done : unfinished es j ≡ true
-  pub earliest : (i : Job) → List·Memᴰ i (jobsIn es) → unfinished es i ≡ true → j .due ≤ i .due
-  pub lowest : (i : Job) → List·Memᴰ i (jobsIn es) → unfinished es i ≡ true → i .due ≡ j .due → j .name ≤ i .name
+  pub earliest : (i : Job) → List·Memᴰ i (jobsOfTrace es) → unfinished es i ≡ true → j .due ≤ i .due
+  pub lowest : (i : Job) → List·Memᴰ i (jobsOfTrace es) → unfinished es i ≡ true → i .due ≡ j .due → j .name ≤ i .name
 
--- A tick that ran a job ran the one that goes first, and it finished exactly when this unit makes up its cost.
+-- A tick ran the job that goes first, and answered that it finished exactly when this unit was the last of its stated cost. (6.11 to 6.13)
 pub record RanFirst (es : List Event) (serial : ℕ) (finished : Bool) : Type 0 where
   pub job : Job
   pub its-serial : job .name ≡ serial
   pub first : GoesFirst es job
   pub finishes : (finished ≡ true) ↔ (suc (unitsOf serial es) ≡ job .cost)
 
+-- Where a tick answers that a job ran, it is the job that goes first, and it finished exactly when this was its last unit. (6.11 to 6.13)
 abbrev pub EarliestDueFirst : Type 0
 EarliestDueFirst = (bytes : List ℕ) → Bytes bytes → (calls : List Call) (serial : ℕ) (finished : Bool)
     → nextTick bytes calls ≡ ran serial finished → RanFirst (trace bytes calls) serial finished
 
--- The job is due at a time and has had fewer units than its cost.
+-- The job is due at this time and is unfinished. (1.9)
 abbrev pub lateAt : (time : ℕ) → List Event → Job → Bool
 lateAt time es j = eqb (j .due) time && unfinished es j
 
--- The late count is the number of accepted jobs that are due at the new clock and, with this tick's unit counted, have had fewer units than their cost. (Beside
--- a refused tick it is 0, as no job is due after 2^40.)
+-- The late count of a tick is the number of accepted jobs that are due at the new clock and unfinished after the tick's unit. Beside a refused tick it is 0,
+-- since no job is due after 2^40. (6.14)
 abbrev pub LateCountIsTheLate : Type 0
 LateCountIsTheLate = (bytes : List ℕ) → Bytes bytes → (calls : List Call)
     → nextLate bytes calls
-    ≡ total (weightIf (lateAt (clockOf (trace bytes calls) + 1) (trace bytes (Call.tick ∷ calls))) (λ _. 1)) (jobsIn (trace bytes calls))
+    ≡ total (weightIf (lateAt (clockOf (trace bytes calls) + 1) (trace bytes (Call.tick ∷ calls))) (λ _. 1)) (jobsOfTrace (trace bytes calls))

@@ -1,5 +1,5 @@
--- The examples of the rules, V1 to V8 and D1 to D3, as one list under one claim. Where a table is feasible, the claim is that every length fits, however long;
--- D1 to D3 are claimed for every cost c in range. (docs/RULES.md, sections 4 and 5.)
+-- The examples of the rules, V1 to V8 and D1 to D3, as one list under one claim. For a feasible table the claim is that every length fits, however long. D1 to
+-- D3 are claimed for every cost c in range. (4.8, 5.13)
 use Prim.Native.Nat.{ℕ, _≤_}
 use mathlib.Core.Path.{_≡_}
 use mathlib.Core.List.{List, [], _∷_}
@@ -9,7 +9,7 @@ use Rattle.table.specs.declared.Row.{Row}
 use Rattle.table.specs.Limits.{maxC}
 use Rattle.table.specs.Content.{rowsAlone}
 use Rattle.table.specs.Tables.{tableRead}
-use Rattle.table.specs.Laws.{spelledTable}
+use Rattle.table.specs.SpelledTables.{spelledTable}
 use Rattle.due.specs.declared.Kept.{Kept}
 use Rattle.due.specs.Kept.{nothingKept, dueOf, keptWith}
 use Rattle.verdict.specs.declared.Verdict.{Verdict}
@@ -17,63 +17,73 @@ use Rattle.verdict.specs.Demand.{tableDemand}
 use Rattle.verdict.specs.Verdict.{Judged, verdictSays}
 use Rattle.promise.specs.NoOrder.{dueAt}
 
--- An example: bytes and what their verdict says; a table's demand in a length; or releases of a row, and their due times.
+-- An example is a table's bytes and what their verdict says, or a table's demand in a length, or releases of a row with their due times. (4.8, 5.13)
 pub data Example : Type 0 where
   verdict : (bytes : List ℕ) → Said → Example
   demand : (bytes : List ℕ) (L units : ℕ) → Example
   due-times : (x y d : ℕ) (releases due-times : List ℕ) → Example
 
--- The due times of releases at full cost, one after another, by the definitions that a release goes by.
+-- `dueTimesFrom` lists the due times of releases at full cost, one after another, by the definitions that a release uses. (4.2, 4.3)
 abbrev pub dueTimesFrom : Kept → Row → (releases : List ℕ) → List ℕ
 dueTimesFrom k r [] = []
 dueTimesFrom k r (t ∷ ts) = let due = dueAt (dueOf k r t (r .c)) in due .0 ∷ dueTimesFrom (keptWith k r due) r ts
 
--- The right verdict of the bytes says this. (`OneVerdict`: there is no other right one.)
-abbrev pub VerdictSays : (bytes : List ℕ) → Said → Type 0
-VerdictSays bytes said = (v : Verdict) × Judged bytes v × (verdictSays v ≡ said)
+-- The right verdict for the bytes says this. `OneVerdict` of crate `verdict` proves that no other verdict is right.
+abbrev pub RightVerdictSays : (bytes : List ℕ) → Said → Type 0
+RightVerdictSays bytes said = (v : Verdict) × Judged bytes v × (verdictSays v ≡ said)
 
--- The claim.
-abbrev pub Holds : Example → Type 0
-Holds (verdict bytes said) = VerdictSays bytes said
-Holds (demand bytes L units) = tableDemand (tableRead bytes .table) L ≡ units
-Holds (due-times x y d releases times) =
+-- The claim of each kind of example is that its verdict is right, that its demand is the table's, or that its due times are those of the rules.
+abbrev pub ExampleHolds : Example → Type 0
+ExampleHolds (verdict bytes said) = RightVerdictSays bytes said
+ExampleHolds (demand bytes L units) = tableDemand (tableRead bytes .table) L ≡ units
+ExampleHolds (due-times x y d releases times) =
     (c : ℕ) → 1 ≤ c → c ≤ maxC → dueTimesFrom nothingKept (record { x = x; y = y; d = d; c = c }) releases ≡ times
 
+-- `row` makes a row of its four numbers. (1.1)
 abbrev row : (x y d c : ℕ) → Row
 row x y d c = record { x = x; y = y; d = d; c = c }
 
--- What the two verdicts say: 20; and 21 with the smallest length that fails and its demand.
+-- Feasible says 20, and both its numbers are 0. (9.5)
 abbrev pub feasible : Said
 feasible = record { number = 20; first = 0; second = 0 }
 
+-- Overloaded says 21, the smallest length that fails, and its demand. (9.5)
 abbrev pub overloaded : (length units : ℕ) → Said
 overloaded length units = record { number = 21; first = length; second = units }
 
--- V1 and V2 by their bytes, and the other tables by their rows.
+-- V1 is spelled `00`. V1 and V2 are written here by their bytes, and the other tables by their rows. (5.13)
 abbrev pub v1 : List ℕ
 v1 = 0x00 ∷ []
 
+-- V2 is spelled `01 01 02 06 01`. (5.13)
 abbrev pub v2 : List ℕ
 v2 = 0x01 ∷ 0x01 ∷ 0x02 ∷ 0x06 ∷ 0x01 ∷ []
 
+-- V3 has the rows (1, 4, 4, 2) and (1, 6, 6, 3). (5.13)
 abbrev pub v3 : List ℕ
 v3 = spelledTable (rowsAlone (row 1 4 4 2 ∷ row 1 6 6 3 ∷ []))
 
+-- V4 has the rows (1, 4, 3, 2) and (1, 6, 5, 3). (5.13)
 abbrev pub v4 : List ℕ
 v4 = spelledTable (rowsAlone (row 1 4 3 2 ∷ row 1 6 5 3 ∷ []))
 
+-- V5 has the row (3, 6, 6, 2). (5.13)
 abbrev pub v5 : List ℕ
 v5 = spelledTable (rowsAlone (row 3 6 6 2 ∷ []))
 
+-- V6 has the row (3, 6, 5, 2). (5.13)
 abbrev pub v6 : List ℕ
 v6 = spelledTable (rowsAlone (row 3 6 5 2 ∷ []))
 
+-- V7 has the row (2, 1, 1, 1). (5.13)
 abbrev pub v7 : List ℕ
 v7 = spelledTable (rowsAlone (row 2 1 1 1 ∷ []))
 
+-- V8 has the row (1, 2, 10, 3). (5.13)
 abbrev pub v8 : List ℕ
 v8 = spelledTable (rowsAlone (row 1 2 10 3 ∷ []))
 
+-- The list has V1 to V8 with their verdicts, the demand of V3 in 12 ticks, and D1 to D3 with their due times. (4.8, 5.13)
 abbrev pub examples : List Example
 examples =
     verdict v1 feasible
@@ -85,11 +95,12 @@ examples =
     ∷ verdict v6 (overloaded 5 6)
     ∷ verdict v7 (overloaded 1 2)
     ∷ verdict v8 (overloaded 26 27)
-    -- D1 to D3
+    -- These three are D1 to D3.
     ∷ due-times 1 2 6 (0 ∷ 0 ∷ 0 ∷ 3 ∷ 3 ∷ 6 ∷ []) (6 ∷ 8 ∷ 10 ∷ 12 ∷ 14 ∷ 16 ∷ [])
     ∷ due-times 3 6 6 (0 ∷ 0 ∷ 0 ∷ 3 ∷ 3 ∷ 6 ∷ []) (6 ∷ 6 ∷ 6 ∷ 12 ∷ 12 ∷ 12 ∷ [])
     ∷ due-times 1 2 6 (0 ∷ 20 ∷ []) (6 ∷ 26 ∷ [])
     ∷ []
 
+-- Every example of the rules holds. (4.8, 5.13)
 abbrev pub ExamplesHold : Type 0
-ExamplesHold = All Holds examples
+ExamplesHold = All ExampleHolds examples

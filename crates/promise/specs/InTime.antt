@@ -1,58 +1,60 @@
--- In time. On a table that `judge` finds feasible, at every point of every trace, each accepted job has had exactly its stated cost in units once the clock is at
--- its due time or past it, and at no point has any job had more. (Demand 3, first sentence; docs/RULES.md, sections 5 and 6.)
+-- In time. On a table that `judge` finds feasible, take any calls in any order. Once the clock is at an accepted job's due time or past it, the job has had
+-- exactly its stated cost in units. No job ever has more. The other rows may release whatever they like. Units are counted from the answers of the ticks
+-- alone. (1.20, 6.26)
 use Prim.Native.Nat.{ℕ, suc, _-_, _≤_, min}
 use mathlib.Core.Path.{_≡_}
 use mathlib.Core.List.{List, [], _∷_, List·Memᴰ}
 use lib.ListN.{drop}
 use Rattle.kinds.specs.Numbering.{maxTime}
-use Rattle.numbers.specs.Laws.{Bytes}
+use Rattle.numbers.specs.SpelledNumbers.{Bytes}
 use Rattle.theory.specs.Jobs.{Job, DistinctNames}
 use Rattle.theory.specs.Trace.{units}
 use Rattle.verdict.specs.declared.Verdict.{Verdict}
 use Rattle.verdict.specs.Verdict.{Judged, verdictSays}
-use Rattle.promise.specs.Traces.{Call, Event, runAt, trace, clockOf, jobsIn, ticksOf, unitsOf}
+use Rattle.promise.specs.Traces.{Call, Event, runAt, trace, clockOf, jobsOfTrace, ticksOf, unitsOf}
 
--- `judge` says feasible of the bytes. (`Judged bytes v` is what its contract says of its answer v; one v only is so.)
+-- `judge` says feasible for the bytes. `Judged bytes v` is what its contract says about its answer v, and exactly one v satisfies it. (5.4, 9.5)
 pub record SaidFeasible (bytes : List ℕ) : Type 0 where
   pub answer : Verdict
   pub judged : Judged bytes answer
   pub feasible : verdictSays answer .number ≡ 20
 
--- Every accepted job has had its cost once the clock is at its due time or past it.
+-- Once the clock is at an accepted job's due time or past it, the job has had exactly its stated cost. This is the first promise of demand 3. (1.20, 6.26)
 abbrev pub InTime : Type 0
-InTime = (bytes : List ℕ) → Bytes bytes → SaidFeasible bytes → (calls : List Call) (j : Job) → List·Memᴰ j (jobsIn (trace bytes calls))
+InTime = (bytes : List ℕ) → Bytes bytes → SaidFeasible bytes → (calls : List Call) (j : Job) → List·Memᴰ j (jobsOfTrace (trace bytes calls))
     → j .due ≤ clockOf (trace bytes calls) → unitsOf (j .name) (trace bytes calls) ≡ j .cost
 
--- No job ever gets more units than its cost, on any table, feasible or not.
+-- No job ever has more units than its stated cost, on any table, feasible or not. (6.26)
 abbrev pub NeverMore : Type 0
-NeverMore = (bytes : List ℕ) → Bytes bytes → (calls : List Call) (j : Job) → List·Memᴰ j (jobsIn (trace bytes calls))
+NeverMore = (bytes : List ℕ) → Bytes bytes → (calls : List Call) (j : Job) → List·Memᴰ j (jobsOfTrace (trace bytes calls))
     → unitsOf (j .name) (trace bytes calls) ≤ j .cost
 
--- The units that a serial had before a time: those of the ticks up to it. (The newest ticks are left out, as many as the clock is past the time.)
-abbrev pub unitsBefore : (time serial : ℕ) → List Event → ℕ
-unitsBefore time s es = units s (drop (clockOf es - time) (ticksOf es))
+-- `unitsOfTraceBefore` counts the units that a serial had in the ticks before a time. It leaves out the newest ticks, as many as the clock is past that time.
+abbrev pub unitsOfTraceBefore : (time serial : ℕ) → List Event → ℕ
+unitsOfTraceBefore time s es = units s (drop (clockOf es - time) (ticksOf es))
 
--- Every accepted job had its cost before its due time: none of these units came later.
+-- All units of an accepted job come before its due time. None of them comes later. (1.8, 6.26)
 abbrev pub InTimeBeforeDue : Type 0
-InTimeBeforeDue = (bytes : List ℕ) → Bytes bytes → SaidFeasible bytes → (calls : List Call) (j : Job) → List·Memᴰ j (jobsIn (trace bytes calls))
-    → j .due ≤ clockOf (trace bytes calls) → unitsBefore (j .due) (j .name) (trace bytes calls) ≡ j .cost
+InTimeBeforeDue = (bytes : List ℕ) → Bytes bytes → SaidFeasible bytes → (calls : List Call) (j : Job) → List·Memᴰ j (jobsOfTrace (trace bytes calls))
+    → j .due ≤ clockOf (trace bytes calls) → unitsOfTraceBefore (j .due) (j .name) (trace bytes calls) ≡ j .cost
 
--- No two accepted jobs have one serial.
+-- No two accepted jobs have the same serial, so units that are counted by serial are counted by job. (1.5)
 abbrev pub OneJobASerial : Type 0
-OneJobASerial = (bytes : List ℕ) → Bytes bytes → (calls : List Call) → DistinctNames (jobsIn (trace bytes calls))
+OneJobASerial = (bytes : List ℕ) → Bytes bytes → (calls : List Call) → DistinctNames (jobsOfTrace (trace bytes calls))
 
--- How many of the calls are ticks.
+-- `ticksIn` is the number of ticks among the calls.
 unfoldable pub ticksIn : List Call → ℕ
 ticksIn [] = 0
 ticksIn (Call.release row cost ∷ calls) = ticksIn calls
 ticksIn (Call.tick ∷ calls) = suc (ticksIn calls)
 
--- The clock is the number of tick calls, up to 2^40: whoever goes on ticking gets to every due time. The run's own clock says the same.
+-- The clock is the number of ticks called for, up to 2^40, and the run's own clock says the same. So whoever goes on ticking gets to every due
+-- time. (1.3, 6.16)
 abbrev pub ClockCountsTicks : Type 0
 ClockCountsTicks = (bytes : List ℕ) → Bytes bytes → (calls : List Call)
     → (clockOf (trace bytes calls) ≡ min (ticksIn calls) maxTime) × (runAt bytes calls .clock .0 ≡ clockOf (trace bytes calls))
 
--- Every accepted job is due by 2^40, after its release.
+-- Every accepted job is due after its release, and at 2^40 or before. (4.7)
 abbrev pub DueTimesCome : Type 0
-DueTimesCome = (bytes : List ℕ) → Bytes bytes → (calls : List Call) (j : Job) → List·Memᴰ j (jobsIn (trace bytes calls))
+DueTimesCome = (bytes : List ℕ) → Bytes bytes → (calls : List Call) (j : Job) → List·Memᴰ j (jobsOfTrace (trace bytes calls))
     → (suc (j .release) ≤ j .due) × (j .due ≤ maxTime)

@@ -1,35 +1,35 @@
--- The link to the theory. After any calls the answers are a trace of the theory, which serves earliest due first and never idles in vain; what waits in it is
--- what is pending in the run, with the units that each job has left. So what the theory proves of such traces holds of every run. (docs/RULES.md, sections 6.7
--- to 6.13.)
+-- The link to the theory. After any calls the answers are a trace in the sense of `theory`, one that serves the earliest due job first and never idles while a
+-- job waits. The jobs that wait in it are the run's pending jobs, each with the units that it has left. So what the theory proves about such traces holds for
+-- every run. (6.5, 6.11, 6.12)
 use Prim.Native.Nat.{ℕ}
 use mathlib.Core.List.{List, [], map}
-use Rattle.numbers.specs.Laws.{Bytes}
+use Rattle.numbers.specs.SpelledNumbers.{Bytes}
 use Rattle.theory.specs.Jobs.{Job}
 use Rattle.theory.specs.Ticks.{noneTaken}
-use Rattle.theory.specs.Trace.{Waiting, Trace, EarliestDueFirst, NeverIdlesInVain}
+use Rattle.theory.specs.Trace.{Waiting, Trace, ServesEarliestDue, NeverIdlesInVain}
 use Rattle.jobs.specs.declared.Job.{Job as PendingJob}
 use Rattle.jobs.specs.Places.{jobsOf}
 use Rattle.run.specs.declared.Run.{Run}
-use Rattle.promise.specs.Traces.{Call, Event, runAt, trace, clockOf, jobsIn, ticksOf}
+use Rattle.promise.specs.Traces.{Call, Event, runAt, trace, clockOf, jobsOfTrace, ticksOf}
 
--- A pending job as it was accepted.
+-- `jobOf` is a pending job in the theory's terms, as it was accepted: its name is the serial, and its source is the row. (6.1)
 abbrev pub jobOf : PendingJob → Job
 jobOf j = record { name = j .serial .0; source = j .row .0; release = j .release .0; due = j .due .0; cost = j .cost }
 
--- A pending job in the theory's terms: the job as it was accepted, and the units that it has left.
+-- `waitingOf` is a pending job in the theory's terms, with the units that it has left. (1.7)
 abbrev pub waitingOf : PendingJob → Waiting
 waitingOf j = record { job = jobOf j; left = j .left }
 
--- What waits in a run: its pending jobs.
+-- The jobs that wait in a run are its pending jobs. (1.7)
 abbrev pub waitingIn : Run → List Waiting
 waitingIn run = map waitingOf (jobsOf (run .pending))
 
--- A run and the answers so far follow the theory: no tick is taken away, and no job leaves before it has had its cost.
+-- A run and its answers so far follow the theory. No tick is taken away from the jobs, and no job leaves before it has had its cost. (6.5, 6.11, 6.12)
 pub record Follows (run : Run) (es : List Event) : Type 0 where
-  pub events : Trace noneTaken (clockOf es) (waitingIn run) (jobsIn es) (ticksOf es) []
-  pub earliest-due : EarliestDueFirst events
+  pub events : Trace noneTaken (clockOf es) (waitingIn run) (jobsOfTrace es) (ticksOf es) []
+  pub earliest-due : ServesEarliestDue events
   pub never-idle : NeverIdlesInVain events
 
--- After any calls they do, on any table, feasible or not.
+-- After any calls, on any table, feasible or not, the run and its answers follow the theory. (6.5, 6.11, 6.12)
 abbrev pub RunsFollowTheTheory : Type 0
 RunsFollowTheTheory = (bytes : List ℕ) → Bytes bytes → (calls : List Call) → Follows (runAt bytes calls) (trace bytes calls)

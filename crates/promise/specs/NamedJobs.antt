@@ -1,12 +1,12 @@
--- The jobs that a length names are the paper's. Of each row they are as many as the row's demand in this length counts, all released at zero, each at full
--- cost, and due as recurrence (1) says; together they cost the table's demand. So no due time among them is a stand-in: each is at most the length.
--- (docs/RULES.md, section 5.)
+-- The jobs that a length names are the paper's. Of each row there are as many as the row's demand in this length counts. All are released at zero and at full
+-- cost, and they are due as the paper's recurrence (1) says, within the length. Together they cost the table's demand. So no due time among them stands for a
+-- refused one. (5.1, 5.10)
 use Prim.Native.Nat.{ℕ, _≤_, _<_}
 use mathlib.Core.Path.{_≡_}
 use mathlib.Core.List.{List}
 use lib.ListN.{length}
 use Rattle.kinds.specs.Numbering.{maxTime}
-use Rattle.numbers.specs.Laws.{Bytes}
+use Rattle.numbers.specs.SpelledNumbers.{Bytes}
 use Rattle.theory.specs.Lists.{All, total}
 use Rattle.theory.specs.Jobs.{Job, DistinctNames}
 use Rattle.theory.specs.Demand.{rowJobs}
@@ -21,7 +21,8 @@ use Rattle.verdict.specs.Verdict.{Judged, verdictSays}
 use Rattle.run.specs.Runs.{rowAt}
 use Rattle.promise.specs.NoOrder.{namedJobs}
 
--- These are the jobs of a row that a length L names.
+-- These are the jobs of one row that a length L names: as many as its demand counts, released at zero, at full cost, due by recurrence (1), and due within L.
+-- (4.2, 4.3, 5.10)
 pub record NamedOfRow (r : Row) (L : ℕ) (js : List Job) : Type 0 where
   pub as-many : length js ≡ rowJobs (r .x) (r .y) (r .d) L
   pub at-zero : All (λ j. j .release ≡ 0) js
@@ -29,18 +30,18 @@ pub record NamedOfRow (r : Row) (L : ℕ) (js : List Job) : Type 0 where
   pub by-the-recurrence : RecurrenceOne (r .x) (r .y) (r .d) (length js) (λ _. 0) (jth (dues js))
   pub due-within : All (λ j. j .due ≤ L) js
 
--- These are the jobs of a table that a length L names.
+-- These are the jobs of a table that a length L names. No two have the same name, and together they cost the table's demand in L. (5.3, 5.10)
 pub record Named (t : Table) (L : ℕ) (js : List Job) : Type 0 where
   pub of-its-rows : All (λ j. j .source < t .count) js
   pub of-each-row : (row : ℕ) → row < t .count → NamedOfRow (rowAt t row) L (own row js)
   pub distinct : DistinctNames js
   pub cost-the-demand : total (λ j. j .cost) js ≡ tableDemand t L
 
--- Every length up to 2^40 names these jobs, of any table.
+-- For any table and every length up to 2^40, the jobs that the length names are as `Named` says: as many as 5.10 counts, and due as the paper says. (5.10)
 abbrev pub NamedJobsAreThePapers : Type 0
 NamedJobsAreThePapers = (bytes : List ℕ) → Bytes bytes → (L : ℕ) → L ≤ maxTime → Named (tableRead bytes .table) L (namedJobs (tableRead bytes .table) L)
 
--- The length that a verdict names is such a length.
+-- The length of a witness is at most 2^40.
 abbrev pub WitnessIsInTime : Type 0
 WitnessIsInTime = (bytes : List ℕ) → Bytes bytes → (v : Verdict) → Judged bytes v
     → (L demand : ℕ) → verdictSays v ≡ record { number = 21; first = L; second = demand } → L ≤ maxTime

@@ -1,6 +1,6 @@
--- No order. On a table that `judge` finds overloaded, with the length L as its witness, the jobs that the witness names can't be run in time in any order by
--- anybody. They are, of each row with d ≤ L, its first (floor((L − d)/y) + 1) · x jobs, all released at zero at full cost, however many places they would need.
--- (Demand 3, third sentence; docs/RULES.md, section 5.)
+-- No order. On a table that `judge` finds overloaded, the witness of length L names, of each row with d ≤ L, its first (floor((L − d)/y) + 1) · x jobs, all
+-- released at zero and at full cost. It names them all, however many places they would need in a run. They can't be run in time in any order by anybody.
+-- (1.20, 5.10, 5.11)
 use Prim.Native.Nat.{ℕ, zero, suc, _+_, _≤_, _<_}
 use mathlib.Core.Path.{_≡_}
 use mathlib.Core.Logic.{_↔_}
@@ -9,7 +9,7 @@ use mathlib.Core.List.{List, [], _∷_, flatten}
 use lib.ListN.{length}
 use Rattle.kinds.specs.Numbering.{maxTime}
 use Rattle.kinds.specs.declared.Tick.{Tick}
-use Rattle.numbers.specs.Laws.{Bytes}
+use Rattle.numbers.specs.SpelledNumbers.{Bytes}
 use Rattle.theory.specs.Lists.{All}
 use Rattle.theory.specs.Jobs.{Job}
 use Rattle.theory.specs.Ticks.{had}
@@ -27,55 +27,57 @@ use Rattle.verdict.specs.Verdict.{Judged, verdictSays}
 
 -- ---- the jobs that a witness names
 
--- A due time as a number; a time above 2^40 stands for a refused one. (No job that a witness names has it: page NamedJobs.)
+-- `dueAt` is a due time as a number, where a time above 2^40 stands for a refused one. No job that a witness names has such a due time: page NamedJobs proves
+-- that.
 abbrev pub dueAt : Due → Tick
 dueAt (due.At t) = t
 dueAt (due.Refused r) = record { 0 = suc maxTime }
 
--- What is kept of a row's due times after n of its jobs were released at zero at full cost, by the definitions that a release goes by.
+-- `keptAfter` is the due times kept for a row after n of its jobs were released at zero and at full cost, by the definitions that a release uses. (4.6)
 unfoldable pub keptAfter : Row → (n : ℕ) → Kept
 keptAfter r zero = nothingKept
 keptAfter r (suc n) = keptWith (keptAfter r n) r (dueAt (dueOf (keptAfter r n) r 0 (r .c)))
 
--- The first n jobs of a row, all released at zero at full cost, newest first; they are named from `first` on.
+-- `firstJobs` lists the first n jobs of a row, all released at zero and at full cost, newest first. Their names count up from `first`. (5.10)
 unfoldable pub firstJobs : (source first : ℕ) → Row → (n : ℕ) → List Job
 firstJobs source first r zero = []
 firstJobs source first r (suc n) =
     record { name = first + n; source = source; release = 0; due = dueAt (dueOf (keptAfter r n) r 0 (r .c)) .0; cost = r .c } ∷ firstJobs source first r n
 
--- Of each row as many as can be released and due in L ticks (none where L is below d), numbered through.
+-- A length L names, of each row with d ≤ L, its first (floor((L − d)/y) + 1) · x jobs. `rowJobs` is that number, and it is 0 where L is below d. No two of the
+-- jobs have the same name. (5.10)
 abbrev pub namedJobs : Table → (L : ℕ) → List Job
 namedJobs t L = flatten (inTurn (λ source first r. firstJobs source first r (rowJobs (r .x) (r .y) (r .d) L)) 0 0 (rowsOf t))
 
 -- ---- anybody's order
 
--- An assignment is any function from ticks to an optional job: it may idle, name other jobs, give too much. A unit counts for a job if its tick t has t + 1 ≤
--- due: these are the units that count for the job n.
+-- An assignment is any function from ticks to an optional job. It may idle, name other jobs, or give too much. A unit counts for a job only where its tick ends
+-- at the due time or before: tick t ends at t + 1. `unitsBy` is the number of units that count for the job named n. (1.8)
 unfoldable pub unitsBy : (due : ℕ) (who : ℕ → Option ℕ) (n : ℕ) → ℕ
 unitsBy zero who n = 0
 unitsBy (suc t) who n = had n (who t) + unitsBy t who n
 
--- An assignment serves jobs: each has its cost in units that count.
+-- An assignment serves jobs when each of them has its cost in units that count. (1.8)
 abbrev pub Serves : (who : ℕ → Option ℕ) → List Job → Type 0
 Serves who js = All (λ j. j .cost ≤ unitsBy (j .due) who (j .name)) js
 
--- These ticks all come before a time, the latest first.
+-- These ticks all come before a time, and are listed latest first.
 abbrev pub LatestFirst : (before : ℕ) → List ℕ → Type 0
 LatestFirst before [] = Unit {0}
 LatestFirst before (t ∷ ts) = (t < before) × LatestFirst t ts
 
--- An assignment gives a job its ticks: as many before its due time as it costs, or more.
+-- An assignment gives a job its ticks: there are at least as many ticks before its due time as the job costs, and all of them go to the job.
 pub record GivenItsTicks (who : ℕ → Option ℕ) (j : Job) : Type 0 where
   pub ticks : List ℕ
   pub in-time : LatestFirst (j .due) ticks
   pub given : All (λ t. who t ≡ some (j .name)) ticks
   pub enough : j .cost ≤ length ticks
 
--- To serve jobs is to give each its ticks: no more is asked, and no less.
+-- An assignment serves jobs exactly when it gives each of them its ticks.
 abbrev pub ServedMeansGivenTicks : Type 0
 ServedMeansGivenTicks = (who : ℕ → Option ℕ) (js : List Job) → Serves who js ↔ All (GivenItsTicks who) js
 
--- No assignment gives every named job its cost.
+-- No assignment serves all the jobs that the witness names. This is the third promise of demand 3. (1.20, 5.11)
 abbrev pub NoOrder : Type 0
 NoOrder = (bytes : List ℕ) → Bytes bytes → (v : Verdict) → Judged bytes v
     → (L demand : ℕ) → verdictSays v ≡ record { number = 21; first = L; second = demand } → (who : ℕ → Option ℕ)

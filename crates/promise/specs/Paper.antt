@@ -1,11 +1,11 @@
--- The paper. The verdict is its Theorem 4.2, with the demand of its Lemma 4.1, and due times are its recurrence (1). (Demand 2; docs/RULES.md, sections 4 and 5.)
+-- The paper. The verdict is the paper's Theorem 4.2, with the demand of its Lemma 4.1. Due times are those of its recurrence (1). (1.19, 4.2, 4.3, 5.2, 5.4)
 use Prim.Native.Nat.{ℕ, _≤_, _<_}
 use mathlib.Core.Path.{_≡_}
 use mathlib.Core.Logic.{_↔_}
 use mathlib.Core.List.{List, [], _∷_}
 use lib.ListN.{length}
 use Rattle.kinds.specs.Numbering.{values}
-use Rattle.numbers.specs.Laws.{Bytes}
+use Rattle.numbers.specs.SpelledNumbers.{Bytes}
 use Rattle.theory.specs.Lists.{total}
 use Rattle.theory.specs.Paper.{paperDemand}
 use Rattle.theory.specs.DueTimes.{RecurrenceOne, jth, releases, dues}
@@ -17,19 +17,21 @@ use Rattle.table.specs.Answers.{tableSays}
 use Rattle.verdict.specs.declared.Verdict.{Verdict}
 use Rattle.verdict.specs.Verdict.{Judged, verdictSays}
 use Rattle.run.specs.Runs.{rowAt}
-use Rattle.promise.specs.Traces.{Call, trace, jobsIn}
+use Rattle.promise.specs.Traces.{Call, trace, jobsOfTrace}
 
--- The paper's condition: for every L above 0, the sum over the rows of f(floor((L − d + y)/y)) · x · c is at most L.
+-- The paper's condition is that, for every L above 0, the sum over the rows of f(floor((L − d + y)/y)) · x · c is at most L. `paperDemand` is that expression
+-- of its Lemma 4.1. (5.2, 5.4)
 abbrev pub Theorem42 : Table → Type 0
 Theorem42 t = (L : ℕ) → 0 < L → total (λ (r : Row). paperDemand (r .x) (r .y) (r .d) (r .c) L) (rowsOf t) ≤ L
 
--- Of a table that is accepted (it says its period h), `judge` says feasible exactly when the condition holds.
+-- For an accepted table, `judge` says feasible exactly when the paper's condition holds. (A table is accepted where reading it answers its period h.)
+-- (5.2, 5.4)
 abbrev pub FeasibleIsTheorem42 : Type 0
 FeasibleIsTheorem42 = (bytes : List ℕ) → Bytes bytes → (h : ℕ) → tableSays (tableRead bytes .answer) ≡ values (h ∷ []) → (v : Verdict) → Judged bytes v
     → (verdictSays v .number ≡ 20) ↔ Theorem42 (tableRead bytes .table)
 
--- The accepted jobs of a row, counted from 1 in the order of their release, are due as recurrence (1) says.
+-- The accepted jobs of a row, counted from 1 in the order in which they are accepted, are due as recurrence (1) says. (4.1 to 4.3)
 abbrev pub DueTimesAreRecurrenceOne : Type 0
 DueTimesAreRecurrenceOne = (bytes : List ℕ) → Bytes bytes → (calls : List Call) (row : ℕ) → row < tableRead bytes .table .count
-    → let r = rowAt (tableRead bytes .table) row in let js = own row (jobsIn (trace bytes calls)) in
+    → let r = rowAt (tableRead bytes .table) row in let js = own row (jobsOfTrace (trace bytes calls)) in
     RecurrenceOne (r .x) (r .y) (r .d) (length js) (jth (releases js)) (jth (dues js))

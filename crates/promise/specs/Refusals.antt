@@ -1,6 +1,6 @@
--- Refused exactly when. What each release and each tick of a trace is answered, by the table and the answers before it alone: 6 and 7 by the table, 8 where so
--- many accepted jobs are unfinished as there are places, 9 where the paper's due time over the row's accepted jobs is above 2^40, 10 after 2^40 ticks, and
--- never 11. A refused call changes nothing. (Demand 1; docs/RULES.md, sections 6 and 10.)
+-- Refused exactly when. This page says what each release and each tick is answered, in terms of the table and of the answers before it. A release gets 6 or 7
+-- by the table. It gets 8 where 64 accepted jobs are unfinished, and 9 where the paper's due time over the row's accepted jobs is above 2^40. A tick gets 10
+-- after 2^40 ticks. No call gets 11. A refused call changes nothing. (1.18, 6.8, 6.16, 6.18, 6.25)
 use Prim.Native.Nat.{ℕ, _≤_}
 use mathlib.Core.Path.{_≡_}
 use mathlib.Core.Logic.{_↔_}
@@ -9,7 +9,7 @@ use mathlib.Core.List.{List, _∷_}
 use lib.Dec.{leb, ltb}
 use lib.ListN.{length}
 use Rattle.kinds.specs.Numbering.{maxTime}
-use Rattle.numbers.specs.Laws.{Bytes}
+use Rattle.numbers.specs.SpelledNumbers.{Bytes}
 use Rattle.theory.specs.DueTimes.{dueTime, dues}
 use Rattle.theory.specs.Sources.{own}
 use Rattle.table.specs.declared.Table.{Table}
@@ -20,42 +20,44 @@ use Rattle.run.specs.Runs.{rowInUse, rowAt, costLimit}
 use Rattle.run.specs.Release.{released}
 use Rattle.run.specs.Answers.{ReleaseSays, accepted, releaseSays}
 use Rattle.run.specs.Answers as says
-use Rattle.promise.specs.Traces.{Call, Event, runAt, eventOf, trace, Told, tell, clockOf, jobsIn, unfinishedIn}
+use Rattle.promise.specs.Traces.{Call, Event, runAt, eventOf, trace, Told, tell, clockOf, jobsOfTrace, unfinishedIn}
 use Rattle.promise.specs.Choice.{nextTick}
 
--- The due time by the paper's recurrence, over the jobs that the row has had so far.
+-- `nextDue` is the due time of the row's next job, released at the clock, by the paper's recurrence over the jobs of the row that were accepted so far.
+-- (4.2, 4.3)
 abbrev pub nextDue : Table → List Event → (row : ℕ) → ℕ
-nextDue t es row = let r = rowAt t row in dueTime (r .x) (r .y) (r .d) (dues (own row (jobsIn es))) (clockOf es)
+nextDue t es row = let r = rowAt t row in dueTime (r .x) (r .y) (r .d) (dues (own row (jobsOfTrace es))) (clockOf es)
 
--- What a release is answered after some events: the tests in their order, and then the next serial and the due time.
+-- `releaseAnswer` makes the tests of a release in their order: 6, 7, 8, 9. Where none refuses, it answers the next serial and the due time. (6.6, 6.8)
 abbrev pub releaseAnswer : Table → List Event → (row cost : ℕ) → ReleaseSays
 releaseAnswer t es row cost =
     cond (rowInUse t row)
     (cond (fromOneTo (costLimit t row) cost)
     (cond (ltb (unfinishedIn es) maxPlaces)
-    (cond (leb (nextDue t es row) maxTime) (accepted (length (jobsIn es)) (nextDue t es row)) (says.ReleaseSays.refused 9 0))
+    (cond (leb (nextDue t es row) maxTime) (accepted (length (jobsOfTrace es)) (nextDue t es row)) (says.ReleaseSays.refused 9 0))
     (says.ReleaseSays.refused 8 0))
     (says.ReleaseSays.refused 7 0))
     (says.ReleaseSays.refused 6 0)
 
+-- After any calls, a release is answered as `releaseAnswer` says. (6.6, 6.8)
 abbrev pub ReleasesByTheTrace : Type 0
 ReleasesByTheTrace = (bytes : List ℕ) → Bytes bytes → (calls : List Call) (row cost : ℕ)
     → releaseSays (released (runAt bytes calls) row cost .answer) ≡ releaseAnswer (tableRead bytes .table) (trace bytes calls) row cost
 
--- A tick is refused after 2^40 ticks and not before, with 10 and no other number, at place 0.
+-- A tick is refused exactly when 2^40 ticks have gone by, and then with 10 at place 0. (6.16, 10.2)
 abbrev pub TicksByTheTrace : Type 0
 TicksByTheTrace = (bytes : List ℕ) → Bytes bytes → (calls : List Call) (number place : ℕ)
     → (nextTick bytes calls ≡ says.TickSays.refused number place) ↔ ((number ≡ 10) × (place ≡ 0) × (clockOf (trace bytes calls) ≡ maxTime))
 
--- Never are more jobs unfinished than there are places.
+-- There are never more than 64 unfinished jobs. (6.1)
 abbrev pub PlacesAreEnough : Type 0
 PlacesAreEnough = (bytes : List ℕ) → Bytes bytes → (calls : List Call) → unfinishedIn (trace bytes calls) ≤ maxPlaces
 
--- The call was refused: its answer tells of no job and of no tick.
+-- A call was refused where its event tells about no job and no tick.
 abbrev pub Refused : Event → Type 0
 Refused e = (t : Told) → tell e t ≡ t
 
--- A refused call leaves the run as it was.
+-- A refused call leaves the run as it was. (6.18)
 abbrev pub RefusedChangesNothing : Type 0
 RefusedChangesNothing = (bytes : List ℕ) → Bytes bytes → (calls : List Call) (c : Call) → Refused (eventOf (runAt bytes calls) c)
     → runAt bytes (c ∷ calls) ≡ runAt bytes calls

@@ -1,6 +1,6 @@
--- Traces: any list of calls, releases and ticks in any order, refused ones included, played from the run that `start` makes of a table's bytes. Each call is
--- played by the definition that its contract cites, `released` or `ticked`. What the promises speak of is read from the answers alone, by one fold over them: the
--- clock, the jobs that were accepted, the units that a job was given, the late counts and the finished jobs. (docs/RULES.md, section 6.)
+-- Traces. A trace is what a list of calls was answered. The calls are any releases and ticks in any order, refused ones included, on the run that `start` makes
+-- of a table's bytes. Each call is played by the definition that its contract cites, `released` or `ticked`. The promises speak of the clock, the accepted
+-- jobs, the units that a job was given, the late counts and the finished jobs. One fold reads all of these from the answers alone. (6.4, 6.6, 6.10)
 use Prim.Native.Nat.{ℕ, suc, _+_}
 use mathlib.Core.Bool.{Bool, cond}
 use mathlib.Core.Option.{Option, none, some}
@@ -19,44 +19,49 @@ use Rattle.run.specs.Answers as says
 
 -- ---- calls and their answers
 
--- A call: a release of a row at a cost, or a tick.
+-- A call is a release of a row at a stated cost, or a tick. (1.3, 1.4)
 pub data Call : Type 0 where
   release : (row cost : ℕ) → Call
   tick : Call
 
--- What was asked, and what was answered. A tick's late count stands beside its answer.
+-- An event is a call with its answer. A tick's late count stands beside its answer. (6.12, 6.14)
 pub data Event : Type 0 where
   release : (row cost : ℕ) → ReleaseSays → Event
   tick : TickSays → (late : ℕ) → Event
 
--- What a call comes to: the run after it, and what it is answered. A new call is one more clause here.
+-- A call results in the run after it and in its event. A new kind of call would be one more clause of `called`.
 pub record Called : Type 0 where
   pub run : Run
   pub event : Event
 
+-- A release is played by `released` and a tick by `ticked`. (6.6, 6.10)
 abbrev pub called : Run → Call → Called
 called run (Call.release row cost) = let step = released run row cost in record { run = step .run; event = Event.release row cost (releaseSays (step .answer)) }
 called run Call.tick = let step = ticked run in record { run = step .run; event = Event.tick (tickSays (step .answer)) (step .late) }
 
+-- `runAfter` is the run after one call.
 abbrev pub runAfter : Run → Call → Run
 runAfter run c = called run c .run
 
+-- `eventOf` is the event of one call on a run.
 abbrev pub eventOf : Run → Call → Event
 eventOf run c = called run c .event
 
--- The run after some calls, which are listed newest first. (So every list of calls is one point of a trace, and what comes before it is its tail.)
+-- The run after some calls, which are listed newest first, begins as `start` leaves it. Every list of calls is one point of a trace, and the calls before that
+-- point are its tail. (6.4)
 unfoldable pub runAt : (bytes : List ℕ) → List Call → Run
 runAt bytes [] = started bytes .run
 runAt bytes (c ∷ earlier) = runAfter (runAt bytes earlier) c
 
--- What they were answered, newest first.
+-- A trace is the list of the calls' events, newest first.
 unfoldable pub trace : (bytes : List ℕ) → List Call → List Event
 trace bytes [] = []
 trace bytes (c ∷ earlier) = eventOf (runAt bytes earlier) c ∷ trace bytes earlier
 
 -- ---- what the answers tell
 
--- What answers have told: the clock; the accepted jobs and who had each tick, both newest first; the late counts summed up; and the jobs that finished, in order.
+-- The answers tell the clock; the accepted jobs and who had each tick, both newest first; the sum of the late counts; and the finished jobs in the order of
+-- finishing.
 pub record Told : Type 0 where
   pub clock : ℕ
   pub jobs : List Job
@@ -64,12 +69,12 @@ pub record Told : Type 0 where
   pub late : ℕ
   pub finishes : List Finish
 
--- The accepted job that has a serial; a job of zeros where none has it.
+-- `jobOfSerial` finds the accepted job with a serial. Where no job has it, this is a job of zeros. (1.5)
 abbrev pub jobOfSerial : (serial : ℕ) → List Job → Job
 jobOfSerial s [] = record { name = 0; source = 0; release = 0; due = 0; cost = 0 }
 jobOfSerial s (j ∷ js) = cond (eqb (j .name) s) j (jobOfSerial s js)
 
--- What is recorded of a job that finishes at a time: its serial, its row, its release, its due time and this time.
+-- The log record of a job that finishes at a time holds its serial, its row, its release, its due time and that time. (8.8)
 abbrev pub finishOf : (time : ℕ) → Job → Finish
 finishOf time j = record {
   serial = record { 0 = j .name };
@@ -79,9 +84,10 @@ finishOf time j = record {
   finish = record { 0 = time };
 }
 
--- A job was accepted: with its serial as its name, its row as its source, the clock as its release, the due time that it was answered, and its stated cost.
-abbrev pub withJob : (row cost serial due : ℕ) → Told → Told
-withJob row cost serial due t = record {
+-- A release was accepted. The job's name is its serial, its source is its row and its release is the clock. Its due time is the one that was answered, and its
+-- cost is the stated cost. (6.6)
+abbrev pub withReleased : (row cost serial due : ℕ) → Told → Told
+withReleased row cost serial due t = record {
   clock = t .clock;
   jobs = record { name = serial; source = row; release = t .clock; due = due; cost = cost } ∷ t .jobs;
   ticks = t .ticks;
@@ -89,7 +95,8 @@ withJob row cost serial due t = record {
   finishes = t .finishes;
 }
 
--- A tick passed: the job with this serial had it, if any; so many jobs became late; and these finished.
+-- A tick went by, and the clock is one higher. The job with this serial had the unit, or nobody had it. So many jobs became late, and these finished.
+-- (6.10, 6.12, 6.14)
 abbrev pub withTick : Option ℕ → (late : ℕ) → List Finish → Told → Told
 withTick who late finished t = record {
   clock = suc (t .clock);
@@ -99,51 +106,51 @@ withTick who late finished t = record {
   finishes = t .finishes ++ finished;
 }
 
--- The job with this serial finishes at the new clock, if it does.
+-- The job with this serial is listed as finished at the new clock where the tick answered that it finished. (6.13)
 abbrev pub finishedNow : (finished : Bool) (serial : ℕ) → Told → List Finish
 finishedNow finished serial t = cond finished (finishOf (suc (t .clock)) (jobOfSerial serial (t .jobs)) ∷ []) []
 
--- What one more answer tells. A refused call tells nothing. A new answer is one more clause here.
+-- `tell` adds what one more event tells. A refused call tells nothing. A new kind of answer would be one more clause here.
 abbrev pub tell : Event → Told → Told
-tell (Event.release row cost (accepted serial due)) t = withJob row cost serial due t
+tell (Event.release row cost (accepted serial due)) t = withReleased row cost serial due t
 tell (Event.release row cost (says.ReleaseSays.refused n place)) t = t
 tell (Event.tick idle late) t = withTick none late [] t
 tell (Event.tick (ran serial finished) late) t = withTick (some serial) late (finishedNow finished serial t) t
 tell (Event.tick (says.TickSays.refused n place) late) t = t
 
--- What all answers tell. (They are listed newest first.)
+-- `told` is what all events of a trace tell. The events are listed newest first.
 unfoldable pub told : List Event → Told
 told [] = record { clock = 0; jobs = []; ticks = []; late = 0; finishes = [] }
 told (e ∷ es) = tell e (told es)
 
--- The clock: how many ticks were answered and not refused.
+-- The clock is the number of ticks that were not refused. (1.3)
 abbrev pub clockOf : List Event → ℕ
 clockOf es = told es .clock
 
--- The jobs that were accepted, newest first.
-abbrev pub jobsIn : List Event → List Job
-jobsIn es = told es .jobs
+-- `jobsOfTrace` lists the accepted jobs of a trace, newest first.
+abbrev pub jobsOfTrace : List Event → List Job
+jobsOfTrace es = told es .jobs
 
--- Who had each tick, newest first: the serial that ran, or nobody.
+-- `ticksOf` has an entry for each tick of a trace, newest first: the serial of the job that ran, or nobody. (6.12)
 abbrev pub ticksOf : List Event → List (Option ℕ)
 ticksOf es = told es .ticks
 
--- The late counts of the ticks, summed up.
+-- `lateIn` is the sum of the late counts of a trace's ticks. (6.14)
 abbrev pub lateIn : List Event → ℕ
 lateIn es = told es .late
 
--- The jobs that finished, in order.
+-- `finishesIn` lists the finished jobs of a trace, in the order of finishing. (6.13)
 abbrev pub finishesIn : List Event → List Finish
 finishesIn es = told es .finishes
 
--- The units that the ticks gave to a serial: one for each tick that answered that it ran.
+-- The units that a serial was given are counted from the answers of the ticks: one unit for each tick that answered that this serial ran. (6.26)
 abbrev pub unitsOf : (serial : ℕ) → List Event → ℕ
 unitsOf s es = units s (ticksOf es)
 
--- A job has had fewer units than its cost.
+-- A job is unfinished while it has had fewer units than its stated cost. (1.7)
 abbrev pub unfinished : List Event → Job → Bool
 unfinished es j = ltb (unitsOf (j .name) es) (j .cost)
 
--- How many of the accepted jobs have.
+-- `unfinishedIn` is the number of accepted jobs that are unfinished.
 abbrev pub unfinishedIn : List Event → ℕ
-unfinishedIn es = total (weightIf (unfinished es) (λ _. 1)) (jobsIn es)
+unfinishedIn es = total (weightIf (unfinished es) (λ _. 1)) (jobsOfTrace es)

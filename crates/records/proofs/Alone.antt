@@ -1,4 +1,5 @@
--- A record that stands at no place: each answer by the tests that lead to it, and that they agree with those of placed numbers. (docs/RULES.md, section 8.5.)
+-- A record that was read already: each answer of its tests, what the answer means, and that these tests agree with those of a record's numbers at their places.
+-- (docs/RULES.md, section 8.5.)
 use Prim.Native.Nat.{ℕ, _+_, _-_, _≤_, _<_}
 use mathlib.Core.Path.{_≡_, refl, sym, ap, _∙_}
 use mathlib.Core.Logic.{_⊎_, ⊎-elim}
@@ -9,7 +10,7 @@ use native.Mathlib.Decide.{decLe}
 use lib.Dec.{leb, ltb, eqb}
 use lib.ListN.{length, getD}
 use borrow.Author.Tests.{le-leb, lt-leb}
-use Rattle.kinds.specs.Numbering.{Says, maxTime, values}
+use Rattle.kinds.specs.Numbering.{Says, maxTime, values, refusedWith}
 use Rattle.kinds.specs.declared.Refusal.{Refusal}
 use Rattle.kinds.specs.declared.RefusedAt.{RefusedAt}
 use Rattle.kinds.specs.declared.Refusal.the-variants as refusal
@@ -27,7 +28,7 @@ use Rattle.table.specs.declared.CostLimit.{CostLimit}
 use Rattle.table.specs.declared.CostLimit.the-variants as limit
 use Rattle.table.specs.declared.CostAnswer.{CostAnswer}
 use Rattle.table.specs.declared.CostAnswer.the-variants as answer
-use Rattle.table.specs.Costs.{limitOf, costAnswer, onlyNumber}
+use Rattle.table.specs.Costs.{limitOf, costAnswer}
 use Rattle.table.proofs.CostLimits.{CostTested, cost-tested}
 use Rattle.records.specs.declared.Ready.{Ready}
 use Rattle.records.specs.declared.Tested.{Tested}
@@ -35,10 +36,11 @@ use Rattle.records.specs.declared.Tested.the-variants as tested
 use Rattle.records.specs.declared.RecordTested.{RecordTested}
 use Rattle.records.specs.declared.RecordTested.the-variants as record-tested
 use Rattle.records.specs.Numbers.{numbersAt, refusedAt, onRow, onCost, allowedOr, recordTested, placesAside}
-use Rattle.records.specs.Laws as laws
-use Rattle.records.specs.Laws.{recordTestedSays, RecordFits}
+use Rattle.records.specs.TestLaws.{RecordCostMeans, RecordNoRowMeans, RecordReadyMeans, RecordTooLateMeans, TestedAlike, TestedInAScript}
+use Rattle.records.specs.Answers.{recordTestedSays}
+use Rattle.records.specs.PassedTests.{RecordFits}
 
--- A time of at most 2^40 and a gap: whether they come to a time of at most 2^40.
+-- A gap is at most 2^40 less the time reached exactly where the sum of the two is at most 2^40.
 pub gap-in-time : (time gap : ℕ) → time ≤ maxTime → leb gap (maxTime - time) ≡ leb (time + gap) maxTime
 gap-in-time time gap h = elim (decLe (time + gap) maxTime) [
   | yes l ↦ le-leb gap (maxTime - time) (omega arith) ∙ sym (le-leb (time + gap) maxTime l)
@@ -46,24 +48,24 @@ gap-in-time time gap h = elim (decLe (time + gap) maxTime) [
 ]
 
 module _ (limits : List ℕ) (time : ℕ) (r : Record) where
-  -- 10: the record's time is above 2^40.
+  -- A record whose time is above 2^40 is refused with 10.
   pub record-too-late : leb (time + r .gap) maxTime ≡ false → record-tested.Refused refusal.TimeTooLate ≡ recordTested limits time r
   record-too-late late = rw late
 
   module _ (in-time : leb (time + r .gap) maxTime ≡ true) where
-    -- 6 or 7: the row number is not in use, or the cost is not allowed.
+    -- A record in time whose row number is not in use is refused with 6, and one whose cost is not allowed with 7.
     pub record-refused : {q : Refusal} → costAnswer (limitOf limits (r .row .0)) (r .cost) ≡ answer.Refused q
         → record-tested.Refused q ≡ recordTested limits time r
     record-refused h = rw (in-time, h)
 
-    -- No test refuses: the record asks for its release.
+    -- A record that no test refuses is ready.
     pub record-ready : costAnswer (limitOf limits (r .row .0)) (r .cost) ≡ answer.Allowed
         → record-tested.Ready (record { time = record { 0 = time + r .gap }; row = r .row; cost = r .cost }) ≡ recordTested limits time r
     record-ready h = rw (in-time, h)
 
 -- ---- what each answer means
 
--- The four outcomes, each with what it means.
+-- The four answers of the tests, each with what holds where it is given.
 data Sorted (limits : List ℕ) (time : ℕ) (r : Record) : RecordTested → Type 0 where
   late : maxTime < time + r .gap → Sorted limits time r (record-tested.Refused refusal.TimeTooLate)
   no-row : time + r .gap ≤ maxTime → length limits ≤ r .row .0 → Sorted limits time r (record-tested.Refused refusal.NoSuchRow)
@@ -80,7 +82,7 @@ module _ (limits : List ℕ) (time : ℕ) (r : Record) where
   by-cost in-time a (CostTested.out-of-range h o) = no-cost in-time h o
   by-cost in-time a (CostTested.allowed h l m) = fits (record { in-time = in-time; in-use = h; some-cost = l; allowed = m })
 
-  -- One of the four holds.
+  -- For every record one of the four answers holds with its meaning.
   sorted : Sorted limits time r (recordTested limits time r)
   sorted = elim (decLe (time + r .gap) maxTime) [
     | yes h ↦ rw (le-leb (time + r .gap) maxTime h) (by-cost h _ (cost-tested limits (r .row .0) (r .cost)))
@@ -91,40 +93,40 @@ module _ (limits : List ℕ) (time : ℕ) (r : Record) where
 numbers-apart : {A : Type 0} {m n : ℕ} {a b : Says} → a ≡ b → saidIn a .number ≡ m → saidIn b .number ≡ n → (m ≡ n → ⊥) → A
 numbers-apart e p q apart = absurd (apart (sym p ∙ ap (λ (a : Says). saidIn a .number) e ∙ q))
 
-pub record-too-late-means : laws.RecordTooLateMeans
+pub record-too-late-means : RecordTooLateMeans
 record-too-late-means limits time r = (to _ (sorted limits time r), from _ (sorted limits time r))
   where
-    to : (v : RecordTested) → Sorted limits time r v → recordTestedSays v ≡ onlyNumber 10 → maxTime < time + r .gap
+    to : (v : RecordTested) → Sorted limits time r v → recordTestedSays v ≡ refusedWith 10 0 → maxTime < time + r .gap
     to v (late h) e = h
     to v (no-row h u) e = numbers-apart {m = 6} {n = 10} e refl refl (λ z. omega arith)
     to v (no-cost h u o) e = numbers-apart {m = 7} {n = 10} e refl refl (λ z. omega arith)
     to v (fits f) e = impossible cc
 
-    from : (v : RecordTested) → Sorted limits time r v → maxTime < time + r .gap → recordTestedSays v ≡ onlyNumber 10
+    from : (v : RecordTested) → Sorted limits time r v → maxTime < time + r .gap → recordTestedSays v ≡ refusedWith 10 0
     from v (late h) l = refl
     from v (no-row h u) l = absurd (omega arith)
     from v (no-cost h u o) l = absurd (omega arith)
     from v (fits f) l = absurd (omega (arith, f .in-time))
 
-pub record-no-row-means : laws.RecordNoRowMeans
+pub record-no-row-means : RecordNoRowMeans
 record-no-row-means limits time r = (to _ (sorted limits time r), from _ (sorted limits time r))
   where
-    to : (v : RecordTested) → Sorted limits time r v → recordTestedSays v ≡ onlyNumber 6 → (time + r .gap ≤ maxTime) × (length limits ≤ r .row .0)
+    to : (v : RecordTested) → Sorted limits time r v → recordTestedSays v ≡ refusedWith 6 0 → (time + r .gap ≤ maxTime) × (length limits ≤ r .row .0)
     to v (late h) e = numbers-apart {m = 10} {n = 6} e refl refl (λ z. omega arith)
     to v (no-row h u) e = (h, u)
     to v (no-cost h u o) e = numbers-apart {m = 7} {n = 6} e refl refl (λ z. omega arith)
     to v (fits f) e = impossible cc
 
-    from : (v : RecordTested) → Sorted limits time r v → (time + r .gap ≤ maxTime) × (length limits ≤ r .row .0) → recordTestedSays v ≡ onlyNumber 6
+    from : (v : RecordTested) → Sorted limits time r v → (time + r .gap ≤ maxTime) × (length limits ≤ r .row .0) → recordTestedSays v ≡ refusedWith 6 0
     from v (late h) l = absurd (omega (arith, l .0))
     from v (no-row h u) l = refl
     from v (no-cost h u o) l = absurd (omega (arith, l .1))
     from v (fits f) l = absurd (omega (arith, l .1, f .in-use))
 
-pub record-cost-means : laws.RecordCostMeans
+pub record-cost-means : RecordCostMeans
 record-cost-means limits time r = (to _ (sorted limits time r), from _ (sorted limits time r))
   where
-    to : (v : RecordTested) → Sorted limits time r v → recordTestedSays v ≡ onlyNumber 7
+    to : (v : RecordTested) → Sorted limits time r v → recordTestedSays v ≡ refusedWith 7 0
         → (time + r .gap ≤ maxTime) × (r .row .0 < length limits) × ((r .cost ≡ 0) ⊎ (getD limits (r .row .0) 0 < r .cost))
     to v (late h) e = numbers-apart {m = 10} {n = 7} e refl refl (λ z. omega arith)
     to v (no-row h u) e = numbers-apart {m = 6} {n = 7} e refl refl (λ z. omega arith)
@@ -133,13 +135,13 @@ record-cost-means limits time r = (to _ (sorted limits time r), from _ (sorted l
 
     from : (v : RecordTested) → Sorted limits time r v
         → (time + r .gap ≤ maxTime) × (r .row .0 < length limits) × ((r .cost ≡ 0) ⊎ (getD limits (r .row .0) 0 < r .cost))
-        → recordTestedSays v ≡ onlyNumber 7
+        → recordTestedSays v ≡ refusedWith 7 0
     from v (late h) l = absurd (omega (arith, l .0))
     from v (no-row h u) l = absurd (omega (arith, l .1))
     from v (no-cost h u o) l = refl
     from v (fits f) l = ⊎-elim (λ z. absurd (omega (arith, f .some-cost))) (λ above. absurd (omega (arith, f .allowed))) (l .2)
 
-pub record-ready-means : laws.RecordReadyMeans
+pub record-ready-means : RecordReadyMeans
 record-ready-means limits time r a = (to _ (sorted limits time r), from _ (sorted limits time r))
   where
     to : (v : RecordTested) → Sorted limits time r v → recordTestedSays v ≡ values (a .time .0 ∷ a .row .0 ∷ a .cost ∷ []) → RecordFits limits time r × (a .time .0 ≡ time + r .gap) × (a .row ≡ r .row) × (a .cost ≡ r .cost)
@@ -158,45 +160,45 @@ record-ready-means limits time r a = (to _ (sorted limits time r), from _ (sorte
 
 -- ---- both tests agree
 
--- Both agree on what a cost is answered.
+-- The two tests agree on a cost, whether it is allowed or refused.
 alike-cost : (a : CostAnswer) (place : ℕ) (r : Ready)
     → placesAside (onCost a place (tested.Ready r)) ≡ allowedOr a (record-tested.Ready (record { time = r .time; row = r .row; cost = r .cost }))
 alike-cost answer.Allowed place r = refl
 alike-cost (answer.Refused q) place r = refl
 
--- Both agree on a row number, whether it has a limit or none.
+-- The two tests agree on a row number, whether it has a limit or none.
 alike-row : (l : CostLimit) (row-place cost-place : ℕ) (r : Ready)
     → placesAside (onRow l row-place (onCost (costAnswer l (r .cost)) cost-place (tested.Ready r)))
     ≡ allowedOr (costAnswer l (r .cost)) (record-tested.Ready (record { time = r .time; row = r .row; cost = r .cost }))
 alike-row (limit.Units most) row-place cost-place r = alike-cost (costAnswer (limit.Units most) (r .cost)) cost-place r
 alike-row limit.NoSuchRow row-place cost-place r = refl
 
--- Both agree on whether a time is too late.
+-- The two tests agree on whether a time is above 2^40.
 alike-time : (test : Bool) (x : Tested) (y : RecordTested) (place : ℕ) → placesAside x ≡ y
     → placesAside (cond test x (refusedAt refusal.TimeTooLate place)) ≡ cond test y (record-tested.Refused refusal.TimeTooLate)
 alike-time true x y place e = e
 alike-time false x y place e = refl
 
-pub tested-alike : laws.TestedAlike
+pub tested-alike : TestedAlike
 tested-alike limits time n gap row cost e₁ e₂ e₃ =
     rw (e₁, e₂, e₃) (alike-time (leb (time + gap .value) maxTime) _ _ (n .gap .place)
     (alike-row (limitOf limits (row .value)) (n .row .place) (n .cost .place)
     (record { time = record { 0 = time + gap .value }; row = record { 0 = row .value }; cost = cost .value; next = cost .next })))
 
--- Where a record was read, the number before it was.
+-- Where a record was read, each of its numbers was read.
 number-before : (v : NumberRead) (k : Number → RecordRead) (found : RecordAt) → afterNumber v k ≡ read.Record found
     → (n : Number) × (v ≡ number.Number n) × (k n ≡ read.Record found)
 number-before (number.Number n) k found e = (n, refl, e)
 number-before (number.Refused r) k found e = impossible cc
 
--- Where a record was read, neither test of the place ended the script.
+-- Where a record was read, its place is not the script's end, and not past it.
 not-ended : (t u : Bool) (r : RefusedAt) (then : RecordRead) (found : RecordAt) → cond t (read.Refused r) (cond u read.End then) ≡ read.Record found
     → then ≡ read.Record found
 not-ended true u r then found e = impossible cc
 not-ended false true r then found e = impossible cc
 not-ended false false r then found e = e
 
--- The row number and the cost of a record stand after the numbers before them.
+-- The row number of a record is read right after the gap, and the cost right after the row number.
 row-after : (s : List ℕ) (at : ℕ) {gap row : Number} → scriptNumber s at ≡ number.Number gap → scriptNumber s (gap .next) ≡ number.Number row
     → numbersAt s at .row .read ≡ number.Number row
 row-after s at g r = rw g r
@@ -205,11 +207,11 @@ cost-after : (s : List ℕ) (at : ℕ) {gap row cost : Number} → scriptNumber 
     → scriptNumber s (row .next) ≡ number.Number cost → numbersAt s at .cost .read ≡ number.Number cost
 cost-after s at g r c = rw (g, r) c
 
--- A record that was read is one.
+-- Two readings that answer the same have read the same record.
 one-record : {a b : RecordAt} → read.Record a ≡ read.Record b → a ≡ b
 one-record e = cc
 
-pub tested-in-a-script : laws.TestedInAScript
+pub tested-in-a-script : TestedInAScript
 tested-in-a-script limits time s at found e =
     let gap = number-before (scriptNumber s at) _ found (not-ended (ltb (length s) at) (eqb at (length s)) _ _ found e) in
     let row = number-before (scriptNumber s (gap .0 .next)) _ found (gap .2) in

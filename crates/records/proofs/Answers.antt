@@ -1,4 +1,4 @@
--- What the tests say: each case is settled, none is numbered 0, and different answers say different things. (docs/RULES.md, section 10.)
+-- What the tests of a record say: what each answer says, that none is numbered 0, and that different answers say different things. (docs/RULES.md, section 10.)
 use mathlib.Core.Path.{_≡_, refl, ap, ap₂, subst, _∙_}
 use Rattle.kinds.specs.Numbering.{NeverNumberedZero, SaysApart, numbered}
 use Rattle.kinds.proofs.Apart.{impossible}
@@ -9,22 +9,24 @@ use Rattle.records.specs.declared.Tested.{Tested}
 use Rattle.records.specs.declared.Tested.the-variants as tested
 use Rattle.records.specs.declared.RecordTested.the-variants as record-tested
 use Rattle.records.specs.Numbers.{testedBy}
-use Rattle.records.specs.Laws as laws
-use Rattle.records.specs.Laws.{testedSays, recordTestedSays, NumbersRefused}
+use Rattle.records.specs.TestLaws.{TestReadyMeans, TestRefusedMeans}
+use Rattle.records.specs.Answers.{TestReadySays, RecordReadySays, RecordRefusedSays, TestRefusedSays, TestsNeverZero, TestsSaidApart}
+use Rattle.records.specs.Answers.{testedSays, recordTestedSays}
+use Rattle.records.specs.PassedTests.{NumbersRefused}
 use Rattle.records.proofs.Tests.{TestedSo, tests-mean, passed-ready, refused-so}
 
 -- ---- what is said
 
-pub ready-says : laws.ReadySays
-ready-says time row cost next = refl
+pub test-ready-says : TestReadySays
+test-ready-says time row cost next = refl
 
-pub test-refused-says : laws.TestRefusedSays
+pub test-refused-says : TestRefusedSays
 test-refused-says r place = refl
 
-pub record-ready-says : laws.RecordReadySays
+pub record-ready-says : RecordReadySays
 record-ready-says time row cost = refl
 
-pub record-refused-says : laws.RecordRefusedSays
+pub record-refused-says : RecordRefusedSays
 record-refused-says r = refl
 
 tested-never-zero : NeverNumberedZero testedSays
@@ -35,10 +37,10 @@ record-never-zero : NeverNumberedZero recordTestedSays
 record-never-zero (record-tested.Ready a) = tt
 record-never-zero (record-tested.Refused r) = never-zero r
 
-pub tests-never-zero : laws.TestsNeverZero
+pub tests-never-zero : TestsNeverZero
 tests-never-zero = (tested-never-zero, record-never-zero)
 
--- Releases that agree in their numbers are one.
+-- Two releases with the same time, row number, cost and next place are the same.
 same-ready : (a b : Ready) → a .time .0 ≡ b .time .0 → a .row .0 ≡ b .row .0 → a .cost ≡ b .cost → a .next ≡ b .next → a ≡ b
 same-ready a b time row cost next = rw (time, row, cost, next)
 
@@ -57,19 +59,19 @@ record-apart (record-tested.Ready a) (record-tested.Refused r) e = impossible cc
 record-apart (record-tested.Refused q) (record-tested.Ready b) e = impossible cc
 record-apart (record-tested.Refused q) (record-tested.Refused r) e = ap record-tested.Refused (plain-refusals-apart q r e)
 
-pub tests-said-apart : laws.TestsSaidApart
+pub tests-said-apart : TestsSaidApart
 tests-said-apart = (tested-apart, record-apart)
 
 -- ---- when it is said
 
-pub ready-means : laws.ReadyMeans
-ready-means limits time n r = (
+pub test-ready-means : TestReadyMeans
+test-ready-means limits time n r = (
   λ e. subst (TestedSo limits time n) (tested-apart (testedBy limits time n) (tested.Ready r) e) (tests-mean limits time n),
   λ w. ap testedSays (passed-ready limits time n w),
 )
 
-pub refused-means : laws.RefusedMeans
-refused-means limits time n k place = (by-answer (testedBy limits time n) (tests-mean limits time n), from)
+pub test-refused-means : TestRefusedMeans
+test-refused-means limits time n k place = (by-answer (testedBy limits time n) (tests-mean limits time n), from)
   where
     by-answer : (v : Tested) → TestedSo limits time n v → testedSays v ≡ numbered (record { number = k; first = place; second = 0 })
         → NumbersRefused limits time n k place

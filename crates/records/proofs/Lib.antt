@@ -1,4 +1,4 @@
 pub mod Tests
-pub mod Passing
+pub mod ReadRecords
 pub mod Alone
 pub mod Answers

@@ -1,4 +1,4 @@
--- A record's numbers, and their tests: each answer by the tests that lead to it, and no other. (docs/RULES.md, section 8.5.)
+-- The tests of a record's numbers: the tests that lead to each answer, and that there is no other answer. (docs/RULES.md, section 8.5.)
 use Prim.Native.Nat.{ℕ, _+_, _<_}
 use mathlib.Core.Path.{_≡_, refl, sym, ap, subst, _∙_}
 use mathlib.Core.Logic.{inl, inr, ⊎-elim}
@@ -24,14 +24,14 @@ use Rattle.records.specs.declared.Numbers.{Numbers}
 use Rattle.records.specs.declared.Ready.{Ready}
 use Rattle.records.specs.declared.Tested.{Tested}
 use Rattle.records.specs.declared.Tested.the-variants as tested
-use Rattle.records.specs.Numbers.{placedAt, placeAfter, numbersAt, refusedAt, testedBy}
-use Rattle.records.specs.Laws.{GapFits, RowFits, Passed, NumbersRefused}
+use Rattle.records.specs.Numbers.{placedAt, placeAfterNumber, numbersAt, refusedAt, testedBy}
+use Rattle.records.specs.PassedTests.{GapFits, RowFits, Passed, NumbersRefused}
 
 -- ---- the numbers of a record
 
--- Three numbers, each read at the place after the one before, are the record's.
-pub numbers-of : (s : List ℕ) (at : ℕ) (gap row cost : Placed) (second third : ℕ) → gap ≡ placedAt s at → second ≡ placeAfter (gap .read) (gap .place)
-    → row ≡ placedAt s second → third ≡ placeAfter (row .read) (row .place) → cost ≡ placedAt s third
+-- Three numbers, each read at the place after the one before, are the numbers of the record.
+pub numbers-of : (s : List ℕ) (at : ℕ) (gap row cost : Placed) (second third : ℕ) → gap ≡ placedAt s at → second ≡ placeAfterNumber (gap .read) (gap .place)
+    → row ≡ placedAt s second → third ≡ placeAfterNumber (row .read) (row .place) → cost ≡ placedAt s third
     → _≡_ {A = Numbers} (record { gap = gap; row = row; cost = cost }) (numbersAt s at)
 numbers-of s at gap row cost second third first a b d e = rw (e, d, b, a, first)
 
@@ -44,33 +44,33 @@ row-in-use limits row most e = elim (decLe (length limits) row) [
   | no h ↦ omega arith
 ]
 
--- Its limit is what stands at its number.
+-- The limit of a row number in use is the one that stands at its number.
 pub its-limit : (limits : List ℕ) (row most : ℕ) → limitOf limits row ≡ limit.Units most → getD limits row 0 ≡ most
 its-limit limits row most e = let here = limit-in-use limits row (row-in-use limits row most e) in cc
 
 module _ (limits : List ℕ) where
   module _ (time : ℕ) (n : Numbers) where
-    -- 14: the gap can't be read.
+    -- A gap that can't be read is refused with 14.
     pub gap-unread : {r : RefusedAt} → n .gap .read ≡ number.Refused r → tested.Refused r ≡ testedBy limits time n
     gap-unread e = rw e
 
-    -- 10: the record's time is above 2^40.
+    -- A time above 2^40 is refused with 10.
     pub time-too-late : {gap : Number} → n .gap .read ≡ number.Number gap → maxTime < time + gap .value
         → refusedAt TimeTooLate (n .gap .place) ≡ testedBy limits time n
     time-too-late {gap} e h = simp (e, lt-leb (time + gap .value) maxTime h)
 
   module _ {time : ℕ} {n : Numbers} {gap : Number} (p : GapFits time n gap) where
-    -- 14: the row number can't be read.
+    -- A row number that can't be read is refused with 14.
     pub row-unread : {r : RefusedAt} → n .row .read ≡ number.Refused r → tested.Refused r ≡ testedBy limits time n
     row-unread e = simp (p .gap-read, le-leb (time + gap .value) maxTime (p .in-time), e)
 
-    -- 6: there is no such row.
+    -- A row number that is not in use is refused with 6.
     pub no-such-row : {row : Number} → n .row .read ≡ number.Number row → limitOf limits (row .value) ≡ limit.NoSuchRow
         → refusedAt NoSuchRow (n .row .place) ≡ testedBy limits time n
     no-such-row e h = rw (p .gap-read, le-leb (time + gap .value) maxTime (p .in-time), e, h)
 
   module _ {time : ℕ} {n : Numbers} {gap row : Number} (p : RowFits limits time n gap row) where
-    -- 14: the cost can't be read.
+    -- A cost that can't be read is refused with 14.
     pub cost-unread : {r : RefusedAt} → n .cost .read ≡ number.Refused r → tested.Refused r ≡ testedBy limits time n
     cost-unread e = rw (
       p .gap-fits .gap-read,
@@ -81,7 +81,7 @@ module _ (limits : List ℕ) where
     )
 
     module _ {cost : Number} (e : n .cost .read ≡ number.Number cost) where
-      -- 7: the cost is not allowed.
+      -- A cost that is not allowed is refused with 7.
       pub not-allowed : {r : Refusal} → costAnswer (limit.Units (getD limits (row .value) 0)) (cost .value) ≡ answer.Refused r
           → refusedAt r (n .cost .place) ≡ testedBy limits time n
       not-allowed h = rw (
@@ -93,7 +93,7 @@ module _ (limits : List ℕ) where
         h,
       )
 
-      -- No test refuses: the record asks for its release.
+      -- A record that no test refuses is ready.
       pub ready : costAnswer (limit.Units (getD limits (row .value) 0)) (cost .value) ≡ answer.Allowed
           → tested.Ready (record { time = record { 0 = time + gap .value }; row = record { 0 = row .value }; cost = cost .value; next = cost .next })
           ≡ testedBy limits time n
@@ -108,18 +108,18 @@ module _ (limits : List ℕ) where
 
 -- ---- what each answer means
 
--- A number was read, or refused.
+-- A reading has read a number, or it was refused.
 by-read : {G : Type 0} (v : NumberRead) → ((x : Number) → v ≡ number.Number x → G) → ((r : RefusedAt) → v ≡ number.Refused r → G) → G
 by-read (number.Number x) read refused = read x refl
 by-read (number.Refused r) read refused = refused r refl
 
 module _ (limits : List ℕ) (time : ℕ) (n : Numbers) where
-  -- What is known of the numbers where the tests answer so.
+  -- What is known about the numbers of a record, given the answer of their tests.
   abbrev pub TestedSo : Tested → Type 0
   TestedSo (tested.Ready r) = Passed limits time n r
   TestedSo (tested.Refused r) = NumbersRefused limits time n (refusalNumber (r .refusal)) (r .place)
 
-  -- The tests in their order; there is no other answer.
+  -- The tests in their order lead to one of these answers, and there is no other.
   pub tests-mean : TestedSo (testedBy limits time n)
   tests-mean =
       by-read (n .gap .read)

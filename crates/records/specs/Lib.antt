@@ -1,2 +1,4 @@
 pub mod Numbers
-pub mod Laws
+pub mod Answers
+pub mod PassedTests
+pub mod TestLaws

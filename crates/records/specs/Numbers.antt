@@ -1,4 +1,5 @@
--- The three numbers of a record, and the tests of them that need only the rows' limits and the time reached. (docs/RULES.md, section 8.5, steps 1 to 6.)
+-- The three numbers of a script's record, and their tests. The tests need only the most that a job of each row may cost and the time reached. (docs/RULES.md,
+-- 7.1 to 7.6 and 8.5, steps 1 to 6.)
 use Prim.Native.Nat.{ℕ, _+_}
 use mathlib.Core.Bool.{cond}
 use mathlib.Core.List.{List}
@@ -26,46 +27,46 @@ use Rattle.records.specs.declared.RecordTested.the-variants as record-te
 
 -- ---- a record's numbers
 
--- The number of a script at a place.
+-- A number of a script: the place where it starts, and what is read there. (7.6)
 abbrev pub placedAt : List ℕ → (at : ℕ) → Placed
 placedAt s at = record { place = at; read = scriptNumber s at }
 
--- The place after a number. A number that can't be read has none, and whoever looks there finds it again.
-abbrev pub placeAfter : NumberRead → (at : ℕ) → ℕ
-placeAfter (number.Number n) at = n .next
-placeAfter (number.Refused r) at = at
+-- The place right after a number. For a number that can't be read it is the number's own place.
+abbrev pub placeAfterNumber : NumberRead → (at : ℕ) → ℕ
+placeAfterNumber (number.Number n) at = n .next
+placeAfterNumber (number.Refused r) at = at
 
--- The number that stands after another.
+-- The number of a script that starts right after another number.
 abbrev pub numberAfter : List ℕ → Placed → Placed
-numberAfter s p = placedAt s (placeAfter (p .read) (p .place))
+numberAfter s p = placedAt s (placeAfterNumber (p .read) (p .place))
 
--- The three numbers that stand at a place, one after another.
+-- The three numbers of the record at a place, one after another: the gap, the row number and the cost. (7.1)
 abbrev pub numbersAt : List ℕ → (at : ℕ) → Numbers
 numbersAt s at = record { gap = placedAt s at; row = numberAfter s (placedAt s at); cost = numberAfter s (numberAfter s (placedAt s at)) }
 
--- ---- their tests
+-- ---- the tests of a record's numbers
 
--- The tests refuse at a place.
+-- The answer of a test that refuses: the refusal, with a place. (10.2)
 abbrev pub refusedAt : Refusal → (place : ℕ) → Tested
 refusedAt r place = tested.Refused (record { refusal = r; place = place })
 
--- What comes after a number; one that can't be read is refused as it was.
+-- A number that was read goes on to the tests `k`. A number that can't be read is refused as its reader refused it. (8.5, steps 1, 3 and 5)
 abbrev pub onNumber : NumberRead → (Number → Tested) → Tested
 onNumber (number.Number n) k = k n
 onNumber (number.Refused r) k = tested.Refused r
 
--- What comes after a row number; one that is not in use is refused with 6, where it stands. (8.5, step 4)
+-- A row number in use goes on to the tests `then`. One that is not in use is refused with 6, at its start. (8.5, step 4)
 abbrev pub onRow : CostLimit → (place : ℕ) → Tested → Tested
 onRow (limit.Units most) place then = then
 onRow limit.NoSuchRow place then = refusedAt NoSuchRow place
 
--- What comes after a cost; one that is not allowed is refused where it stands. (8.5, step 6)
+-- A cost that is allowed goes on to `then`. One that is not is refused at its start. (8.5, step 6)
 abbrev pub onCost : CostAnswer → (place : ℕ) → Tested → Tested
 onCost answer.Allowed place then = then
 onCost (answer.Refused r) place then = refusedAt r place
 
--- The tests in their order, each number before the next is looked at: gap 14, 10, row number 14, 6, cost 14, 7. `limits` has the most that a job of each row may
--- cost, and `time` is the time reached.
+-- The tests of a record's three numbers, in their order. Each number is tested before the next is looked at: the gap by 14 and 10, the row number by 14 and 6,
+-- the cost by 14 and 7. `limits` has the most that a job of each row may cost, and `time` is the script time of the record before. (8.5, steps 1 to 6)
 abbrev pub testedBy : (limits : List ℕ) (time : ℕ) → Numbers → Tested
 testedBy limits time n =
     onNumber (n .gap .read) λ gap.
@@ -77,18 +78,18 @@ testedBy limits time n =
     (tested.Ready (record { time = record { 0 = time + gap .value }; row = record { 0 = row .value }; cost = cost .value; next = cost .next }))))
     (refusedAt TimeTooLate (n .gap .place))
 
--- The tests by a table's rows in use.
+-- The tests of a record's three numbers on a table: its rows in use give the limits. (8.5, steps 1 to 6)
 abbrev pub testedNumbers : Table → (time : ℕ) → Numbers → Tested
 testedNumbers t time n = testedBy (costLimits t) time n
 
--- ---- a record that stands at no place
+-- ---- a record that was read already
 
--- A record is ready where its cost is allowed, and else refused as the cost is.
+-- A record whose cost is allowed goes on to `then`. A record whose cost is not allowed is refused as its cost is.
 abbrev pub allowedOr : CostAnswer → RecordTested → RecordTested
 allowedOr answer.Allowed then = then
 allowedOr (answer.Refused r) then = record-tested.Refused r
 
--- The tests of a record whose three numbers were read already: 10, 6, 7. They name no place.
+-- The tests of a record whose three numbers were read already. They refuse with 10, 6 or 7, in this order, and name no place. (10.7)
 abbrev pub recordTested : (limits : List ℕ) (time : ℕ) → Record → RecordTested
 recordTested limits time r =
     cond (leb (time + r .gap) maxTime)
@@ -96,7 +97,7 @@ recordTested limits time r =
     (record-tested.Ready (record { time = record { 0 = time + r .gap }; row = r .row; cost = r .cost })))
     (record-tested.Refused TimeTooLate)
 
--- What the tests of placed numbers say, places aside.
+-- The answer of the tests of a record's numbers, without its places: neither the place of a refusal nor the place after the record.
 abbrev pub placesAside : Tested → RecordTested
 placesAside (tested.Ready r) = record-tested.Ready (record { time = r .time; row = r .row; cost = r .cost })
 placesAside (tested.Refused r) = record-tested.Refused (r .refusal)

@@ -1,4 +1,4 @@
-// A record's three numbers, wherever they came from, and their tests, each in its turn. (docs/RULES.md, 7.1 to 7.6 and 8.5.)
+// The three numbers of a script's record, and their tests in the order of the rules. (docs/RULES.md, 7.1 to 7.6 and 8.5.)
 use kinds::Refusal;
 use kinds::RefusedAt;
 use kinds::RowNumber;
@@ -11,22 +11,22 @@ ghost use mathlib.Core.Path.{_≡_};
 ghost use Prim.Native.Nat.{_+_};
 ghost use lib.Dec.{leb};
 ghost use Rattle.kinds.specs.Numbering.{maxTime};
-ghost use Rattle.records.specs.Numbers.{placedAt, placeAfter, numbersAt, refusedAt, testedBy, recordTested};
+ghost use Rattle.records.specs.Numbers.{placedAt, placeAfterNumber, numbersAt, refusedAt, testedBy, recordTested};
 
-// A number of a script: where it starts, and what is read there.
+// A number of a script: the place where it starts, and what is read there.
 pub struct Placed {
     pub place: usize,
     pub read: NumberRead,
 }
 
-// The three numbers of a record.
+// The three numbers of a record, each with its place. (7.1)
 pub struct Numbers {
     pub gap: Placed,
     pub row: Placed,
     pub cost: Placed,
 }
 
-// A release that a record asks for: when, of which row, at which cost; and the place after the record.
+// The release that a record at a place asks for: its time, its row number and its cost, and the place after the record.
 pub struct Ready {
     pub time: Tick,
     pub row: RowNumber,
@@ -34,23 +34,26 @@ pub struct Ready {
     pub next: usize,
 }
 
+// The answer of the tests of a record at a place.
 pub enum Tested {
     Ready(Ready),
     Refused(RefusedAt),
 }
 
-// A release that a record asks for, where the record stands at no place: when, of which row, at which cost.
+// The release that a record asks for that was read already: its time, its row number and its cost.
 pub struct Asked {
     pub time: Tick,
     pub row: RowNumber,
     pub cost: u64,
 }
 
+// The answer of the tests of a record that was read already. Its refusals name no place.
 pub enum RecordTested {
     Ready(Asked),
     Refused(Refusal),
 }
 
+// The number of a script at a place, with that place. (7.6)
 fn placed_at(script: &[u8], at: usize) -> Placed
     ensures { λ r. ⌜ r ≡ placedAt (now (script .entry)) at ⌝ }
 {
@@ -58,9 +61,9 @@ fn placed_at(script: &[u8], at: usize) -> Placed
     Placed { place: at, read }
 }
 
-// The place after a number, and its own where it can't be read.
+// The place right after a number. For a number that can't be read it is the number's own place.
 fn place_after(number: Placed) -> usize
-    ensures { λ r. ⌜ r ≡ placeAfter (number .read) (number .place) ⌝ }
+    ensures { λ r. ⌜ r ≡ placeAfterNumber (number .read) (number .place) ⌝ }
 {
     let read = number.read;
     match read {
@@ -69,7 +72,7 @@ fn place_after(number: Placed) -> usize
     }
 }
 
-// The three numbers that stand at a place.
+// The three numbers of the record at a place, one after another: the gap, the row number and the cost. (7.1)
 pub fn numbers_at(script: &[u8], at: usize) -> Numbers
     ensures { λ r. ⌜ r ≡ numbersAt (now (script .entry)) at ⌝ }
 {
@@ -79,13 +82,14 @@ pub fn numbers_at(script: &[u8], at: usize) -> Numbers
     Numbers { gap, row, cost }
 }
 
+// The answer of a test that refuses: the refusal, with a place. (10.2)
 fn refused_at(refusal: Refusal, place: usize) -> Tested
     ensures { λ r. ⌜ r ≡ refusedAt refusal place ⌝ }
 {
     Tested::Refused(RefusedAt { refusal, place })
 }
 
-// Whether a time and a gap come to a time of at most 2^40.
+// Whether the sum of a time and a gap is at most 2^40. The sum itself is not made, since it could overflow. (8.5, step 2)
 fn in_time(time: Tick, gap: u64) -> bool
     ensures { λ r. ⌜ r ≡ leb (time .0 + gap) maxTime ⌝ }
 {
@@ -95,8 +99,8 @@ fn in_time(time: Tick, gap: u64) -> bool
     gap <= Tick::MAX - time.0
 }
 
-// The tests of a record's numbers, each number before the next is looked at: gap 14, 10, row number 14, 6, cost 14, 7. `limits` lends the most that a job of
-// each row may cost.
+// The tests of a record's three numbers. Each number is tested before the next is looked at: the gap by 14 and 10, the row number by 14 and 6, the cost by 14
+// and 7. `limits` lends the most that a job of each row may cost, and `time` is the script time of the record before. (8.5, steps 1 to 6)
 pub fn test_numbers(numbers: Numbers, limits: &[u64], time: Tick) -> Tested
     ensures { λ r. ⌜ r ≡ testedBy (now (limits .entry)) (time .0) numbers ⌝ }
 {
@@ -142,7 +146,7 @@ pub fn test_numbers(numbers: Numbers, limits: &[u64], time: Tick) -> Tested
     }
 }
 
-// The same tests of a record whose numbers were read already: 10, 6, 7. It stands at no place, so its refusals name none.
+// The tests of a record whose three numbers were read already. They refuse with 10, 6 or 7, in this order, and name no place. (10.7)
 pub fn test_record(release: Record, limits: &[u64], time: Tick) -> RecordTested
     ensures { λ r. ⌜ r ≡ recordTested (now (limits .entry)) (time .0) release ⌝ }
 {

@@ -1,4 +1,5 @@
--- What is written of a log: all records while they fit, and from the first that does not on the log is full. (docs/RULES.md, sections 8.8 to 8.16.)
+-- What is known about a log as it is written: it holds all records while they fit, and is full from the first record on that does not. (docs/RULES.md, sections
+-- 8.8 to 8.16.)
 use Prim.Native.Nat.{ℕ, _+_, _-_, _≤_, _<_}
 use mathlib.Core.Path.{_≡_, refl, sym, _∙_}
 use mathlib.Core.Bool.{true, false, cond}
@@ -11,18 +12,18 @@ use Rattle.theory.proofs.Cases.{by-lt, by-test}
 use Rattle.kinds.specs.declared.Finish.{Finish}
 use Rattle.kinds.specs.declared.Refusal.the-variants.{NoRoom}
 use Rattle.log.specs.Log.{valuesOf, spelledFinish, allInRange}
-use Rattle.log.specs.Laws.{spelledLog, Holds}
+use Rattle.log.specs.SpelledLogs.{spelledLog, HoldsRecords}
 use Rattle.log.proofs.Records.{answers-no-room, answers-length}
-use Rattle.log.proofs.Laws.{log-grows}
+use Rattle.log.proofs.Logs.{log-grows}
 use Rattle.replay.specs.declared.Logged.{Logged}
 use Rattle.replay.specs.declared.Replayed.the-variants as replayed
 use Rattle.play.specs.Play.{Progress, whole}
 use Rattle.play.specs.Late.{finishedLate, lateFinishes}
-use Rattle.replay.specs.Outcome.{answerOf}
-use Rattle.replay.specs.Inside.{oneLogged, oneWritten, Logs}
+use Rattle.replay.specs.Outcome.{replayOutcome}
+use Rattle.replay.specs.Arrays.{oneLogged, oneWritten, Logs}
 use Rattle.play.proofs.Lateness.{late-finishes-more}
 
--- Before the first.
+-- Before the first job has finished, the log is empty.
 pub logs-none : (log : List ℕ) → Logs [] log log (record { length = 0; late = 0; full = false })
 unfolding lateFinishes flatten
 logs-none log = record {
@@ -33,7 +34,7 @@ logs-none log = record {
   no-room = λ e. impossible cc;
 }
 
--- No more are late than have finished.
+-- The number of jobs late is at most the number of finished jobs.
 pub late-are-few : (fs : List Finish) → lateFinishes fs ≤ length fs
 unfolding lateFinishes
 late-are-few [] = omega arith
@@ -43,7 +44,7 @@ late-are-few (f ∷ fs) =
 
 -- ---- one more
 
--- One job more makes the log longer.
+-- One more record makes the log longer by the record's length.
 length-of-one-more : (fs : List Finish) (f : Finish) → length (spelledLog (fs ++ (f ∷ []))) ≡ length (spelledLog fs) + length (spelledFinish f)
 unfolding flatten
 length-of-one-more [] f = omega (arith, length-append (spelledFinish f) [])
@@ -53,7 +54,7 @@ length-of-one-more (g ∷ fs) f =
     omega (arith, length-of-one-more fs f)
 
 module _ {fs : List Finish} {log₀ log : List ℕ} {l : Logged} (w : Logs fs log₀ log l) (f : Finish) (in-range : allInRange (valuesOf f) ≡ true) where
-  -- The log is full already: it stays so, and is not written to.
+  -- A full log stays full, and is not written to.
   logs-full : l .full ≡ true → Logs (fs ++ (f ∷ [])) log₀ (oneWritten l f log) (oneLogged (length log) l f)
   logs-full full = rw full (record {
     late = rw (late-finishes-more fs f, w .late);
@@ -64,7 +65,7 @@ module _ {fs : List Finish} {log₀ log : List ℕ} {l : Logged} (w : Logs fs lo
   })
 
   module _ (not-full : l .full ≡ false) where
-    -- The record fits.
+    -- Where the record fits, the log holds it too.
     logs-fits : length (spelledFinish f) ≤ length log - l .length → Logs (fs ++ (f ∷ [])) log₀ (oneWritten l f log) (oneLogged (length log) l f)
     logs-fits h =
         let fits = answers-length f (length log - l .length) in-range h in
@@ -77,7 +78,7 @@ module _ {fs : List Finish} {log₀ log : List ℕ} {l : Logged} (w : Logs fs lo
           no-room = λ e. impossible cc;
         })
 
-    -- The record does not fit, and the log is full from now on.
+    -- Where the record does not fit, the log is full from now on.
     logs-overflows : length log - l .length < length (spelledFinish f) → Logs (fs ++ (f ∷ [])) log₀ (oneWritten l f log) (oneLogged (length log) l f)
     logs-overflows h =
         let known = w .holds not-full in
@@ -89,7 +90,7 @@ module _ {fs : List Finish} {log₀ log : List ℕ} {l : Logged} (w : Logs fs lo
           no-room = λ e. omega (arith, known .up-to, known .within, known .same-length, length-of-one-more fs f);
         })
 
-  -- One of the three.
+  -- One more finished job is logged, whether the log is full, the record fits, or it does not.
   pub logs-one-more : Logs (fs ++ (f ∷ [])) log₀ (oneWritten l f log) (oneLogged (length log) l f)
   logs-one-more =
       by-test (l .full) logs-full λ not-full.
@@ -97,31 +98,31 @@ module _ {fs : List Finish} {log₀ log : List ℕ} {l : Logged} (w : Logs fs lo
 
 -- ---- the answer, once all have finished
 
-module _ {log₀ log : List ℕ} {l : Logged} (p : Progress) (w : Logs (p .since .finishes) log₀ log l) (end : ℕ) where
-  -- The jobs that finished.
+module _ {log₀ log : List ℕ} {l : Logged} (p : Progress) (w : Logs (p .so-far .finishes) log₀ log l) (end : ℕ) where
+  -- `all` are the jobs that finished.
   abbrev all : List Finish
-  all = p .since .finishes
+  all = p .so-far .finishes
 
-  -- The log had no room for them: 12.
-  pub answers-full : l .full ≡ true → answerOf (length log₀) end (whole p) ≡ replayed.Refused (record { refusal = NoRoom; place = end })
+  -- Where the log is full, the answer is 12.
+  pub answers-full : l .full ≡ true → replayOutcome (length log₀) end (whole p) ≡ replayed.Refused (record { refusal = NoRoom; place = end })
   answers-full full = rw (lt-leb (length (spelledLog all)) (length log₀) (w .no-room full))
 
-  -- The log had room for them.
+  -- Where the log is not full, all records fit.
   module _ (not-full : l .full ≡ false) where
-    -- Then the log holds them.
-    abbrev held : Holds all log₀ log (l .length)
+    -- Where the log is not full, it holds the records of all jobs.
+    abbrev held : HoldsRecords all log₀ log (l .length)
     held = w .holds not-full
 
     it-fits : length (spelledLog all) ≤ length log₀
     it-fits = omega (arith, held .up-to, held .within, held .same-length)
 
-    -- All were in time.
-    pub answers-in-time : l .late ≡ 0 → answerOf (length log₀) end (whole p) ≡ replayed.InTime (l .length)
+    -- Where no job is late, the answer is 22.
+    pub answers-in-time : l .late ≡ 0 → replayOutcome (length log₀) end (whole p) ≡ replayed.InTime (l .length)
     answers-in-time none =
         rw (le-leb (length (spelledLog all)) (length log₀) it-fits, eq-eqb (lateFinishes all) 0 (sym (w .late) ∙ none), held .up-to)
 
-    -- Some were late.
-    pub answers-late : (l .late ≡ 0 → ⊥) → answerOf (length log₀) end (whole p) ≡ replayed.Late (record { length = l .length; late = l .late })
+    -- Where some job is late, the answer is 23.
+    pub answers-late : (l .late ≡ 0 → ⊥) → replayOutcome (length log₀) end (whole p) ≡ replayed.Late (record { length = l .length; late = l .late })
     answers-late some =
         rw (
           le-leb (length (spelledLog all)) (length log₀) it-fits,

@@ -1,4 +1,4 @@
--- A record on arrays: the ticks until its time, and its release. (docs/RULES.md, sections 6.6 to 6.9, 8.2 and 8.5.)
+-- A record is played on arrays: after the ticks until its script time, its job is refused or put in. (docs/RULES.md, sections 6.6 to 6.9, 8.2 and 8.5.)
 use Prim.Native.Nat.{ℕ, _+_, _≤_, _<_}
 use mathlib.Core.Path.{_≡_, sym, ap, ap₂, _∙_}
 use mathlib.Core.List.{List, [], _∷_, _++_}
@@ -34,72 +34,72 @@ use Rattle.play.proofs.SingleTicks.{TicksFrom}
 use Rattle.play.proofs.OnItsWay.{releasedOn}
 use Rattle.replay.specs.declared.Going.{Going}
 use Rattle.replay.specs.declared.RecordStep.the-variants as step
-use Rattle.replay.specs.Inside.{Held, Stands, LeadsTo, Lists, columnsIn, ringsIn, heldIn, StandsAt, MayRelease, SteppedTo}
-use Rattle.replay.proofs.Arriving.{heldAt, arrived-keeps, stands-arrived, release-accepted, stands-released}
+use Rattle.replay.specs.Arrays.{TickArrays, ArraysHoldRun, LeadsTo, Lists, columnsIn, ringsIn, tickArraysIn, ArraysHoldPlay, MayRelease, SteppedTo}
+use Rattle.replay.proofs.OneRecord.{heldAt, arrived-keeps, stands-arrived, release-accepted, stands-released}
 
--- Where a place is free, a job that is put in is not refused.
+-- Where a place is unused, putting in a job is never refused.
 pub not-full : {A : Type 0} (count : ℕ) → count < maxPlaces → {answer : PutAnswer} → answer ≡ answerBeside count → {refusal : Refusal}
     → answer ≡ put.Refused refusal → A
 not-full count room {answer} says r =
     let done : answer ≡ put.Count (count + 1) = says ∙ rw (lt-ltb count maxPlaces room) in
     impossible cc
 
-module _ {p : Progress} {log₀ : List ℕ} {l : Lists} {g : Going} (w : StandsAt p log₀ l g) {ready : Ready} {row : Row} (may : MayRelease p ready row)
-    (in-time : ready .time .0 ≤ maxTime) {h : Held} (led : LeadsTo (ready .time .0) (heldIn l g) h) (place : ℕ) where
-  -- The play at the record's time.
+module _ {p : Progress} {log₀ : List ℕ} {l : Lists} {g : Going} (w : ArraysHoldPlay p log₀ l g) {ready : Ready} {row : Row} (may : MayRelease p ready row)
+    (in-time : ready .time .0 ≤ maxTime) {h : TickArrays} (led : LeadsTo (ready .time .0) (tickArraysIn l g) h) (place : ℕ) where
+  -- `there` is the play at the record's script time, and `run` is its run.
   abbrev there : Progress
   there = tickedTo (ready .time .0) p
 
   abbrev run : Run
-  run = there .since .run
+  run = there .so-far .run
 
   ahead : g .clock .0 ≤ ready .time .0
   ahead = omega (arith, w .stands .clocks, may .ahead)
 
-  stands-there : Stands (there .since) log₀ (heldAt (ready .time .0) h)
+  stands-there : ArraysHoldRun (there .so-far) log₀ (heldAt (ready .time .0) h)
   stands-there = stands-arrived (w .stands) ahead in-time led
 
-  keeps : TicksFrom (p .since) (there .since)
+  keeps : TicksFrom (p .so-far) (there .so-far)
   keeps = arrived-keeps (w .stands) ahead in-time
 
   good : Good run
   good = stands-there .on-its-way .good
 
-  -- Its row number is in use there, and its cost allowed.
+  -- The record's row number is in use at that time too.
   in-use : ready .row .0 < run .table .count
   in-use = rw (keeps .same-table) (may .in-use)
 
-  -- What the release answers is what the record comes to.
+  -- Where the release is refused, the play stops with that refusal at the record's start.
   refused-so : {refusal : Refusal} → released run (ready .row .0) (ready .cost) .answer ≡ release.Refused refusal
       → releasedAt place ready there ≡ stops (record { refusal = refusal; place = place })
   refused-so e = rw e
 
-  -- All places are in use.
+  -- Where all places are in use, the play stops with 8.
   pub stops-full : maxPlaces ≤ h .jobs .count → releasedAt place ready there ≡ stops (record { refusal = PlacesFull; place = place })
   stops-full full =
       refused-so (ap (λ (x : ReleaseStep). x .answer)
       (sym (places-full run (ready .row .0) (ready .cost) (good .0) (rw (keeps .same-table) (may .allowed)) (omega (arith, stands-there .counts)))))
 
-  -- A place is free.
+  -- From here on a place is unused.
   module _ (room : h .jobs .count < maxPlaces) {d : Due} (given : d ≡ dueIn (ringsIn l) (ready .row .0) row (ready .time .0) (ready .cost)) where
     passed : Passed run (ready .row .0) (ready .cost)
     passed = passes run (ready .row .0) (ready .cost) (good .0) (rw (keeps .same-table) (may .allowed)) (omega (arith, stands-there .counts))
 
-    -- The due time is the one by what is kept of the row.
+    -- The due time from the rings is the due time by the kept due times of the run's row.
     due-so : dueOf (keptOf run (ready .row .0)) (rowAt (run .table) (ready .row .0)) (run .clock .0) (ready .cost) ≡ d
     due-so =
         rw (keeps .same-table, keeps .same-kept, stands-there .clocks, given, may .its-row)
-        (sym (due-is-the-rows (ringsIn l) (p .since .run .table .count) (p .since .run .table .rows) (p .since .run .kept) (w .kept) (ready .row .0) (ready .time .0)
+        (sym (due-is-the-rows (ringsIn l) (p .so-far .run .table .count) (p .so-far .run .table .rows) (p .so-far .run .kept) (w .kept) (ready .row .0) (ready .time .0)
         (ready .cost) (may .in-use)))
 
-    -- The due time is too late.
+    -- Where the due time is above 2^40, the play stops with its refusal.
     pub stops-due : {refusal : Refusal} → d ≡ due.Refused refusal → releasedAt place ready there ≡ stops (record { refusal = refusal; place = place })
     stops-due {refusal} e =
         refused-so (ap (λ (x : ReleaseStep). x .answer) (sym (due-settles run (ready .row .0) (ready .cost) passed (due.Refused refusal) (due-so ∙ e))))
 
-    -- The due time is given: it is kept, and the job is put in.
+    -- From here on the due time is given. It is kept, and the job is put in.
     module _ {u : Tick} (e : d ≡ due.At u) where
-      -- The job as the code makes it.
+      -- `job` is the job as the code makes it.
       abbrev job : Job
       job = record { serial = g .next; row = ready .row; release = ready .time; due = u; cost = ready .cost; left = ready .cost }
 
@@ -114,7 +114,7 @@ module _ {p : Progress} {log₀ : List ℕ} {l : Lists} {g : Going} (w : StandsA
           (holds : columnsIn after (countAfter answer (h .jobs .count)) ≡ putIn (h .jobs) job) where
         module _ {more : ℕ} (counts : answer ≡ put.Count more) (kept : ringsIn after ≡ ringsAfter d (ringsIn l) (ready .row .0) row)
             (logs : after .log ≡ h .log) where
-          -- How far the play has come then.
+          -- `going` is how far the play has come after the release.
           abbrev going : Going
           going = record { count = more; clock = ready .time; next = record { 0 = g .next .0 + 1 }; logged = h .logged }
 
@@ -130,19 +130,19 @@ module _ {p : Progress} {log₀ : List ℕ} {l : Lists} {g : Going} (w : StandsA
           }
           accepted = release-accepted stands-there passed (due-so ∙ e)
 
-          -- The play goes on, and stands in the arrays.
+          -- The play goes on after the record, and the arrays hold it.
           pub goes-further : SteppedTo (releasedAt place ready there) (ready .next) log₀ after (step.Next going)
           goes-further = (
             record {
-              since = releasedOn (there .since) (ready .row .0) (ready .cost);
+              so-far = releasedOn (there .so-far) (ready .row .0) (ready .cost);
               accepted = p .accepted ++ (newJob run (ready .row .0) (ready .cost) u ∷ []);
             },
             rw (ap (λ (x : ReleaseStep). x .answer) accepted),
             record {
               stands = rw (← logs) at (stands-released stands-there passed (due-so ∙ e) put-so one-more);
               kept = rw (accepted, kept, e, may .its-row, keeps .same-table, keeps .same-kept)
-                  (holds-on (ringsIn l) (p .since .run .table .count) (p .since .run .table .rows) (p .since .run .kept) (w .kept)
-                  (omega (arith, facts (p .since .run) (w .stands .on-its-way .good) .few-rows, w .stands .on-its-way .good .1 .all-kept)) (ready .row .0) u (may .in-use));
+                  (holds-on (ringsIn l) (p .so-far .run .table .count) (p .so-far .run .table .rows) (p .so-far .run .kept) (w .kept)
+                  (omega (arith, facts (p .so-far .run) (w .stands .on-its-way .good) .few-rows, w .stands .on-its-way .good .1 .all-kept)) (ready .row .0) u (may .in-use));
               same-next = rw (accepted, keeps .same-next, w .same-next);
             },
           )

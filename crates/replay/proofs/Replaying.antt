@@ -1,4 +1,5 @@
--- A script played record by record on arrays, up to its end, and the answers of a play and of a replay. (docs/RULES.md, section 8.)
+-- A script is played record by record on arrays, up to its end, and the answers of `play` and `replay` are those of their definitions. (docs/RULES.md, section
+-- 8.)
 use Prim.Native.Nat.{ℕ, zero, suc, _+_, _-_, _≤_, _<_}
 use mathlib.Core.Path.{_≡_, refl, sym, ap, ap₂, _∙_}
 use mathlib.Core.Bool.{true, false}
@@ -10,7 +11,7 @@ use Rattle.kinds.specs.Numbering.{maxTime}
 use Rattle.kinds.specs.declared.Serial.{Serial}
 use Rattle.kinds.specs.declared.Refusal.the-variants.{TimeTooLate, NoRoom}
 use Rattle.kinds.specs.declared.RefusedAt.{RefusedAt}
-use Rattle.numbers.specs.Laws.{Bytes}
+use Rattle.numbers.specs.SpelledNumbers.{Bytes}
 use Rattle.table.specs.declared.Row.{Row}
 use Rattle.table.specs.declared.Table.{Table}
 use Rattle.table.specs.Limits.{maxRows}
@@ -18,7 +19,7 @@ use Rattle.table.specs.Tables.{noRow, rowsOf}
 use Rattle.table.specs.declared.CostLimit.{CostLimit}
 use Rattle.table.specs.Costs.{csOf, costLimits, limitOf, costAnswer}
 use Rattle.table.proofs.CostLimits.{limit-in-use, cost-allowed, limits-are-the-first}
-use Rattle.table.proofs.Laws.{in-range-means}
+use Rattle.table.proofs.SpelledTables.{in-range-means}
 use Rattle.jobs.specs.Places.{maxPlaces}
 use Rattle.columns.proofs.Holding.{nothing-is-held}
 use Rattle.rings.specs.Rings.{maxTimes}
@@ -27,23 +28,23 @@ use Rattle.run.specs.declared.Run.{Run}
 use Rattle.run.specs.declared.Started.{Started}
 use Rattle.run.specs.declared.StartAnswer.the-variants as start
 use Rattle.run.specs.Runs.{freshRun, started}
-use Rattle.run.specs.Advance.{Since, ticksWhilePending}
+use Rattle.run.specs.ManyTicks.{SoFar, ticksWhilePending}
 use Rattle.run.proofs.Fresh.{started-is-sound}
 use Rattle.run.proofs.Release.{each-release}
 use Rattle.run.proofs.Ticking.{Good, facts}
-use Rattle.script.proofs.Laws.{record-is-spelled}
+use Rattle.script.proofs.Scripts.{record-is-spelled}
 use Rattle.records.specs.declared.Numbers.{Numbers}
 use Rattle.records.specs.declared.Ready.{Ready}
 use Rattle.records.specs.declared.Tested.{Tested}
 use Rattle.records.specs.declared.Tested.the-variants as tested
 use Rattle.records.specs.Numbers.{numbersAt, testedBy, testedNumbers}
-use Rattle.records.specs.Laws.{Passed}
-use Rattle.records.proofs.Passing.{ready-passed, passed-is-read}
+use Rattle.records.specs.PassedTests.{Passed}
+use Rattle.records.proofs.ReadRecords.{ready-passed, passed-is-read}
 use Rattle.play.specs.Play.{Progress, begun, stops, tickedTo, releasedAt, stepped}
 use Rattle.play.specs.Play.{whole, stopped, endedAt, finalTicks, andThen, playedFrom, playedOn, onceStarted, played}
 use Rattle.play.proofs.SingleTicks.{tick-table}
 use Rattle.play.proofs.OnItsWay.{on-its-way-first}
-use Rattle.play.proofs.Through.{Keeps, went-on, step-keeps}
+use Rattle.play.proofs.KeptThroughout.{Keeps, went-on, step-keeps}
 use Rattle.replay.specs.declared.Logged.{Logged}
 use Rattle.replay.specs.declared.LateJobs.{LateJobs}
 use Rattle.replay.specs.declared.Replayed.{Replayed}
@@ -51,54 +52,54 @@ use Rattle.replay.specs.declared.Replayed.the-variants as replayed
 use Rattle.replay.specs.declared.Going.{Going}
 use Rattle.replay.specs.declared.RecordStep.{RecordStep}
 use Rattle.replay.specs.declared.RecordStep.the-variants as step
-use Rattle.replay.specs.Outcome.{finishedIn, answerOf, replayOf, logAfter}
-use Rattle.replay.specs.Inside.{Logs, Held, InBounds, Stands, LeadsTo, LeftIn}
-use Rattle.replay.specs.Inside.{Lists, lists, columnsIn, heldIn, CanGo, StandsAt, MayRelease, SteppedTo, RecordPlayed}
+use Rattle.replay.specs.Outcome.{finishedIn, replayOutcome, replayOf, logAfter}
+use Rattle.replay.specs.Arrays.{Logs, TickArrays, InBounds, ArraysHoldRun, LeadsTo, LeftIn}
+use Rattle.replay.specs.Arrays.{Lists, lists, columnsIn, tickArraysIn, CanGo, ArraysHoldPlay, MayRelease, SteppedTo, RecordPlayed}
 use Rattle.replay.proofs.Logging.{logs-none, late-are-few, answers-full, answers-in-time, answers-late}
 
 -- ---- a script, record by record
 
--- Before the script's end comes a record, and then the rest.
+-- Before the script's end a play goes on with a record, and then with the rest.
 record-first : (n : ℕ) (s : List ℕ) (at : ℕ) (p : Progress) → at < length s
     → playedFrom (suc n) s at p ≡ andThen (stepped p (numbersAt s at)) (λ q next. playedFrom n s next q)
 unfolding playedFrom
 record-first n s at p inside = rw (ne-eqb at (length s) (λ e. omega arith))
 
--- At the script's end come the final ticks.
+-- At the script's end a play goes on with the final ticks.
 ticks-last : (n : ℕ) (s : List ℕ) (at : ℕ) (p : Progress) → at ≡ length s → playedFrom n s at p ≡ finalTicks (length s) p
 unfolding playedFrom
 ticks-last zero s at p e = refl
 ticks-last (suc n) s at p e = rw (eq-eqb at (length s) e)
 
--- How far a play on arrays has come at a place of its script, beside the same by single ticks: it leads to the same end.
+-- The arrays hold a play at a place of its script, and the play by single ticks from there on comes to the same end as the whole play.
 pub record Plays (s : List ℕ) (t : Table) (log₀ : List ℕ) (l : Lists) (g : Going) (at : ℕ) : Type 0 where
   pub progress : Progress
   pub left : ℕ
   pub leads-on : playedFrom left s at progress ≡ playedOn s (freshRun t)
   pub enough : length s ≤ at + left
   pub within : at ≤ length s
-  pub same-table : progress .since .run .table ≡ t
-  pub stands : StandsAt progress log₀ l g
+  pub same-table : progress .so-far .run .table ≡ t
+  pub stands : ArraysHoldPlay progress log₀ l g
 
--- A play that came to its end.
+-- A play on arrays came to its end: the play by single ticks ends the same way, and its finished jobs are logged.
 pub record PlaysWhole (s : List ℕ) (t : Table) (log₀ log : List ℕ) (l : Logged) : Type 0 where
   pub progress : Progress
   pub ends : playedOn s (freshRun t) ≡ whole progress
-  pub logs : Logs (progress .since .finishes) log₀ log l
+  pub logs : Logs (progress .so-far .finishes) log₀ log l
 
--- Ticks and releases leave the table as it is.
-on-its-table : (t : Table) → Keeps (λ p. p .since .run .table ≡ t)
+-- Every tick and every accepted release leaves the table as it is.
+on-its-table : (t : Table) → Keeps (λ p. p .so-far .run .table ≡ t)
 on-its-table t = record {
-  tick = λ p good in-time same. tick-table (p .since .run) good in-time ∙ same;
+  tick = λ p good in-time same. tick-table (p .so-far .run) good in-time ∙ same;
   release = λ p row cost a good e same.
-      each-release (p .since .run) row cost (λ after. after .run .table ≡ p .since .run .table) (λ r. refl) (λ u passed given. refl) ∙ same;
+      each-release (p .so-far .run) row cost (λ after. after .run .table ≡ p .so-far .run .table) (λ r. refl) (λ u passed given. refl) ∙ same;
 }
 
--- Nothing is played yet.
+-- How far a play has come before its first record.
 abbrev pub notBegun : Going
 notBegun = record { count = 0; clock = record { 0 = 0 }; next = record { 0 = 0 }; logged = record { length = 0; late = 0; full = false } }
 
--- All arrays are zeros at the start.
+-- The arrays at the start of a play: all numbers are 0.
 abbrev pub zeros : (log : List ℕ) → Lists
 zeros log =
     let places = replicate {A = ℕ} maxPlaces 0 in
@@ -128,8 +129,8 @@ plays-first s t log good =
       };
     }
 
--- What keeps the numbers of a play in range.
-pub stands-in-bounds : {s : Since} {log₀ : List ℕ} {h : Held} → Stands s log₀ h → InBounds h
+-- Where the arrays hold a play, their numbers are in bounds.
+pub stands-in-bounds : {s : SoFar} {log₀ : List ℕ} {h : TickArrays} → ArraysHoldRun s log₀ h → InBounds h
 stands-in-bounds {s} w =
     let way = w .on-its-way in
     let known = facts (s .run) (way .good) in
@@ -142,14 +143,14 @@ stands-in-bounds {s} w =
     }
 
 module _ {s : List ℕ} {t : Table} {log₀ : List ℕ} {l : Lists} {g : Going} {at : ℕ} (w : Plays s t log₀ l g at) where
-  -- The run that single ticks have reached.
+  -- `reached` is the run that the play by single ticks has reached.
   abbrev reached : Run
-  reached = w .progress .since .run
+  reached = w .progress .so-far .run
 
   good : Good reached
   good = w .stands .stands .on-its-way .good
 
-  pub plays-in-bounds : InBounds (heldIn l g)
+  pub plays-in-bounds : InBounds (tickArraysIn l g)
   plays-in-bounds = stands-in-bounds (w .stands .stands)
 
   pub log-as-long : length (l .log) ≡ length log₀
@@ -158,14 +159,14 @@ module _ {s : List ℕ} {t : Table} {log₀ : List ℕ} {l : Lists} {g : Going} 
   few-rows : t .count ≤ maxRows
   few-rows = rw (← w .same-table) (facts reached good .few-rows)
 
-  -- The limits that are lent are those of the table's rows in use.
+  -- There is a limit for each row of the table in use.
   pub limits-within : {limits : List ℕ} → limits ≡ csOf (t .rows) → t .count ≤ length limits
   limits-within e = rw e (omega (arith, length-map (t .rows) (λ (r : Row). r .c), few-rows, rw (w .same-table) at (good .1 .all-rows)))
 
-  -- Before the script's end comes a record.
+  -- From here on the place is before the script's end, and a record stands there.
   module _ (inside : at < length s) {n : Numbers} (read-so : n ≡ numbersAt s at) {limits : List ℕ} (limits-so : limits ≡ csOf (t .rows)) {v : Tested}
       (tested-so : v ≡ testedBy (take (t .count) limits) (g .clock .0) n) where
-    -- The play is that record, and what comes after it.
+    -- The rest of the play is the record at the place, and what comes after it.
     one-record : playedOn s (freshRun t) ≡ andThen (stepped (w .progress) (numbersAt s at)) (λ q next. playedFrom (w .left - 1) s next q)
     one-record =
         let some : w .left ≡ suc (w .left - 1) = omega (arith, w .enough) in
@@ -174,7 +175,7 @@ module _ {s : List ℕ} {t : Table} {log₀ : List ℕ} {l : Lists} {g : Going} 
     stops-so : {r : RefusedAt} → stepped (w .progress) (numbersAt s at) ≡ stops r → playedOn s (freshRun t) ≡ stopped r
     stops-so e = one-record ∙ rw e
 
-    -- The tests are those on the run that single ticks have reached.
+    -- The tests of the code are the tests on the run that the play by single ticks has reached.
     on-run : testedNumbers (reached .table) (reached .clock .0) (numbersAt s at) ≡ v
     on-run =
         ap₂ (λ (u : Table). λ (clock : ℕ). testedNumbers u clock (numbersAt s at)) (w .same-table) (w .stands .stands .clocks)
@@ -209,13 +210,13 @@ module _ {s : List ℕ} {t : Table} {log₀ : List ℕ} {l : Lists} {g : Going} 
             few-serials = omega (arith, ap (λ (x : Serial). x .0) (w .stands .same-next), known .serials, known .clock-in-time, known .few-pending);
           }
 
-      -- It goes on to a later place of the script, once it is released.
+      -- A record that passes its tests ends after its start, and within the script.
       pub later-place : Bytes s → (at < r .next) × (r .next ≤ length s)
       later-place bytes =
           let spelled = record-is-spelled s at _ bytes (passed-is-read s at inside passed) in
           (spelled .forward, spelled .within)
 
-      -- The record may be released.
+      -- A record that passed its tests may be released.
       may-release : {row : Row} → row ≡ getD (t .rows) (r .row .0) noRow → MayRelease (w .progress) r row
       may-release its =
           let limits-there = costLimits (reached .table) in
@@ -240,11 +241,11 @@ module _ {s : List ℕ} {t : Table} {log₀ : List ℕ} {l : Lists} {g : Going} 
         done-here : SteppedTo (releasedAt at r (tickedTo (r .time .0) (w .progress))) (r .next) log₀ after x
         done-here = done (w .progress) log₀ (w .stands) (may-release its)
 
-        -- The release stops the play.
+        -- Where the release is refused, the play is stopped with that refusal.
         pub plays-stopped : {q : RefusedAt} → x ≡ step.Refused q → playedOn s (freshRun t) ≡ stopped q
         plays-stopped e = stops-so (released-so ∙ (rw e at done-here))
 
-        -- The play goes on after the release.
+        -- Where the release is accepted, the play goes on at the place after the record.
         pub plays-next : {h : Going} → x ≡ step.Next h → Bytes s → Plays s t log₀ after h (r .next)
         plays-next e bytes =
             let on = rw e at done-here in
@@ -255,44 +256,44 @@ module _ {s : List ℕ} {t : Table} {log₀ : List ℕ} {l : Lists} {g : Going} 
               enough = omega (arith, w .enough, later-place bytes);
               within = later-place bytes .1;
               same-table =
-                  step-keeps (λ o. o .since .run .table ≡ t) (on-its-table t) (w .progress) (numbersAt s at) (on .0) (r .next)
+                  step-keeps (λ o. o .so-far .run .table ≡ t) (on-its-table t) (w .progress) (numbersAt s at) (on .0) (r .next)
                   (went-on (w .progress) (numbersAt s at) (on .0) (r .next) (released-so ∙ on .1)) (w .same-table, good) .0;
               stands = on .2;
             }
 
-  -- At the script's end come the final ticks.
-  module _ (ended : length s ≤ at) {h : Held} (led : LeadsTo maxTime (heldIn l g) h) where
+  -- From here on the place is the script's end, and the final ticks have been given.
+  module _ (ended : length s ≤ at) {h : TickArrays} (led : LeadsTo maxTime (tickArraysIn l g) h) where
     abbrev last : Progress
-    last = record { since = ticksWhilePending (maxTime - reached .clock .0) (w .progress .since); accepted = w .progress .accepted }
+    last = record { so-far = ticksWhilePending (maxTime - reached .clock .0) (w .progress .so-far); accepted = w .progress .accepted }
 
-    pub stands-last : Stands (last .since) log₀ h
+    pub stands-last : ArraysHoldRun (last .so-far) log₀ h
     stands-last =
         let many : maxTime - reached .clock .0 ≡ maxTime - g .clock .0 = ap (λ (clock : ℕ). maxTime - clock) (w .stands .stands .clocks) in
-        rw many (led (w .progress .since) log₀ (w .stands .stands))
+        rw many (led (w .progress .so-far) log₀ (w .stands .stands))
 
     the-end : playedOn s (freshRun t) ≡ endedAt (length s) last
     unfolding finalTicks
     the-end = sym (w .leads-on) ∙ ticks-last (w .left) s at (w .progress) (omega (arith, w .within))
 
-    -- The clock stops the final ticks.
+    -- Where a job is still pending after the final ticks, the play is stopped with 10 at the script's length.
     pub plays-too-long : 0 < h .jobs .count → playedOn s (freshRun t) ≡ stopped (record { refusal = TimeTooLate; place = length s })
-    plays-too-long some = the-end ∙ rw (ne-eqb (last .since .run .pending .count) 0 (λ e. omega (arith, stands-last .counts)))
+    plays-too-long some = the-end ∙ rw (ne-eqb (last .so-far .run .pending .count) 0 (λ e. omega (arith, stands-last .counts)))
 
-    -- All jobs have finished.
+    -- Where nothing is pending after the final ticks, the play came to its end.
     pub plays-whole : h .jobs .count ≡ 0 → PlaysWhole s t log₀ (h .log) (h .logged)
     plays-whole none = record {
       progress = last;
-      ends = the-end ∙ rw (eq-eqb (last .since .run .pending .count) 0 (stands-last .counts ∙ none));
+      ends = the-end ∙ rw (eq-eqb (last .so-far .run .pending .count) 0 (stands-last .counts ∙ none));
       logs = stands-last .logs;
     }
 
 -- ---- the answer of a play
 
--- What a play answers and leaves of the log is what it is to.
+-- What `play` answers and leaves in the log is what its contract says.
 abbrev pub Ends : (s : List ℕ) (t : Table) (log₀ log : List ℕ) → Replayed → Type 0
-Ends s t log₀ log r = (r ≡ answerOf (length log₀) (length s) (playedOn s (freshRun t))) × LeftIn r (finishedIn (playedOn s (freshRun t))) log₀ log
+Ends s t log₀ log r = (r ≡ replayOutcome (length log₀) (length s) (playedOn s (freshRun t))) × LeftIn r (finishedIn (playedOn s (freshRun t))) log₀ log
 
--- A play that was stopped answers the refusal.
+-- A play that was stopped answers its refusal.
 pub stopped-ends : (s : List ℕ) (t : Table) (log₀ log : List ℕ) → length log ≡ length log₀ → (r : RefusedAt)
     → playedOn s (freshRun t) ≡ stopped r → Ends s t log₀ log (replayed.Refused r)
 stopped-ends s t log₀ log same r e = (rw e, same)
@@ -303,39 +304,39 @@ module _ {s : List ℕ} {t : Table} {log₀ log : List ℕ} {l : Logged} (w : Pl
   full-ends full = rw (w .ends) (sym (answers-full (w .progress) (w .logs) (length s) full), w .logs .same-length)
 
   module _ (not-full : l .full ≡ false) where
-    -- A play whose log has room and whose jobs are in time answers 22.
+    -- A play whose log is not full and whose jobs are all in time answers 22.
     pub in-time-ends : l .late ≡ 0 → Ends s t log₀ log (replayed.InTime (l .length))
     in-time-ends none = rw (w .ends) (sym (answers-in-time (w .progress) (w .logs) (length s) not-full none), w .logs .holds not-full .stands)
 
-    -- A play whose log has room and some of whose jobs are late answers 23.
+    -- A play whose log is not full and some of whose jobs are late answers 23.
     pub late-ends : (l .late ≡ 0 → ⊥) → Ends s t log₀ log (replayed.Late (record { length = l .length; late = l .late }))
     late-ends some = rw (w .ends) (sym (answers-late (w .progress) (w .logs) (length s) not-full some), w .logs .holds not-full .stands)
 
 -- ---- the answer of a replay
 
--- What a replay answers and leaves of the log is what it is to.
+-- What `replay` answers and leaves in the log is what its contract says.
 abbrev pub Replays : (t s log₀ log : List ℕ) → Replayed → Type 0
 Replays t s log₀ log r = (r ≡ replayOf t s (length log₀)) × (log ≡ logAfter r (finishedIn (played t s)) log₀)
 
 module _ (t s log₀ : List ℕ) {x : Started} (starts : x ≡ started t) where
-  -- The table of the run that is started can be played on, and that run is its fresh one.
+  -- The run that is started on a table is sound, and it is the fresh run of its own table.
   pub started-ready : Bytes t → Good (freshRun (x .run .table))
   started-ready bytes = rw starts (started-is-sound t bytes)
 
   fresh-so : freshRun (x .run .table) ≡ x .run
   fresh-so = rw starts
 
-  -- What is played goes by the start's answer.
+  -- What is played goes by the answer of the start.
   by-start : played t s ≡ onceStarted s (x .run) (x .answer)
   unfolding played
   by-start = ap (λ (y : Started). onceStarted s (y .run) (y .answer)) (sym starts)
 
-  -- A table that is refused stops the replay at once.
+  -- A table that is refused stops the play at once, and the log is zeros.
   pub table-refused : {r : RefusedAt} {log : List ℕ} → x .answer ≡ start.Refused r → log ≡ replicate (length log₀) 0
       → Replays t s log₀ log (replayed.Refused r)
   table-refused {r} e zeros = let so : played t s ≡ stopped r = by-start ∙ rw e in (rw so, zeros)
 
-  -- On any other table the script is played, and after a refusal the log is cleared.
+  -- On an accepted table the script is played, and after a refusal the log is filled with zeros.
   module _ (ready : x .answer ≡ start.Ready) (log : List ℕ) {out : Replayed} (ends : Ends s (x .run .table) log₀ log out) where
     played-so : played t s ≡ playedOn s (freshRun (x .run .table))
     played-so = by-start ∙ rw (ready, fresh-so)

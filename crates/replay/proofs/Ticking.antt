@@ -1,4 +1,5 @@
--- Ticks on pending jobs that stand in arrays: each is one of the run's own, and each job that finishes is recorded. (docs/RULES.md, sections 6.10 to 6.17, 8.2 and 8.3.)
+-- Ticks on pending jobs in arrays are the ticks of the run that the arrays hold, and each job that finishes is logged. (docs/RULES.md, sections 6.10 to 6.17,
+-- 8.2 and 8.3.)
 use Prim.Native.Nat.{ℕ, _+_, _-_, _≤_}
 use mathlib.Core.Path.{_≡_, refl, sym, ap, subst, _∙_}
 use mathlib.Core.Bool.{true}
@@ -11,48 +12,49 @@ use Rattle.jobs.specs.declared.Job.{Job}
 use Rattle.jobs.specs.Places.{jobsOf}
 use Rattle.columns.specs.declared.Worked.{Worked}
 use Rattle.columns.specs.declared.WorkAnswer.the-variants as work
-use Rattle.columns.specs.Columns.{Columns, AllPlaces}
+use Rattle.columns.specs.Columns.{Columns, AllColumnPlaces}
 use Rattle.columns.specs.Columns as places
 use Rattle.columns.specs.Ticks.{Reached, workedFor, workedOf, Works}
 use Rattle.columns.proofs.Strides.{nobody-means, finished-means}
 use Rattle.columns.proofs.Holding.{held-are-counted, always-held}
-use Rattle.columns.proofs.Laws.{work-holds}
-use Rattle.run.specs.Advance.{Since, ticksWhilePending}
+use Rattle.columns.proofs.WorkContract.{work-holds}
+use Rattle.run.specs.ManyTicks.{SoFar, ticksWhilePending}
 use Rattle.run.proofs.Ticking.{counted}
 use Rattle.log.specs.Log.{valuesOf, allInRange}
 use Rattle.play.proofs.SingleTicks.{no-more}
 use Rattle.play.proofs.OnItsWay.{on-its-way-ticked}
 use Rattle.replay.specs.declared.Logged.{Logged}
-use Rattle.replay.specs.Inside.{OneLogged, Logs, Held, held, InBounds, Stands, LeadsTo}
+use Rattle.replay.specs.Arrays.{OneLogged, Logs, TickArrays, tickArrays, InBounds, ArraysHoldRun, LeadsTo}
 use Rattle.replay.proofs.Logging.{logs-one-more}
 use Rattle.replay.proofs.Strides.{finishesIn, Strode, strides-until}
 
--- How far the ticks of a replay have come: with those still to come they lead to the same.
-pub record Came (until : ℕ) (s : Since) (log₀ : List ℕ) (h₀ h : Held) : Type 0 where
-  pub by-now : Since
-  pub stands : Stands by-now log₀ h
+-- A play has had some of its ticks until a time: the arrays hold it, and with the ticks that are still to come it comes to the same as from the start.
+pub record Came (until : ℕ) (s : SoFar) (log₀ : List ℕ) (h₀ h : TickArrays) : Type 0 where
+  pub by-now : SoFar
+  pub stands : ArraysHoldRun by-now log₀ h
   pub leads-on : ticksWhilePending (until - h .clock) by-now ≡ ticksWhilePending (until - h₀ .clock) s
 
--- So it is with every replay that the arrays held at first. (The rest is what keeps the numbers in range, and the log as long.)
-pub record TicksOn (until : ℕ) (h₀ h : Held) : Type 0 where
+-- Every play that the arrays held at first has had some of its ticks until a time, and the arrays hold it now. Their numbers are in bounds, and the log buffer
+-- is as long as before.
+pub record TicksOn (until : ℕ) (h₀ h : TickArrays) : Type 0 where
   pub in-bounds : InBounds h
   pub same-length : length (h .log) ≡ length (h₀ .log)
-  pub came : (s : Since) (log₀ : List ℕ) → Stands s log₀ h₀ → Came until s log₀ h₀ h
+  pub came : (s : SoFar) (log₀ : List ℕ) → ArraysHoldRun s log₀ h₀ → Came until s log₀ h₀ h
 
-pub no-ticks-yet : (until : ℕ) (h : Held) → InBounds h → TicksOn until h h
+pub no-ticks-yet : (until : ℕ) (h : TickArrays) → InBounds h → TicksOn until h h
 no-ticks-yet until h bounds = record {
   in-bounds = bounds;
   same-length = refl;
   came = λ s log₀ w. record { by-now = s; stands = w; leads-on = refl };
 }
 
-module _ {until : ℕ} {h₀ h : Held} (t : TicksOn until h₀ h) (soon : until ≤ maxTime) (some : 1 ≤ h .jobs .count) {after : Columns} {r : Worked}
+module _ {until : ℕ} {h₀ h : TickArrays} (t : TicksOn until h₀ h) (soon : until ≤ maxTime) (some : 1 ≤ h .jobs .count) {after : Columns} {r : Worked}
     (w : Works (h .jobs) (h .clock) until after r) where
-  -- Some jobs that the arrays hold, and what the ticks came to on them.
+  -- `here` are the jobs that the arrays hold, and `came-to` is what the ticks on them come to.
   abbrev here : List Job
   here = always-held (h .jobs) (t .in-bounds .all-places) .jobs
 
-  here-held : places.Holds (h .jobs) here
+  here-held : places.ColumnsHold (h .jobs) here
   here-held = always-held (h .jobs) (t .in-bounds .all-places) .held
 
   abbrev came-to : Reached
@@ -67,18 +69,18 @@ module _ {until : ℕ} {h₀ h : Held} (t : TicksOn until h₀ h) (soon : until 
   counts-so : r .count ≡ length (came-to .jobs)
   counts-so = ap (λ (x : Worked). x .count) (w here here-held .says)
 
-  -- The arrays have all their places afterwards.
-  pub places-after : AllPlaces after
+  -- After the ticks the arrays have all their places.
+  pub places-after : AllColumnPlaces after
   places-after = work-holds (h .jobs) after (h .clock) until r here w here-held .all-places
 
-  -- A job that finished is pending no more.
+  -- Where a job finished, one job fewer is pending.
   pub one-less : {f : Finish} → r .answer ≡ work.Finished f → r .count + 1 ≡ h .jobs .count
   one-less {f} e =
       let less = finished-means (until - h .clock) (h .clock) here f (answers-so ∙ e) .one-less in
       omega (arith, counts-so, many-here)
 
-  -- Whatever replay the arrays hold, they hold it with these ticks afterwards.
-  module _ {b : Since} {log₀ : List ℕ} (stands : Stands b log₀ h) where
+  -- If the arrays hold a play before these ticks, they hold it with these ticks afterwards.
+  module _ {b : SoFar} {log₀ : List ℕ} (stands : ArraysHoldRun b log₀ h) where
     strode : Strode until b (workedFor (until - h .clock) (h .clock) (jobsOf (b .run .pending)))
     strode =
         subst (λ c. Strode until b (workedFor (until - c) c (jobsOf (b .run .pending)))) (stands .clocks) (strides-until until b (stands .on-its-way .good) soon)
@@ -92,9 +94,9 @@ module _ {until : ℕ} {h₀ h : Held} (t : TicksOn until h₀ h) (soon : until 
     clock-so : workedFor (until - h .clock) (h .clock) (jobsOf (b .run .pending)) .clock ≡ r .clock .0
     clock-so = sym (ap (λ (x : Worked). x .clock .0) says-so)
 
-    -- The arrays hold the jobs that the ticks left pending.
+    -- After the ticks the arrays hold the jobs that are still pending.
     stands-after : {log : List ℕ} {l : Logged} → after .count ≡ r .count → Logs (strode .by-now .finishes) log₀ log l
-        → Stands (strode .by-now) log₀ (held after log (r .clock .0) l)
+        → ArraysHoldRun (strode .by-now) log₀ (tickArrays after log (r .clock .0) l)
     stands-after same logs = record {
       on-its-way = on-its-way-ticked (stands .on-its-way) (strode .keeps);
       counts = sym (counted (strode .by-now .run) (strode .keeps .good)) ∙ ap length (strode .jobs) ∙ sym (ap (λ (x : Worked). x .count) says-so) ∙ sym same;
@@ -103,14 +105,14 @@ module _ {until : ℕ} {h₀ h : Held} (t : TicksOn until h₀ h) (soon : until 
       logs = logs;
     }
 
-    -- With the ticks still to come it comes to the same.
+    -- With the ticks that are still to come, the play comes to the same as before these ticks.
     leads-after : ticksWhilePending (until - r .clock .0) (strode .by-now) ≡ ticksWhilePending (until - h .clock) b
     leads-after =
         ap (λ (c : ℕ). ticksWhilePending (until - c) (strode .by-now)) (sym clock-so)
         ∙ sym (strode .leads-on)
         ∙ ap (λ (c : ℕ). ticksWhilePending (until - c) b) (stands .clocks)
 
-    -- A job that finished is one more, and its numbers have spellings.
+    -- A job that finished is put behind the finished jobs, and its numbers have spellings.
     one-finished : {f : Finish} → r .answer ≡ work.Finished f → strode .by-now .finishes ≡ b .finishes ++ (f ∷ [])
     one-finished e = strode .finishes ∙ ap (λ a. b .finishes ++ finishesIn a) (answer-so ∙ e)
 
@@ -122,16 +124,16 @@ module _ {until : ℕ} {h₀ h : Held} (t : TicksOn until h₀ h) (soon : until 
     none-finished : r .answer ≡ work.Nobody → strode .by-now .finishes ≡ b .finishes
     none-finished e = strode .finishes ∙ ap (λ a. b .finishes ++ finishesIn a) (answer-so ∙ e) ∙ append-nil (b .finishes)
 
-    -- Where nobody finished, the time is reached.
+    -- Where no job finished, the time is reached.
     time-is-up : r .answer ≡ work.Nobody → until - r .clock .0 ≡ 0
     time-is-up e =
         let busy : 1 ≤ length (jobsOf (b .run .pending)) = omega (arith, counted (b .run) (stands .on-its-way .good), stands .counts) in
         let so = nobody-means (until - h .clock) (h .clock) (jobsOf (b .run .pending)) (answer-so ∙ e) .by-n busy in
         omega (arith, clock-so)
 
-  -- A job finishes: it is recorded, and the ticks go on.
+  -- Where a job finishes, it is logged, and the ticks go on.
   pub finished-on : {f : Finish} → r .answer ≡ work.Finished f → after .count ≡ r .count → {log : List ℕ} {l : Logged}
-      → OneLogged (h .logged) f (h .log) log l → TicksOn until h₀ (held after log (r .clock .0) l)
+      → OneLogged (h .logged) f (h .log) log l → TicksOn until h₀ (tickArrays after log (r .clock .0) l)
   finished-on {f} e same o =
       let bounds = t .in-bounds in
       record {
@@ -152,8 +154,8 @@ module _ {until : ℕ} {h₀ h : Held} (t : TicksOn until h₀ h) (soon : until 
             };
       }
 
-  -- Nobody finishes: the time is reached.
-  pub nobody-on : r .answer ≡ work.Nobody → after .count ≡ r .count → LeadsTo until h₀ (held after (h .log) (r .clock .0) (h .logged))
+  -- Where no job finishes, the time is reached, and all ticks have been given.
+  pub nobody-on : r .answer ≡ work.Nobody → after .count ≡ r .count → LeadsTo until h₀ (tickArrays after (h .log) (r .clock .0) (h .logged))
   unfolding ticksWhilePending
   nobody-on e same s log₀ first =
       let k = t .came s log₀ first in
@@ -161,8 +163,8 @@ module _ {until : ℕ} {h₀ h : Held} (t : TicksOn until h₀ h) (soon : until 
       let ended : strode st .by-now ≡ ticksWhilePending (until - h₀ .clock) s = (rw (time-is-up st e) at (leads-after st)) ∙ k .leads-on in
       rw (← ended) (stands-after st same (rw (none-finished st e) (st .logs)))
 
--- Nothing is pending any more.
-pub nothing-pending : {until : ℕ} {h₀ h : Held} → TicksOn until h₀ h → h .jobs .count ≡ 0 → LeadsTo until h₀ h
+-- Where nothing is pending, all ticks have been given.
+pub nothing-pending : {until : ℕ} {h₀ h : TickArrays} → TicksOn until h₀ h → h .jobs .count ≡ 0 → LeadsTo until h₀ h
 nothing-pending {until} {h₀} {h} t none s log₀ w =
     let k = t .came s log₀ w in
     let same : k .by-now ≡ ticksWhilePending (until - h₀ .clock) s =

@@ -1,3 +1,4 @@
 pub mod Outcome
-pub mod Inside
-pub mod Exactly
+pub mod Arrays
+pub mod Endings
+pub mod ReplayLaws

@@ -1,4 +1,4 @@
-// Replay: a script played on a table, into a log. (docs/RULES.md, section 8.)
+// Replay: a script is played on a table, and a record of each job is written into a log. (docs/RULES.md, section 8.)
 mod steps;
 mod ticks;
 
@@ -19,37 +19,38 @@ ghost use lib.ListN.{length, replicate};
 ghost use Rattle.run.specs.Runs.{freshRun};
 ghost use Rattle.run.specs.Sound.{soundOf, Whole};
 ghost use Rattle.play.specs.Play.{played, playedOn};
-ghost use Rattle.replay.specs.Outcome.{finishedIn, replayOf, answerOf, logAfter};
-ghost use Rattle.replay.specs.Inside.{LeftIn};
+ghost use Rattle.replay.specs.Outcome.{finishedIn, replayOf, replayOutcome, logAfter};
+ghost use Rattle.replay.specs.Arrays.{LeftIn};
 
-// How long the log is, and how many jobs finished after their due time.
+// The outcome of a replay with late jobs: the log's length in bytes, and the number of jobs that finished after their due time. (8.14, 8.15)
 pub struct LateJobs {
     pub length: usize,
     pub late: u64,
 }
 
-// All in time, with the log's length; or with late jobs; or refused.
+// What a replay answers: all jobs in time, with the log's length; or with late jobs; or refused. (8.15)
 pub enum Replayed {
     InTime(usize),
     Late(LateJobs),
     Refused(RefusedAt),
 }
 
-// What is written of a log so far. A log that is full stays so, and is not written to any more.
+// What is known about a log so far: its length in bytes, the number of jobs late, and whether it is full. Once a record did not fit, the log is full: it stays
+// so, and is not written to any more. (8.13)
 struct Logged {
     length: usize,
     late: u64,
     full: bool,
 }
 
-// Where ticks have come to: how many jobs are pending still, the clock, and what is written of the log.
+// What ticks lead to: how many jobs are still pending, the clock, and what is known about the log.
 struct Reached {
     count: usize,
     clock: Tick,
     logged: Logged,
 }
 
-// How far a play has come: how many jobs are pending, the clock, the next serial, and what is written of the log.
+// How far a play has come: how many jobs are pending, the clock, the next serial, and what is known about the log.
 struct Going {
     count: usize,
     clock: Tick,
@@ -57,13 +58,13 @@ struct Going {
     logged: Logged,
 }
 
-// The play goes on after a record, or stops.
+// What one record does to a play: the play goes on, or it stops with a refusal.
 enum RecordStep {
     Next(Going),
     Refused(RefusedAt),
 }
 
-// Fills a buffer with zeros.
+// Fills the whole log buffer with zeros. (8.17)
 fn clear(log: &mut [u8])
     ensures { λ r. ⌜ now (log .exit) ≡ replicate (length (now (log .entry))) 0 ⌝ }
 {
@@ -74,11 +75,11 @@ fn clear(log: &mut [u8])
     }
 }
 
-// Plays a script on a table. The pending jobs and the kept due times stand in arrays of numbers, so that a record copies no run. After a refusal the log holds
-// anything.
+// Plays a script on a table. The pending jobs and the kept due times stand in arrays of numbers, so that no run is copied for a record. After a refusal the log
+// may hold anything: the caller fills it with zeros. (8.2, 8.3)
 fn play(table: Table, script: &[u8], log: &mut [u8]) -> Replayed
     requires { ⌜ (soundOf (freshRun table) ≡ true) × Whole (freshRun table) ⌝ }
-    ensures { λ r. ⌜ (r ≡ answerOf (length (now (log .entry))) (length (now (script .entry))) (playedOn (now (script .entry)) (freshRun table)))
+    ensures { λ r. ⌜ (r ≡ replayOutcome (length (now (log .entry))) (length (now (script .entry))) (playedOn (now (script .entry)) (freshRun table)))
         × LeftIn r (finishedIn (playedOn (now (script .entry)) (freshRun table))) (now (log .entry)) (now (log .exit)) ⌝ }
 {
     let limits = table.cost_limits();
@@ -171,8 +172,9 @@ fn play(table: Table, script: &[u8], log: &mut [u8]) -> Replayed
     })
 }
 
-// A script played on a table, into a log: the table's refusal, then of each record 14, 10, 14, 6, 14, 7, 8, 9, in the final ticks 10, and last of all 12. A
-// refusal fills the log with zeros; else the bytes past its length stay as they were.
+// Replays a script on a table, into a log. It refuses as the table is refused, then for each record with 14, 10, 14, 6, 14, 7, 8 and 9 in this order, then with
+// 10 in the final ticks, and last of all with 12. A refusal fills the log buffer with zeros. Otherwise the bytes past the log's length stay as they were. (8.1,
+// 8.5, 8.12, 8.16, 8.17, 10.4)
 pub fn replay(table: &[u8], script: &[u8], log: &mut [u8]) -> Replayed
     ensures { λ r. ⌜ (r ≡ replayOf (now (table .entry)) (now (script .entry)) (length (now (log .entry))))
         × (now (log .exit) ≡ logAfter r (finishedIn (played (now (table .entry)) (now (script .entry)))) (now (log .entry))) ⌝ }

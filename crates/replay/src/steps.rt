@@ -1,4 +1,4 @@
-// A record that passed its tests: the ticks until its time, and its release. (docs/RULES.md, 6.6 to 6.9, 8.2 and 8.5.)
+// The playing of a record that passed its tests: the ticks until its script time, and its release. (docs/RULES.md, 6.6 to 6.9, 8.2 and 8.5.)
 use crate::Going;
 use crate::RecordStep;
 use crate::ticks::run_until;
@@ -15,9 +15,10 @@ use table::Row;
 use table::Table;
 ghost use mathlib.Core.Path.{_≡_};
 ghost use lib.ListN.{length};
-ghost use Rattle.replay.specs.Inside.{lists, CanGo, RecordPlayed};
+ghost use Rattle.replay.specs.Arrays.{lists, CanGo, RecordPlayed};
 
-// A record whose numbers passed their tests, of a row of the table. `place` is where the record starts: 8 and 9 are refused there.
+// Plays a record whose numbers passed their tests: it ticks until the record's script time, and then releases the record's job. Time in which nothing is
+// pending is crossed in one go. `row` is the record's row, and `place` is the record's start, at which 8 and 9 are refused. (8.2, 8.4, 8.5)
 pub(crate) fn play_record(
     serials: &mut [u64; Pending::PLACES],
     rows: &mut [u64; Pending::PLACES],

@@ -1,4 +1,4 @@
-// Ticks on pending jobs that stand in arrays, with a record in the log for each job that finishes. (docs/RULES.md, 6.10 to 6.13 and 8.8 to 8.13.)
+// Ticks on pending jobs that stand in arrays. Each job that finishes gets its record in the log. (docs/RULES.md, 6.10 to 6.13 and 8.8 to 8.13.)
 use crate::Logged;
 use crate::Reached;
 use columns::WorkAnswer;
@@ -11,9 +11,10 @@ ghost use Prim.Native.Nat.{_+_, _^_, _≤_};
 ghost use lib.ListN.{length};
 ghost use Rattle.kinds.specs.Numbering.{maxTime};
 ghost use Rattle.columns.specs.Columns.{columns};
-ghost use Rattle.replay.specs.Inside.{OneLogged, held, InBounds, LeadsTo};
+ghost use Rattle.replay.specs.Arrays.{OneLogged, tickArrays, InBounds, LeadsTo};
 
-// Writes the record of a job that finished behind what is written of a log, if it fits.
+// Counts a job that finished if it is late, and writes its record behind the last one. Where the record does not fit, the log is full from then on. (8.9, 8.13,
+// 8.14)
 fn log_finish(log: &mut [u8], logged: Logged, job: Finish) -> Logged
     requires { ⌜ (logged .length ≤ length (now log)) × (logged .late + 1 ≤ 2 ^ 63) ⌝ }
     ensures { λ r. ⌜ OneLogged logged job (now (log .entry)) (now (log .exit)) r ⌝ }
@@ -44,7 +45,7 @@ fn log_finish(log: &mut [u8], logged: Logged, job: Finish) -> Logged
     }
 }
 
-// Ticks until a time, or until nothing is pending.
+// Ticks until the clock is at `until`, or until nothing is pending, whichever comes first. Each job that finishes is logged. (8.2, 8.3)
 pub(crate) fn run_until(
     serials: &mut [u64; Pending::PLACES],
     rows: &mut [u64; Pending::PLACES],
@@ -58,12 +59,12 @@ pub(crate) fn run_until(
     logged: Logged,
 ) -> Reached
     requires { ⌜ (until .0 ≤ maxTime)
-        × InBounds (held (columns (now serials) (now rows) (now releases) (now dues) (now left) count) (now log) (clock .0) logged) ⌝ }
+        × InBounds (tickArrays (columns (now serials) (now rows) (now releases) (now dues) (now left) count) (now log) (clock .0) logged) ⌝ }
     ensures { λ r. ⌜ (length (now (log .exit)) ≡ length (now (log .entry)))
         × LeadsTo (until .0)
-        (held (columns (now (serials .entry)) (now (rows .entry)) (now (releases .entry)) (now (dues .entry)) (now (left .entry)) count)
+        (tickArrays (columns (now (serials .entry)) (now (rows .entry)) (now (releases .entry)) (now (dues .entry)) (now (left .entry)) count)
         (now (log .entry)) (clock .0) logged)
-        (held (columns (now (serials .exit)) (now (rows .exit)) (now (releases .exit)) (now (dues .exit)) (now (left .exit)) (r .count))
+        (tickArrays (columns (now (serials .exit)) (now (rows .exit)) (now (releases .exit)) (now (dues .exit)) (now (left .exit)) (r .count))
         (now (log .exit)) (r .clock .0) (r .logged)) ⌝ }
 {
     let mut count = count;

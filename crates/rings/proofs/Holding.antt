@@ -1,4 +1,4 @@
--- The rings hold what is kept of each of a table's rows: nothing before the first release, and each due time that is given.
+-- The rings hold the kept due times of each row of a table: none before the first release, and after that each due time that is given.
 use Prim.Native.Nat.{ℕ, _≤_, _<_}
 use mathlib.Core.Path.{_≡_, refl, sym, ap, _∙_}
 use mathlib.Core.Bool.{true}
@@ -9,14 +9,14 @@ use Rattle.theory.proofs.Cases.{by-eq}
 use Rattle.table.specs.declared.Row.{Row}
 use Rattle.table.specs.Limits.{maxRows}
 use Rattle.table.specs.Tables.{noRow}
-use Rattle.table.proofs.Laws.{in-range-means}
+use Rattle.table.proofs.SpelledTables.{in-range-means}
 use Rattle.due.specs.declared.Due.the-variants as due
 use Rattle.due.specs.Kept.{nothingKept, noKept, dueOf, keptWith}
 use Rattle.rings.specs.Rings.{maxTimes, rings, keptIn, ringFits, ringsAfter}
-use Rattle.rings.specs.Laws.{RingsEmpty, DueIsTheRows, HoldsOn}
+use Rattle.rings.specs.RingLaws.{RingsEmpty, DueIsTheRows, HoldsOn}
 use Rattle.rings.proofs.Keeping.{can-be-means}
 use Rattle.rings.proofs.Storing.{keeps-in-the-ring, stays-ready, places-stay, others-stay}
-use Rattle.rings.proofs.Exactly.{due-by-the-ring}
+use Rattle.rings.proofs.RingAnswers.{due-by-the-ring}
 
 -- ---- before the first release
 
@@ -24,12 +24,12 @@ module _ (places rows row : ℕ) (inside : row < rows) where
   none : _≡_ {A = ℕ} (getD (replicate rows 0) row 0) 0
   none = getD-replicate rows row 0 0 inside
 
-  -- A ring of zeros holds nothing.
+  -- Rings of zeros hold no due time for a row.
   holds-nothing : nothingKept ≡ keptIn (rings (replicate places 0) (replicate rows 0) (replicate rows 0)) row
   unfolding keptIn
   holds-nothing = rw none
 
-  -- A ring of zeros can be any row's.
+  -- Rings of zeros can be the rings of any rows.
   fits-any : (r : Row) → 1 ≤ r .x → ringFits (rings (replicate places 0) (replicate rows 0) (replicate rows 0)) row r ≡ true
   fits-any r some = rw none (can-be-means 0 0 (r .x) .1 (record { few = omega arith; inside = omega arith; starts = λ h. refl }))
 

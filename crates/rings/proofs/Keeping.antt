@@ -1,5 +1,5 @@
--- What a row's ring holds are the row's kept due times: the rule's due time is found at the oldest, and a ring with the newest x keeps them as the rule
--- says. (docs/RULES.md, section 4.)
+-- What a row's ring holds are the row's kept due times. The due time of job j − x is the oldest of them, and a new due time takes its place.
+-- (docs/RULES.md, section 4.)
 use Prim.Native.Nat.{ℕ, _+_, _-_, _*_, _≤_, _<_, max}
 use mathlib.Core.Path.{_≡_, sym, ap, _∙_}
 use mathlib.Core.Bool.{true, false, _&&_, _||_}
@@ -14,17 +14,18 @@ use Rattle.kinds.specs.declared.Tick.{Tick}
 use Rattle.kinds.proofs.Apart.{impossible}
 use Rattle.theory.proofs.Cases.{by-lt, by-eq}
 use Rattle.table.specs.declared.Row.{Row}
-use Rattle.table.specs.Laws.{WithinLimits}
-use Rattle.table.proofs.Laws.{in-range-means}
+use Rattle.table.specs.SpelledTables.{WithinLimits}
+use Rattle.table.proofs.SpelledTables.{in-range-means}
 use Rattle.table.proofs.Ranges.{both-true}
 use Rattle.due.specs.declared.Kept.{Kept}
 use Rattle.due.specs.Kept.{maxKept, nothingKept, keptTimes, lastOnes, keptAs, keptWith}
 use Rattle.due.proofs.Lists.{map-last-ones}
 use Rattle.due.proofs.Keeping.{noTime, byRule, newestWith, kept-at, due-alone, due-spaced, kept-with}
-use Rattle.due.proofs.Laws.{kept-as}
-use Rattle.rings.specs.Rings.{Rings, ringOf, manyOf, oldestOf, inTurn, asTick, keptIn}
-use Rattle.rings.specs.Inside.{placeIn, dueAfter}
-use Rattle.rings.specs.Laws.{Ready, InShape, CanBeMeans}
+use Rattle.due.proofs.NewestKept.{kept-as}
+use Rattle.rings.specs.Rings.{Rings, ringOf, manyOf, oldestOf, oldestFirst, asTick, keptIn}
+use Rattle.rings.specs.OneRing.{placeIn, dueAfter}
+use Rattle.rings.specs.RingShapes.{Ready, InShape}
+use Rattle.rings.specs.RingLaws.{CanBeMeans}
 use Rattle.rings.proofs.Lists.{entries-length, entries-at, drop-past, turned-length}
 
 -- ---- the test of a ring
@@ -53,7 +54,7 @@ can-be-means many o x = (
 
 -- ---- a row's ring
 
--- What is kept over something shorter is kept as if that had not been there.
+-- Keeping a longer list over a shorter one is the same as keeping it alone.
 kept-over : (k : Kept) (l m : List Tick) → length l ≤ length m → keptAs (keptAs k l) m ≡ keptAs k m
 kept-over k l m h =
     let whole : length l + (length m - length l) ≡ length m = omega arith in
@@ -64,23 +65,23 @@ kept-over k l m h =
 
 -- The due times that a row's ring holds, oldest first.
 abbrev pub orderOf : Rings → (row : ℕ) → List ℕ
-orderOf g row = inTurn (manyOf g row) (oldestOf g row) (ringOf g row)
+orderOf g row = oldestFirst (manyOf g row) (oldestOf g row) (ringOf g row)
 
 -- The kept due times of a row are those that its ring holds, oldest first.
 kept-order : (g : Rings) (row : ℕ) → keptTimes (keptIn g row) ≡ map asTick (orderOf g row)
 unfolding keptIn
 kept-order g row = kept-as nothingKept (map asTick (orderOf g row))
 
--- A ring has all its places.
+-- A row's ring has 64 places.
 pub ring-length : (g : Rings) (row : ℕ) → length (ringOf g row) ≡ maxKept
 ring-length g row = entries-length maxKept _ (g .times)
 
 module _ {g : Rings} {number : ℕ} {r : Row} (ready : Ready g number r) where
-  -- The ring is in shape.
+  -- The ring of a row that is ready is in shape.
   pub shape : InShape (manyOf g number) (oldestOf g number) (r .x)
   shape = can-be-means (manyOf g number) (oldestOf g number) (r .x) .0 (ready .fits)
 
-  -- The row's values are within their limits.
+  -- The values of a row that is ready are within their limits.
   pub row-within : WithinLimits r
   row-within = in-range-means r .0 (ready .in-range)
 
@@ -96,7 +97,7 @@ module _ {g : Rings} {number : ℕ} {r : Row} (ready : Ready g number r) where
   kept-many : length (keptTimes (keptIn g number)) ≡ manyOf g number
   kept-many = ap length (kept-order g number) ∙ length-map (orderOf g number) asTick ∙ order-length
 
-  -- With x kept, the oldest stands where the ring says.
+  -- Where x due times are kept, the oldest of them stands at the oldest's place in the ring.
   oldest-kept : r .x ≤ manyOf g number → getD (keptIn g number .times) 0 noTime .0 ≡ getD (g .times) (number * maxKept + oldestOf g number) 0
   oldest-kept full =
       let o = oldestOf g number in
@@ -111,11 +112,11 @@ module _ {g : Rings} {number : ℕ} {r : Row} (ready : Ready g number r) where
       ∙ getD-take (manyOf g number) (ringOf g number) o 0 (omega (arith, shape .inside))
       ∙ entries-at maxKept (number * maxKept) o (g .times) (omega (arith, shape .inside, row-within .most-x))
 
-  -- With fewer than x kept the due time by the rule is d after the release.
+  -- Where fewer than x due times are kept, the due time by the rule is t + d.
   pub due-of-few : (t : ℕ) → manyOf g number < r .x → byRule (keptIn g number) r t ≡ t + r .d
   due-of-few t h = due-alone (keptIn g number) (manyOf g number) kept-many r t h
 
-  -- With x kept the due time by the rule is the later of d after the release and y after the oldest.
+  -- Where x due times are kept, the due time by the rule is the later of t + d and the oldest + y.
   pub due-of-full : (t : ℕ) → r .x ≤ manyOf g number
       → byRule (keptIn g number) r t ≡ max (t + r .d) (getD (g .times) (number * maxKept + oldestOf g number) 0 + r .y)
   due-of-full t h =
@@ -124,7 +125,7 @@ module _ {g : Rings} {number : ℕ} {r : Row} (ready : Ready g number r) where
       ∙ ap (λ n. max (t + r .d) (getD (keptIn g number .times) n noTime .0 + r .y)) none
       ∙ ap (λ n. max (t + r .d) (n + r .y)) (oldest-kept h)
 
-  -- The due time by the rule is the one by the due time that stands where the next one goes.
+  -- The due time by the rule follows from the due time that stands at the place for the next one.
   pub due-by-place : (t : ℕ) → byRule (keptIn g number) r t
       ≡ dueAfter t (r .d) (r .y) (leb (r .x) (manyOf g number))
       (getD (g .times) (number * maxKept + placeIn (manyOf g number) (oldestOf g number) (r .x)) 0)
@@ -140,7 +141,7 @@ module _ {g : Rings} {number : ℕ} {r : Row} (ready : Ready g number r) where
 
   -- ---- one due time more
 
-  -- Rings in which the row's ring holds the newest x of what it held and one more keep that one.
+  -- Where the row's ring holds the newest x of what it held and one more, the new due time is kept as the rule says.
   pub keeps-one-more : (t : Tick) (after : Rings) → orderOf after number ≡ lastOnes (r .x) (orderOf g number ++ (t .0 ∷ []))
       → keptIn after number ≡ keptWith (keptIn g number) r t
   unfolding keptIn

@@ -1,5 +1,5 @@
 pub mod Lists
 pub mod Keeping
 pub mod Storing
-pub mod Exactly
+pub mod RingAnswers
 pub mod Holding

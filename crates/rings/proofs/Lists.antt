@@ -1,4 +1,4 @@
--- Laws of entries that are read from a place on, and of a list that is read in turn: from a place on to its end, and then from its start.
+-- Laws of the entries that are read from a place on, and of a list that is read in turn: from a place to its end, and then from its start to that place.
 use Prim.Native.Nat.{ℕ, zero, suc, _+_, _-_, _≤_, _<_}
 use mathlib.Core.Path.{_≡_, refl, sym, ap, ap₂, _∙_}
 use mathlib.Core.Logic.{_≢_}
@@ -12,17 +12,17 @@ use borrow.Author.Tests.{lt-ltb, le-ltb}
 use Rattle.theory.proofs.Cases.{by-lt}
 use Rattle.due.specs.Kept.{lastOnes}
 use Rattle.due.proofs.Lists.{last-ones-and-one}
-use Rattle.rings.specs.Rings.{entriesFrom, inTurn, placeAfter}
+use Rattle.rings.specs.Rings.{entriesFrom, oldestFirst, placeAfterOldest}
 
 -- ---- entries from a place on
 
--- There are as many entries as are read.
+-- Reading n entries gives n entries.
 pub entries-length : (n at : ℕ) (l : List ℕ) → length (entriesFrom n at l) ≡ n
 unfolding entriesFrom
 entries-length zero at l = refl
 entries-length (suc n) at l = ap suc (entries-length n (suc at) l)
 
--- Each entry that is read is the list's at its place.
+-- Each entry that is read is the list's entry at its place.
 pub entries-at : (n at i : ℕ) (l : List ℕ) → i < n → getD (entriesFrom n at l) i 0 ≡ getD l (at + i) 0
 unfolding entriesFrom
 entries-at zero at i l h = absurd (omega arith)
@@ -31,7 +31,7 @@ entries-at (suc n) at (suc i) l h =
     let place : suc at + i ≡ at + suc i = omega arith in
     entries-at n (suc at) i l (omega arith) ∙ ap (λ k. getD l k 0) place
 
--- What is stored outside of the entries that are read leaves them.
+-- Storing a value outside of the entries that are read leaves them as they were.
 pub entries-outside : (n at place v : ℕ) (l : List ℕ) → ((i : ℕ) → i < n → at + i ≢ place) → entriesFrom n at (set l place v) ≡ entriesFrom n at l
 unfolding entriesFrom
 entries-outside zero at place v l ne = refl
@@ -40,7 +40,7 @@ entries-outside (suc n) at place v l ne =
     (getD-set-other l place at v 0 (λ e. ne 0 (omega arith) (omega arith)))
     (entries-outside n (suc at) place v l (λ i h e. ne (suc i) (omega arith) (omega arith)))
 
--- What is stored at one of the entries that are read stands there.
+-- A value that is stored at one of the entries that are read stands there.
 pub entries-inside : (n at i v : ℕ) (l : List ℕ) → i < n → at + i < length l → entriesFrom n at (set l (at + i) v) ≡ set (entriesFrom n at l) i v
 unfolding entriesFrom
 entries-inside zero at i v l h room = absurd (omega arith)
@@ -66,24 +66,24 @@ drop-past n l m h =
 pub turned-length : (o : ℕ) (l : List ℕ) → length (drop o l ++ take o l) ≡ length l
 turned-length o l = omega (arith, length-append (drop o l) (take o l), length-drop o l, length-take o l)
 
--- A list in turn from its first place on is the list.
+-- A list in turn from place 0 on is the list itself.
 pub not-turned : (o : ℕ) (l : List ℕ) → o ≡ 0 → drop o l ++ take o l ≡ l
 not-turned o l e = rw e (append-nil l)
 
--- The place after the oldest's is the next one, where there is one.
-pub place-behind : (o x : ℕ) → o + 1 < x → o + 1 ≡ placeAfter o x
+-- The place after the oldest's is the next one, unless the oldest's is the last.
+pub place-behind : (o x : ℕ) → o + 1 < x → o + 1 ≡ placeAfterOldest o x
 place-behind o x h = rw (lt-ltb (o + 1) x h)
 
--- The place after the last is the first.
-pub place-at-start : (o x : ℕ) → x ≤ o + 1 → 0 ≡ placeAfter o x
+-- The place after the last is place 0.
+pub place-at-start : (o x : ℕ) → x ≤ o + 1 → 0 ≡ placeAfterOldest o x
 place-at-start o x h = rw (le-ltb (o + 1) x h)
 
--- The place after the oldest's is one of the x.
-pub place-inside : (o x : ℕ) → o < x → placeAfter o x < x
+-- The place after the oldest's is below x.
+pub place-inside : (o x : ℕ) → o < x → placeAfterOldest o x < x
 place-inside o x h = by-lt (o + 1) x (λ k. rw (lt-ltb (o + 1) x k) k) (λ k. rw (le-ltb (o + 1) x k) (omega arith))
 
 module _ (o x : ℕ) (l : List ℕ) (v : ℕ) (all : length l ≡ x) (inside : o < x) where
-  -- Of a list of x in turn and one more, the newest x are all but the oldest, and the one more.
+  -- Of a list of x in turn with one value added, the newest x are all but the oldest, and the added value.
   newest-of-turned : lastOnes x ((drop o l ++ take o l) ++ (v ∷ [])) ≡ drop (o + 1) l ++ (take o l ++ (v ∷ []))
   newest-of-turned =
       let order = drop o l ++ take o l in
@@ -94,7 +94,7 @@ module _ (o x : ℕ) (l : List ℕ) (v : ℕ) (all : length l ≡ x) (inside : o
       ∙ ap (λ m. (m ++ take o l) ++ (v ∷ [])) (drop-drop 1 o l)
       ∙ append-assoc (drop (o + 1) l) (take o l) (v ∷ [])
 
-  -- With the new one in the oldest's place, the list in turn from the place after it on is the newest x.
+  -- Where the new value has the oldest's place, the list in turn from the next place on is the newest x.
   turned-behind : drop (o + 1) (set l o v) ++ take (o + 1) (set l o v) ≡ lastOnes x ((drop o l ++ take o l) ++ (v ∷ []))
   turned-behind =
       ap (λ m. m ++ take (o + 1) (set l o v)) (drop-set-lt (o + 1) l o v (omega arith))
@@ -102,8 +102,8 @@ module _ (o x : ℕ) (l : List ℕ) (v : ℕ) (all : length l ≡ x) (inside : o
       ∙ ap (λ m. drop (o + 1) l ++ m) (take-suc-set l o v (omega arith))
       ∙ sym newest-of-turned
 
-  -- With the new one in the oldest's place, and the first place after the last, the list in turn is the newest x.
-  pub turned-on : drop (placeAfter o x) (set l o v) ++ take (placeAfter o x) (set l o v) ≡ lastOnes x ((drop o l ++ take o l) ++ (v ∷ []))
+  -- Where the new value has the oldest's place, and that is the last place, the list in turn from place 0 on is the newest x.
+  pub turned-on : drop (placeAfterOldest o x) (set l o v) ++ take (placeAfterOldest o x) (set l o v) ≡ lastOnes x ((drop o l ++ take o l) ++ (v ∷ []))
   turned-on = by-lt (o + 1) x
       (λ h. rw (lt-ltb (o + 1) x h) turned-behind)
       (λ h.
@@ -112,16 +112,16 @@ module _ (o x : ℕ) (l : List ℕ) (v : ℕ) (all : length l ≡ x) (inside : o
       let past : drop (o + 1) after ++ take (o + 1) after ≡ after = rw (drop-of-length-le after short, take-all (o + 1) after short) in
       rw (le-ltb (o + 1) x h) (append-nil after ∙ sym past ∙ turned-behind))
 
--- While the oldest stands at the first place, one more in the first unused place of a ring is the newest.
-pub in-turn-behind : (many o v : ℕ) (l : List ℕ) → many < length l → o ≡ 0 → inTurn (many + 1) o (set l many v) ≡ inTurn many o l ++ (v ∷ [])
+-- While the oldest stands at place 0, a value in the first unused place of a ring is the newest.
+pub in-turn-behind : (many o v : ℕ) (l : List ℕ) → many < length l → o ≡ 0 → oldestFirst (many + 1) o (set l many v) ≡ oldestFirst many o l ++ (v ∷ [])
 in-turn-behind many o v l inside start =
     not-turned o (take (many + 1) (set l many v)) start
     ∙ ap (λ n. take n (set l many v)) (add-one many)
     ∙ take-suc-set l many v inside
     ∙ ap (λ m. m ++ (v ∷ [])) (sym (not-turned o (take many l) start))
 
--- In a ring of x places that are all in use, one more in the oldest's place is the newest, and the oldest is gone.
+-- In a ring of x places that are all in use, a value stored in the oldest's place is the newest, and the oldest is gone.
 pub in-turn-instead : (o x v : ℕ) (l : List ℕ) → length (take x l) ≡ x → o < x
-    → inTurn x (placeAfter o x) (set l o v) ≡ lastOnes x (inTurn x o l ++ (v ∷ []))
+    → oldestFirst x (placeAfterOldest o x) (set l o v) ≡ lastOnes x (oldestFirst x o l ++ (v ∷ []))
 in-turn-instead o x v l all inside =
-    ap (λ m. drop (placeAfter o x) m ++ take (placeAfter o x) m) (take-set-lt x l o v inside) ∙ turned-on o x (take x l) v all inside
+    ap (λ m. drop (placeAfterOldest o x) m ++ take (placeAfterOldest o x) m) (take-set-lt x l o v inside) ∙ turned-on o x (take x l) v all inside

@@ -1,4 +1,4 @@
--- A due time that is given is stored in its row's ring, which keeps it as the rule says, and no row touches another's ring. (docs/RULES.md, section 4.)
+-- A due time that is given is stored in its row's ring, as the rule says, and leaves the rings of other rows alone. (docs/RULES.md, section 4.)
 use Prim.Native.Nat.{ℕ, _+_, _*_, _≤_, _<_}
 use mathlib.Core.Path.{_≡_, refl, sym, ap, _∙_}
 use mathlib.Core.Logic.{_≢_}
@@ -13,20 +13,21 @@ use Rattle.table.specs.declared.Row.{Row}
 use Rattle.due.specs.declared.Due.the-variants as due
 use Rattle.due.specs.Kept.{maxKept, lastOnes}
 use Rattle.due.proofs.Lists.{last-ones-all}
-use Rattle.rings.specs.Rings.{Rings, rings, entriesFrom, ringOf, manyOf, oldestOf, inTurn, keptIn, ringFits, placeAfter, stored}
-use Rattle.rings.specs.Inside.{placeIn}
-use Rattle.rings.specs.Laws.{AllPlaces, Ready, KeepsInTheRing, StaysReady, OthersStay}
+use Rattle.rings.specs.Rings.{Rings, rings, entriesFrom, ringOf, manyOf, oldestOf, oldestFirst, keptIn, ringFits, placeAfterOldest, stored}
+use Rattle.rings.specs.OneRing.{placeIn}
+use Rattle.rings.specs.RingShapes.{AllRingPlaces, Ready}
+use Rattle.rings.specs.RingLaws.{KeepsInTheRing, StaysReady, OthersStay}
 use Rattle.rings.proofs.Lists.{entries-outside, entries-inside, place-inside, in-turn-behind, in-turn-instead}
 use Rattle.rings.proofs.Keeping.{can-be-means, orderOf, shape, row-within, ring-length, used-length, order-length, keeps-one-more}
 
 -- ---- where a due time is stored
 
 module _ (many oldest x : ℕ) where
-  -- With fewer than x kept the next due time goes into the first unused place.
+  -- Where fewer than x are kept, the next due time goes into the first unused place.
   pub place-unused : many < x → placeIn many oldest x ≡ many
   place-unused h = rw (lt-ltb many x h)
 
-  -- With x kept the next due time goes into the oldest's place.
+  -- Where x are kept, the next due time goes into the oldest's place.
   pub place-of-oldest : x ≤ many → placeIn many oldest x ≡ oldest
   place-of-oldest h = rw (le-ltb many x h)
 
@@ -34,30 +35,30 @@ module _ (many oldest x : ℕ) where
 abbrev behind : Rings → (number v : ℕ) → Rings
 behind g number v = rings (set (g .times) (number * maxKept + manyOf g number) v) (set (g .many) number (manyOf g number + 1)) (g .oldest)
 
--- The rings with a due time in the oldest's place, and the place after it the oldest's.
+-- The rings with a due time in the oldest's place of a row's ring. The place after it becomes the oldest's.
 abbrev instead : Rings → (number x v : ℕ) → Rings
 instead g number x v =
-    rings (set (g .times) (number * maxKept + oldestOf g number) v) (g .many) (set (g .oldest) number (placeAfter (oldestOf g number) x))
+    rings (set (g .times) (number * maxKept + oldestOf g number) v) (g .many) (set (g .oldest) number (placeAfterOldest (oldestOf g number) x))
 
 module _ (g : Rings) (number : ℕ) (r : Row) (v : ℕ) where
-  -- With fewer than x kept a due time goes into the first unused place.
+  -- Where fewer than x are kept, a due time is stored in the first unused place.
   pub stored-behind : manyOf g number < r .x → stored g number r v ≡ behind g number v
   unfolding stored
   stored-behind h = rw (lt-ltb (manyOf g number) (r .x) h)
 
-  -- With x kept a due time takes the oldest's place.
+  -- Where x are kept, a due time is stored in the oldest's place.
   pub stored-instead : r .x ≤ manyOf g number → stored g number r v ≡ instead g number (r .x) v
   unfolding stored
   stored-instead h = rw (le-ltb (manyOf g number) (r .x) h)
 
 -- ---- the row's own ring
 
-module _ {g : Rings} {number : ℕ} {r : Row} (whole : AllPlaces g) (ready : Ready g number r) where
-  -- What is stored at a place of the ring stands there.
+module _ {g : Rings} {number : ℕ} {r : Row} (whole : AllRingPlaces g) (ready : Ready g number r) where
+  -- A due time that is stored at a place of the ring stands there.
   ring-after : (i v : ℕ) → i < maxKept → entriesFrom maxKept (number * maxKept) (set (g .times) (number * maxKept + i) v) ≡ set (ringOf g number) i v
   ring-after i v h = entries-inside maxKept (number * maxKept) i v (g .times) h (omega (arith, whole .of-times, ready .in-use))
 
-  -- In the first unused place a due time is the newest.
+  -- A due time in the first unused place is the newest.
   order-behind : (v : ℕ) → manyOf g number < r .x → orderOf (behind g number v) number ≡ lastOnes (r .x) (orderOf g number ++ (v ∷ []))
   order-behind v h =
       let many = manyOf g number in
@@ -65,28 +66,28 @@ module _ {g : Rings} {number : ℕ} {r : Row} (whole : AllPlaces g) (ready : Rea
       let more = orderOf g number ++ (v ∷ []) in
       let counted : manyOf (behind g number v) number ≡ many + 1 =
       getD-set-same (g .many) number (many + 1) 0 (omega (arith, whole .of-many, ready .in-use)) in
-      ap (λ n. inTurn n o (ringOf (behind g number v) number)) counted
-      ∙ ap (inTurn (many + 1) o) (ring-after many v (omega (arith, row-within ready .most-x)))
+      ap (λ n. oldestFirst n o (ringOf (behind g number v) number)) counted
+      ∙ ap (oldestFirst (many + 1) o) (ring-after many v (omega (arith, row-within ready .most-x)))
       ∙ in-turn-behind many o v (ringOf g number) (omega (arith, ring-length g number, row-within ready .most-x)) (shape ready .starts h)
       ∙ sym (last-ones-all (r .x) more (omega (arith, length-append (orderOf g number) (v ∷ []), order-length ready)))
 
-  -- In the oldest's place a due time is the newest, and the oldest is gone.
+  -- A due time in the oldest's place is the newest, and the oldest is gone.
   order-instead : (v : ℕ) → r .x ≤ manyOf g number → orderOf (instead g number (r .x) v) number ≡ lastOnes (r .x) (orderOf g number ++ (v ∷ []))
   order-instead v h =
       let many = manyOf g number in
       let o = oldestOf g number in
-      let next = placeAfter o (r .x) in
+      let next = placeAfterOldest o (r .x) in
       let after = instead g number (r .x) v in
       let inside = shape ready .inside in
       let all : many ≡ r .x = omega (arith, shape ready .few) in
       let turned : oldestOf after number ≡ next = getD-set-same (g .oldest) number next 0 (omega (arith, whole .of-oldest, ready .in-use)) in
-      ap (λ n. inTurn many n (ringOf after number)) turned
-      ∙ ap (inTurn many next) (ring-after o v (omega (arith, row-within ready .most-x)))
-      ∙ ap (λ n. inTurn n next (set (ringOf g number) o v)) all
+      ap (λ n. oldestFirst many n (ringOf after number)) turned
+      ∙ ap (oldestFirst many next) (ring-after o v (omega (arith, row-within ready .most-x)))
+      ∙ ap (λ n. oldestFirst n next (set (ringOf g number) o v)) all
       ∙ in-turn-instead o (r .x) v (ringOf g number) (ap (λ n. length (take n (ringOf g number))) (sym all) ∙ used-length ready ∙ all) inside
-      ∙ ap (λ n. lastOnes (r .x) (inTurn n o (ringOf g number) ++ (v ∷ []))) (sym all)
+      ∙ ap (λ n. lastOnes (r .x) (oldestFirst n o (ringOf g number) ++ (v ∷ []))) (sym all)
 
-  -- With a due time in the first unused place the ring can still be the row's.
+  -- After a due time went into the first unused place, the ring can still be the row's.
   fits-behind : (v : ℕ) → manyOf g number < r .x → ringFits (behind g number v) number r ≡ true
   fits-behind v h =
       let counted : manyOf (behind g number v) number ≡ manyOf g number + 1 =
@@ -95,10 +96,10 @@ module _ {g : Rings} {number : ℕ} {r : Row} (whole : AllPlaces g) (ready : Rea
       (can-be-means (manyOf g number + 1) (oldestOf g number) (r .x) .1
       (record { few = omega arith; inside = shape ready .inside; starts = λ fewer. shape ready .starts h }))
 
-  -- With a due time in the oldest's place the ring can still be the row's.
+  -- After a due time went into the oldest's place, the ring can still be the row's.
   fits-instead : (v : ℕ) → r .x ≤ manyOf g number → ringFits (instead g number (r .x) v) number r ≡ true
   fits-instead v h =
-      let next = placeAfter (oldestOf g number) (r .x) in
+      let next = placeAfterOldest (oldestOf g number) (r .x) in
       let turned : oldestOf (instead g number (r .x) v) number ≡ next =
       getD-set-same (g .oldest) number next 0 (omega (arith, whole .of-oldest, ready .in-use)) in
       rw turned
@@ -124,8 +125,8 @@ stays-ready g number r (due.At t) whole ready = record {
       (λ h. ap (λ a. ringFits a number r) (stored-instead g number r (t .0) h) ∙ fits-instead whole ready (t .0) h);
 }
 
--- Every array keeps its places.
-pub places-stay : (g : Rings) (number : ℕ) (r : Row) (v : ℕ) → AllPlaces g → AllPlaces (stored g number r v)
+-- Every array has all its places after a due time was stored.
+pub places-stay : (g : Rings) (number : ℕ) (r : Row) (v : ℕ) → AllRingPlaces g → AllRingPlaces (stored g number r v)
 places-stay g number r v whole = by-lt (manyOf g number) (r .x)
     (λ h. rw (stored-behind g number r v h) (record {
       of-times = length-set (g .times) (number * maxKept + manyOf g number) v ∙ whole .of-times;
@@ -135,18 +136,18 @@ places-stay g number r v whole = by-lt (manyOf g number) (r .x)
     (λ h. rw (stored-instead g number r v h) (record {
       of-times = length-set (g .times) (number * maxKept + oldestOf g number) v ∙ whole .of-times;
       of-many = whole .of-many;
-      of-oldest = length-set (g .oldest) number (placeAfter (oldestOf g number) (r .x)) ∙ whole .of-oldest;
+      of-oldest = length-set (g .oldest) number (placeAfterOldest (oldestOf g number) (r .x)) ∙ whole .of-oldest;
     }))
 
 -- ---- the other rows' rings
 
--- What is stored in a row's ring leaves the ring of any other.
+-- Storing a due time in one row's ring leaves the ring of every other row as it was.
 apart : (number other i v : ℕ) (l : List ℕ) → other ≢ number → i < maxKept
     → entriesFrom maxKept (other * maxKept) (set l (number * maxKept + i) v) ≡ entriesFrom maxKept (other * maxKept) l
 apart number other i v l ne inside =
     entries-outside maxKept (other * maxKept) (number * maxKept + i) v l (λ j h e. ne (omega arith))
 
--- Another row's ring holds what it held, where its count and its oldest's place stay.
+-- The ring of another row holds what it held, where its count and its oldest's place stay as they were.
 module _ (g : Rings) (number i v : ℕ) (inside : i < maxKept) (many oldest : List ℕ) (other : ℕ) (ne : other ≢ number) where
   other-stays : getD many other 0 ≡ manyOf g other → getD oldest other 0 ≡ oldestOf g other
       → (keptIn (rings (set (g .times) (number * maxKept + i) v) many oldest) other ≡ keptIn g other)
@@ -163,6 +164,6 @@ others-stay g number r (due.At t) ready other ne = by-lt (manyOf g number) (r .x
     refl))
     (λ h. rw (stored-instead g number r (t .0) h)
     (other-stays g number (oldestOf g number) (t .0) (omega (arith, row-within ready .most-x, shape ready .inside)) (g .many)
-    (set (g .oldest) number (placeAfter (oldestOf g number) (r .x))) other ne
+    (set (g .oldest) number (placeAfterOldest (oldestOf g number) (r .x))) other ne
     refl
-    (getD-set-other (g .oldest) number other (placeAfter (oldestOf g number) (r .x)) 0 ne)))
+    (getD-set-other (g .oldest) number other (placeAfterOldest (oldestOf g number) (r .x)) 0 ne)))

@@ -1,3 +1,4 @@
 pub mod Rings
-pub mod Laws
-pub mod Inside
+pub mod RingShapes
+pub mod RingLaws
+pub mod OneRing

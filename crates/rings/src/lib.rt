@@ -1,4 +1,5 @@
-// The kept due times of all rows in lent arrays, a ring to a row: a row's next due time is found and kept, and nothing is moved. (docs/RULES.md, section 4.)
+// The kept due times of all rows in lent arrays. Each row has a ring of places of its own, so that its next due time is found and kept without moving any
+// other. (docs/RULES.md, section 4.)
 use due::Due;
 use due::Kept;
 use kinds::Refusal;
@@ -10,21 +11,21 @@ ghost use mathlib.Core.Path.{_≡_};
 ghost use Prim.Native.Nat.{_≤_, _<_};
 ghost use Rattle.table.specs.Limits.{maxY, maxD};
 ghost use Rattle.due.specs.Kept.{notTooLate};
-ghost use Rattle.rings.specs.Rings.{maxTimes, rings, canBe, placeAfter, dueIn, ringsAfter};
-ghost use Rattle.rings.specs.Inside.{placeIn, dueAfter};
+ghost use Rattle.rings.specs.Rings.{maxTimes, rings, canBe, placeAfterOldest, dueIn, ringsAfter};
+ghost use Rattle.rings.specs.OneRing.{placeIn, dueAfter};
 
-// Room for the kept due times of all rows.
+// There is room for the kept due times of 16 rows, 64 for each row. (3.1, 3.2, 4.6)
 pub const TIMES: usize = Table::MAX_ROWS * Kept::MAX;
 
-// The limit of the code is that of the rules.
+// The contract ties the limit of the code to the limit of `specs/`.
 pub fn limit() -> usize
     ensures { λ r. ⌜ r ≡ maxTimes ⌝ }
 {
     TIMES
 }
 
-// The due time of a row's next job, released at a time with a stated cost, by what the row's ring holds. A due time that is given is kept there. A row
-// number of 16 or more is refusal 6, a row out of range 3, a ring that can't be the row's 11, and a due time above 2^40 is 9. A refusal changes nothing.
+// Answers the due time of a row's next job, released at a time with a stated cost, by what the row's ring holds, and keeps it there. A row number of 16 or more
+// is refusal 6, a row out of range is 3, a ring that can't be the row's is 11, and a due time above 2^40 is 9. A refusal changes nothing. (4.2, 4.3, 4.7, 10.7)
 pub fn next_due(
     times: &mut [u64; TIMES],
     many: &mut [usize; Table::MAX_ROWS],
@@ -66,29 +67,30 @@ pub fn next_due(
     }
 }
 
-// Whether a ring can be a row's: at most x due times are counted, the oldest stands at a place below x, and at place 0 until x are kept.
+// A ring can be a row's when it counts at most x due times, its oldest stands at a place below x, and its oldest stands at place 0 until x are kept. (10.7)
 fn can_be(many: usize, oldest: usize, x: usize) -> bool
     ensures { λ r. ⌜ r ≡ canBe many oldest x ⌝ }
 {
     (many <= x) & (oldest < x) & ((oldest == 0) | (many == x))
 }
 
-// The place of a ring where the next due time goes: the first unused one, or the oldest's once x are kept.
+// The place in a row's ring where its next due time goes. It is the first unused place while fewer than x are kept, and the oldest's place after that. (4.6)
 fn place_in(many: usize, oldest: usize, x: usize) -> usize
     ensures { λ r. ⌜ r ≡ placeIn many oldest x ⌝ }
 {
     if many < x { many } else { oldest }
 }
 
-// The place after the oldest's in a ring of x places.
+// The place after the oldest's in a ring of x places. After the last of them it is place 0.
 fn place_after(oldest: usize, x: usize) -> usize
     requires { ⌜ oldest < x ⌝ }
-    ensures { λ r. ⌜ r ≡ placeAfter oldest x ⌝ }
+    ensures { λ r. ⌜ r ≡ placeAfterOldest oldest x ⌝ }
 {
     if oldest + 1 < x { oldest + 1 } else { 0 }
 }
 
-// The due time d after a release at t, and with x kept not sooner than y after the oldest; or refusal 9.
+// The due time of a job released at t, or refusal 9. It is t + d; once x due times are kept (`full`), it is the later of t + d and the oldest + y. A t or an
+// oldest above 2^40 is refused before it is added to, so that no sum overflows. (4.2, 4.3, 4.7)
 fn due_by(t: u64, d: u64, y: u64, full: bool, oldest: u64) -> Due
     requires { ⌜ (d ≤ maxD) × (y ≤ maxY) ⌝ }
     ensures { λ r. ⌜ r ≡ notTooLate (dueAfter t d y full oldest) ⌝ }
@@ -110,7 +112,7 @@ fn due_by(t: u64, d: u64, y: u64, full: bool, oldest: u64) -> Due
     in_time(plain)
 }
 
-// A due time of at most 2^40, or refusal 9.
+// A due time of at most 2^40 stands, and one above it is refusal 9. (4.7)
 fn in_time(due: u64) -> Due
     ensures { λ r. ⌜ r ≡ notTooLate due ⌝ }
 {

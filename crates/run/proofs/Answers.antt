@@ -1,4 +1,4 @@
--- No answer of a run's calls is numbered 0, different answers say different things, and what each says.
+-- No answer of start, release or tick is numbered 0, different answers say different things, and each answer says what the laws state.
 use Prim.Native.Nat.{ℕ, _≤_}
 use mathlib.Core.Path.{_≡_, refl, sym, ap, ap₂}
 use Rattle.kinds.specs.Numbering.{refusalNumber, NeverNumberedZero, SaysApart}
@@ -63,14 +63,14 @@ runs-said-apart = (start-apart, release-apart, tick-apart)
 
 -- ---- what each answer says
 
-pub ready-says : says.ReadySays
-ready-says = refl
+pub start-ready-says : says.StartReadySays
+start-ready-says = refl
 
 pub start-refused-says : says.StartRefusedSays
 start-refused-says r place = refl
 
-pub accepted-says : says.AcceptedSays
-accepted-says serial due = refl
+pub release-accepted-says : says.ReleaseAcceptedSays
+release-accepted-says serial due = refl
 
 pub release-refused-says : says.ReleaseRefusedSays
 release-refused-says r = refl

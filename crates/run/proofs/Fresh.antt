@@ -1,4 +1,4 @@
--- Fresh runs are sound, and so is every run that is started: whatever the bytes, the table that they are read as is in range.
+-- A fresh run of a table in range is sound. Every run that is started is sound, since the table read from any bytes is in range.
 -- (docs/RULES.md, sections 6.3, 6.4 and 6.25.)
 use Prim.Native.Nat.{ℕ}
 use mathlib.Core.Path.{_≡_, refl}
@@ -11,14 +11,14 @@ use Rattle.table.specs.declared.TableRead.{TableRead}
 use Rattle.table.specs.declared.TableAnswer.{TableAnswer}
 use Rattle.table.specs.Limits.{maxRows}
 use Rattle.table.specs.Tables.{InRange, tableRead}
-use Rattle.table.proofs.Laws.{in-range-means}
+use Rattle.table.proofs.SpelledTables.{in-range-means}
 use Rattle.table.proofs.Tables.{read-in-range}
 use Rattle.due.specs.Kept.{nothingKept}
-use Rattle.due.proofs.Laws.{sound-means as kept-means, empty-is-sound}
+use Rattle.due.proofs.NewestKept.{kept-sound-means as kept-means, empty-is-sound}
 use Rattle.run.specs.declared.Run.{Run}
 use Rattle.run.specs.Runs.{freshRun, startAnswer, started, rowAt}
 use Rattle.run.specs.Sound.{Whole, Sound}
-use Rattle.run.specs.Laws.{FreshIsSound, StartedIsSound}
+use Rattle.run.specs.RunLaws.{FreshIsSound, StartedIsSound}
 use Rattle.run.proofs.Sound.{sound-means}
 
 -- ---- fresh runs
@@ -28,7 +28,7 @@ module _ (t : Table) (in-range : InRange t) where
   fresh-whole : Whole (freshRun t)
   fresh-whole = record { all-rows = in-range .all-places; all-kept = refl; all-places = refl }
 
-  -- A fresh run has the facts of a sound run.
+  -- The facts about a sound run hold for a fresh run.
   fresh-facts : Sound (freshRun t)
   fresh-facts = record {
     few-rows = in-range .few-rows;
@@ -53,7 +53,7 @@ started-is-sound s b = fresh-is-sound (tableRead s .table) (read-in-range s b)
 
 -- ---- how a run is started
 
--- What `started` says of the bytes, from the table that was read, its fresh run and its answer.
+-- The table that was read, its fresh run and its answer make up `started`.
 pub starts : (s : List ℕ) {r : TableRead} {run : Run} {a : TableAnswer} → r ≡ tableRead s → run ≡ freshRun (r .table) → r .answer ≡ a
     → record { run = run; answer = startAnswer a } ≡ started s
 starts s e f g = rw (f, ← g, e)

@@ -2,5 +2,5 @@ pub mod Sound
 pub mod Fresh
 pub mod Release
 pub mod Ticking
-pub mod Advancing
+pub mod ManyTicks
 pub mod Answers

@@ -1,5 +1,5 @@
--- A release: each of its answers by the tests that lead to it, and what the run after it keeps. A refused one changes nothing; an accepted one adds a job that is
--- sound, with a serial above all others, and keeps a due time that is not too late. (docs/RULES.md, sections 6.6 to 6.9 and 6.25.)
+-- Each answer of a release follows from the tests that lead to it. A refused release changes nothing. An accepted one adds a sound job with a serial above all
+-- others, and keeps a due time of at most 2^40. (docs/RULES.md, sections 6.6 to 6.9 and 6.25.)
 use Prim.Native.Nat.{ℕ, _+_, _≤_, _<_}
 use mathlib.Core.Path.{_≡_, refl, sym, ap, subst, _∙_}
 use mathlib.Core.Logic.{_≢_}
@@ -28,26 +28,27 @@ use Rattle.due.specs.declared.Due.{Due}
 use Rattle.due.specs.declared.Due.the-variants as due
 use Rattle.due.specs.declared.Kept.{Kept}
 use Rattle.due.specs.Kept.{nothingKept, dueOf, keptWith}
-use Rattle.due.specs.Laws.{SoundKept, GivenDue, KeepsNewest}
-use Rattle.due.proofs.Laws.{due-given, starts-empty, keeps-on-keeping, due-is-the-papers, stays-sound, sound-means as kept-means}
+use Rattle.due.specs.KeptTimes.{SoundKept, GivenDue, KeepsNewest}
+use Rattle.due.proofs.NewestKept.{due-given, starts-empty, keeps-on-keeping, due-is-the-papers, stays-sound, kept-sound-means as kept-means}
 use Rattle.jobs.specs.declared.Job.{Job}
 use Rattle.jobs.specs.Places.{maxPlaces, jobsOf, put}
 use Rattle.jobs.specs.Serials.{distinctSerials}
-use Rattle.jobs.specs.Laws.{WellFormed}
+use Rattle.jobs.specs.JobChanges.{WellFormed}
 use Rattle.jobs.proofs.Serials.{one-more}
-use Rattle.jobs.proofs.Laws.{put-adds-one, put-keeps-form, put-keeps-serials, distinct-means}
+use Rattle.jobs.proofs.Changes.{put-adds-one, put-keeps-form, put-keeps-serials, distinct-means}
 use Rattle.run.specs.declared.Run.{Run}
 use Rattle.run.specs.declared.ReleaseStep.{ReleaseStep}
 use Rattle.run.specs.Runs.{rowAt, costLimit, keptOf}
 use Rattle.run.specs.Sound.{serialBound, allows, soundOf, SoundJob, Sound, Whole}
 use Rattle.run.specs.Release.{refusedRelease, newJob, withJob, atDue, released}
 use Rattle.run.specs.Answers.{ReleaseSays, accepted, releaseSays}
-use Rattle.run.specs.Laws.{KeepsHistory, GaveDue, OneTestMeans, ReleaseKeepsSound, SerialsGrow, RefusedReleaseChangesNothing, FreshHasNoHistory, DueByWholeHistory}
+use Rattle.run.specs.History.{KeepsHistory, GaveDue}
+use Rattle.run.specs.RunLaws.{OneTestMeans, ReleaseKeepsSound, SerialsGrow, RefusedReleaseChangesNothing, FreshHasNoHistory, DueByWholeHistory}
 use Rattle.run.proofs.Sound.{sound-means, allowed-means, few-limits, limits-lent}
 
 -- ---- the numbers of a sound run
 
--- The bounds that a sound run keeps, whatever its arrays hold: its rows are few, and its next serial is far below the largest that a number may be.
+-- The limits that a sound run keeps, whatever its arrays hold. They keep the next serial far below what its type can hold.
 pub record Bounded (run : Run) : Type 0 where
   pub few-rows : run .table .count ≤ maxRows
   pub clock-in-time : run .clock .0 ≤ maxTime
@@ -70,27 +71,27 @@ bounded run e =
 -- ---- each answer, by the tests that lead to it
 
 module _ (run : Run) (row cost : ℕ) where
-  -- What the one test of row number and cost answers.
+  -- What the test of the row number and the cost answers.
   abbrev pub tested : CostAnswer
   tested = costAnswer (limitOf (costLimits (run .table)) row) cost
 
-  -- 11: the run is not sound.
+  -- A release of a run that is not sound is refused with 11.
   pub not-sound : soundOf run ≡ false → refusedRelease run RunNotSound ≡ released run row cost
   unfolding released
   not-sound e = simp e
 
   module _ (sound : soundOf run ≡ true) where
-    -- 6 and 7: the row number is not in use, or the cost is not from 1 to what the row allows.
+    -- A release whose row number is not in use is refused with 6, and one whose cost is 0 or above the row's c with 7.
     pub not-allowed : (r : Refusal) → tested ≡ cost-answer.Refused r → refusedRelease run r ≡ released run row cost
     unfolding released
     not-allowed r e = simp (sound, e)
 
-    -- 8: all places are in use.
+    -- A release with 64 jobs pending is refused with 8.
     pub places-full : tested ≡ cost-answer.Allowed → maxPlaces ≤ run .pending .count → refusedRelease run PlacesFull ≡ released run row cost
     unfolding released
     places-full e h = simp (sound, e, le-ltb (run .pending .count) maxPlaces h)
 
--- What holds of a release that no test refused.
+-- The facts about a release that none of the tests before 9 refused.
 pub record Passed (run : Run) (row cost : ℕ) : Type 0 where
   pub sound : soundOf run ≡ true
   pub is-allowed : tested run row cost ≡ cost-answer.Allowed
@@ -99,7 +100,7 @@ pub record Passed (run : Run) (row cost : ℕ) : Type 0 where
   pub allowed : cost ≤ costLimit (run .table) row
   pub room : run .pending .count < maxPlaces
 
--- A row number and a cost that are allowed, of a sound run with a place unused, pass every test.
+-- A release of a sound run passes the tests before 9, where its row number and cost are allowed and a place is unused.
 pub passes : (run : Run) (row cost : ℕ) → soundOf run ≡ true → tested run row cost ≡ cost-answer.Allowed → run .pending .count < maxPlaces
     → Passed run row cost
 passes run row cost sound e room =
@@ -114,41 +115,41 @@ passes run row cost sound e room =
       room = room;
     }
 
--- A row number that is allowed is one of all rows.
+-- A row number that is allowed is below 16.
 pub inside : (run : Run) (row cost : ℕ) → soundOf run ≡ true → tested run row cost ≡ cost-answer.Allowed → row < maxRows
 inside run row cost sound e =
     let ok = allowed-means (costLimits (run .table)) row cost (ap allows e) in
     omega (arith, ok .0, few-limits (run .table), bounded run sound .few-rows)
 
--- The test as the code makes it, with limits that are lent.
+-- The test of the row number and the cost as the code makes it, with a lent list of limits, answers the same.
 pub tested-as : (run : Run) (row cost : ℕ) (all : List ℕ) → all ≡ csOf (run .table .rows)
     → (l : CostLimit) → l ≡ limitOf (take (run .table .count) all) row → (a : CostAnswer) → a ≡ costAnswer l cost → tested run row cost ≡ a
 tested-as run row cost all e l h a k =
     ap (λ limits. costAnswer (limitOf limits row) cost) (sym (limits-lent (run .table) all e)) ∙ ap (λ limit. costAnswer limit cost) (sym h) ∙ sym k
 
--- The due time of the row's next job of this cost, released now.
+-- The due time of the row's next job with this cost, released at the clock.
 abbrev dueNow : Run → (row cost : ℕ) → Due
 dueNow run row cost = dueOf (keptOf run row) (rowAt (run .table) row) (run .clock .0) cost
 
--- Its due time settles it, or the refusal of that (9).
+-- A release that passed the tests before 9 is settled by its due time: it is accepted with it, or refused with 9.
 pub due-settles : (run : Run) (row cost : ℕ) → Passed run row cost → (d : Due) → dueNow run row cost ≡ d → atDue run row cost d ≡ released run row cost
 unfolding released
 due-settles run row cost p d e = simp (p .sound, p .is-allowed, lt-ltb (run .pending .count) maxPlaces (p .room), e)
 
--- What holds of a refused release and of an accepted one holds of every release.
+-- A property of all refused and of all accepted releases is a property of every release.
 module _ (run : Run) (row cost : ℕ) (P : ReleaseStep → Type 0)
     (refused : (r : Refusal) → P (refusedRelease run r))
     (accepted : (t : Tick) → Passed run row cost → dueNow run row cost ≡ due.At t → P (atDue run row cost (due.At t))) where
-  -- What the due time is settles whether the release is accepted or refused with 9.
+  -- The due time decides whether the release is accepted or refused with 9.
   by-due : Passed run row cost → (d : Due) → dueNow run row cost ≡ d → P (atDue run row cost d)
   by-due p (due.At t) e = accepted t p e
   by-due p (due.Refused r) e = refused r
 
-  -- Where all tests are passed, it is accepted or refused with 9.
+  -- A release that passed the tests before 9 is accepted or refused with 9.
   tests-passed : Passed run row cost → P (released run row cost)
   tests-passed p = subst P (due-settles run row cost p _ refl) (by-due p _ refl)
 
-  -- Where the row number and the cost are allowed, it may also be refused with 8, and else with 6 or 7.
+  -- A release of a sound run is refused with 6, 7 or 8, or it has passed the tests before 9.
   by-cost : soundOf run ≡ true → (a : CostAnswer) → tested run row cost ≡ a → P (released run row cost)
   by-cost sound cost-answer.Allowed e =
       by-lt (run .pending .count) maxPlaces
@@ -156,7 +157,7 @@ module _ (run : Run) (row cost : ℕ) (P : ReleaseStep → Type 0)
       (λ full. subst P (places-full run row cost sound e full) (refused PlacesFull))
   by-cost sound (cost-answer.Refused r) e = subst P (not-allowed run row cost sound r e) (refused r)
 
-  -- Any release may also be refused with 11.
+  -- Any release is refused with 11, or is a release of a sound run.
   pub each-release : P (released run row cost)
   each-release =
       by-test (soundOf run)
@@ -165,43 +166,47 @@ module _ (run : Run) (row cost : ℕ) (P : ReleaseStep → Type 0)
 
 -- ---- an accepted release keeps a run sound
 
--- Kept due times with one more that is in time: there are at most x still, and each is in time.
+-- Kept due times stay sound with one more of at most 2^40: at most x are kept, and each is at most 2^40.
 kept-stays-sound : (k : Kept) (r : Row) (t : Tick) → rowInRange r ≡ true → t .0 ≤ maxTime → SoundKept k (r .x) → SoundKept (keptWith k r t) (r .x)
 kept-stays-sound k r t fine in-time sound =
     kept-means (keptWith k r t) r .0 (stays-sound k r t fine in-time (kept-means k r .1 sound))
 
--- A release that is accepted, with the due time that is given.
+-- In this part, a release is accepted with the due time t.
 module _ {run : Run} {row cost : ℕ} (t : Tick) (whole : Whole run) (p : Passed run row cost) (given : dueNow run row cost ≡ due.At t) where
-  -- Its row, its job, and the run after it.
+  -- The row of the new job.
   abbrev its : Row
   its = rowAt (run .table) row
 
+  -- The new job.
   abbrev job : Job
   job = newJob run row cost t
 
+  -- The run after the release.
   abbrev next : Run
   next = withJob run row cost t
 
-  -- The facts of the run before it, and of the due time.
+  -- The run before the release is sound.
   sound-before : Sound run
   sound-before = sound-means run whole .0 (p .sound)
 
+  -- The due time is the one that the rule gives.
   given-due : GivenDue (keptOf run row) its (run .clock .0) (t .0)
   given-due = due-given (keptOf run row) its (run .clock .0) cost t .0 given
 
-  -- The jobs stand in their places, so the new one comes last.
+  -- The pending jobs are well formed before the release.
   well-formed : WellFormed (run .pending)
   well-formed = record { all-places = whole .all-places; in-places = sound-before .few-pending }
 
+  -- The new job comes after all other pending jobs.
   jobs-after : jobsOf (next .pending) ≡ jobsOf (run .pending) ++ (job ∷ [])
   jobs-after = put-adds-one (run .pending) job well-formed (p .room)
 
-  -- The new job is counted.
+  -- One job more is pending.
   count-after : next .pending .count ≡ run .pending .count + 1
   unfolding put
   count-after = simp (lt-ltb (run .pending .count) maxPlaces (p .room))
 
-  -- It is sound, and the others stay so.
+  -- The new job is sound.
   job-sound : SoundJob (run .table) (run .clock .0) (next .next .0) job
   job-sound = record {
     row-in-use = p .in-use;
@@ -214,6 +219,7 @@ module _ {run : Run} {row cost : ℕ} (t : Tick) (whole : Whole run) (p : Passed
     serial-given = omega arith;
   }
 
+  -- A job that was pending before is still sound.
   still-sound : (j : Job) → SoundJob (run .table) (run .clock .0) (run .next .0) j → SoundJob (run .table) (run .clock .0) (next .next .0) j
   still-sound j f = record {
     row-in-use = f .row-in-use;
@@ -226,27 +232,28 @@ module _ {run : Run} {row cost : ℕ} (t : Tick) (whole : Whole run) (p : Passed
     serial-given = omega arith;
   }
 
-  -- Its serial is above theirs.
+  -- No two pending jobs have the same serial, since the new job's serial is above all others.
   apart-after : distinctSerials (jobsOf (next .pending)) ≡ true
   apart-after =
       put-keeps-serials (run .pending) job well-formed (λ i h. sound-before .jobs i h .serial-given) .distinct
       (distinct-means (jobsOf (run .pending)) .1 (sound-before .apart))
 
-  -- What is kept of its row has one due time more, and what is kept of the others is as it was.
+  -- The row of the new job has its due time kept.
   kept-here : keptOf next row ≡ keptWith (keptOf run row) its t
   kept-here = getD-set-same (run .kept) row _ _ (omega (arith, p .in-use, sound-before .few-rows, whole .all-kept))
 
+  -- The kept due times of the other rows stay as they were.
   kept-elsewhere : (i : ℕ) → i ≢ row → keptOf next i ≡ keptOf run i
   kept-elsewhere i h = getD-set-other (run .kept) row i _ _ h
 
-  -- So what is kept stays sound.
+  -- The kept due times of every row are sound after the release.
   kept-after : (i : ℕ) → i < run .table .count → SoundKept (keptOf next i) (rowAt (run .table) i .x)
   kept-after i h =
       by-eq i row
       (λ e. rw (e, kept-here) (kept-stays-sound (keptOf run row) its t (given-due .row-in-range) (given-due .in-time) (sound-before .kept row (p .in-use))))
       (λ n. rw (kept-elsewhere i n) (sound-before .kept i h))
 
-  -- So the run after it is whole and sound.
+  -- The arrays of the run have all their places after the release.
   whole-after : Whole next
   whole-after = record {
     all-rows = whole .all-rows;
@@ -254,6 +261,7 @@ module _ {run : Run} {row cost : ℕ} (t : Tick) (whole : Whole run) (p : Passed
     all-places = put-keeps-form (run .pending) job well-formed .all-places;
   }
 
+  -- The run is sound after the release.
   sound-after : soundOf next ≡ true
   sound-after = sound-means next whole-after .1 record {
     few-rows = sound-before .few-rows;
@@ -267,7 +275,7 @@ module _ {run : Run} {row cost : ℕ} (t : Tick) (whole : Whole run) (p : Passed
     serials = omega (arith, count-after, sound-before .serials);
   }
 
-  -- The due time is the rule's over the whole history, and the newest of the history with it are kept.
+  -- The due time is the rule's over the whole history, and the run keeps the newest x of the history with it.
   due-by-history : (history : ℕ → List ℕ) → KeepsHistory run history → GaveDue run history row (t .0) next
   due-by-history history keeps = record {
     by-rule =

@@ -1,4 +1,4 @@
--- The test of a run means the facts of `Sound`, and nothing more; and the same test as the code goes, place by place.
+-- The test of a run means the facts of `Sound`, and nothing more. The second half of the page follows the code, which tests one place after another.
 -- (docs/RULES.md, sections 6.20 to 6.24.)
 use Prim.Native.Nat.{ℕ, zero, suc, _+_, _≤_, _<_, suc-le-suc}
 use mathlib.Core.Path.{_≡_, refl, sym, ap, _∙_}
@@ -24,28 +24,28 @@ use Rattle.table.specs.Limits.{maxRows}
 use Rattle.table.specs.Rows.{fromOneTo, rowInRange}
 use Rattle.table.specs.Tables.{noRow, rowsOf}
 use Rattle.table.proofs.CostLimits.{CostTested, not-in-use, out-of-range, allowed, cost-tested, limits-are-the-first, one-limit-for-each-row, limit-is-its-c}
-use Rattle.table.proofs.Laws.{in-range-means}
+use Rattle.table.proofs.SpelledTables.{in-range-means}
 use Rattle.table.proofs.Ranges.{both-true}
 use Rattle.due.specs.declared.Kept.{Kept}
 use Rattle.due.specs.Kept.{noKept, keptSound}
-use Rattle.due.proofs.Laws.{sound-means as kept-means}
+use Rattle.due.proofs.NewestKept.{kept-sound-means as kept-means}
 use Rattle.jobs.specs.declared.Job.{Job}
 use Rattle.jobs.specs.declared.Pending.{Pending}
 use Rattle.jobs.specs.Places.{maxPlaces, noJob, jobsOf}
 use Rattle.jobs.specs.Serials.{distinctSerials}
 use Rattle.jobs.proofs.Places.{rest-cons}
-use Rattle.jobs.proofs.Laws.{distinct-means}
+use Rattle.jobs.proofs.Changes.{distinct-means}
 use Rattle.run.specs.declared.Run.{Run}
 use Rattle.run.specs.Runs.{rowAt, costLimit, keptOf}
 use Rattle.run.specs.Sound.{jobFits, allows, jobSound, jobsSound, rowsSound, serialBound, soundOf, SoundJob, Sound, Whole, SoundMeans}
 
 -- ---- what the tests of jobs and rows mean
 
--- The test of a number from 1 to a limit.
+-- A number that passes the test is from 1 to the limit.
 within : (most n : ℕ) → fromOneTo most n ≡ true → (1 ≤ n) × (n ≤ most)
 within most n e = let both = both-true (leb 1 n) (leb n most) e in (leb-true 1 n (both .0), leb-true n most (both .1))
 
--- A row number and a cost that are allowed: the number has a limit, and the cost is from 1 to it.
+-- A row number and a cost are allowed where the row number has a limit and the cost is from 1 to that limit.
 pub allowed-means : (limits : List ℕ) (number cost : ℕ) → allows (costAnswer (limitOf limits number) cost) ≡ true
     → (number < length limits) × (1 ≤ cost) × (cost ≤ getD limits number 0)
 allowed-means limits number cost = to _ (cost-tested limits number cost)
@@ -60,16 +60,16 @@ pub few-limits : (t : Table) → length (costLimits t) ≤ t .count
 few-limits t =
     let same = length-mapped (λ (r : Row). r .c) (rowsOf t) (length (costLimits t)) refl in omega (arith, same, length-take (t .count) (t .rows))
 
--- What is lent of the limits of all rows, as many as there are rows in use, are the table's limits.
+-- The first limits of all rows, as many as there are rows in use, are the table's limits.
 pub limits-lent : (t : Table) (all : List ℕ) → all ≡ csOf (t .rows) → take (t .count) all ≡ costLimits t
 limits-lent t all e = ap (take (t .count)) e ∙ sym (limits-are-the-first t)
 
--- There are as many to lend.
+-- There are at least as many limits as rows in use.
 pub enough-limits : (run : Run) → Whole run → run .table .count ≤ maxRows → (all : List ℕ) → all ≡ csOf (run .table .rows) → run .table .count ≤ length all
 enough-limits run whole few all e = rw e (omega (arith, length-map (run .table .rows) (λ (r : Row). r .c), whole .all-rows))
 
 module _ (t : Table) (clock next : ℕ) where
-  -- The test of a job gives its facts.
+  -- A job that passes the test has the facts of a sound job.
   job-facts : (j : Job) → jobSound (costLimits t) clock next j ≡ true → SoundJob t clock next j
   unfolding jobSound jobFits
   job-facts j e =
@@ -90,7 +90,7 @@ module _ (t : Table) (clock next : ℕ) where
         serial-given = ltb-true _ _ (serial .1);
       }
 
-  -- The facts of a job give its test, where the table has all its places.
+  -- A job with the facts of a sound job passes the test, where each row in use has its limit.
   job-tested : length (costLimits t) ≡ t .count → (j : Job) → SoundJob t clock next j → jobSound (costLimits t) clock next j ≡ true
   unfolding jobSound jobFits
   job-tested many j s =
@@ -108,22 +108,22 @@ module _ (t : Table) (clock next : ℕ) where
       )
 
 module _ (limits : List ℕ) (clock next : ℕ) where
-  -- Where all jobs are sound, each is.
+  -- Where the test of all jobs holds, each job is sound.
   each-job : (js : List Job) → jobsSound limits clock next js ≡ true → (i : ℕ) → i < length js → jobSound limits clock next (getD js i noJob) ≡ true
   each-job [] e i h = absurd (not-suc-le-zero h)
   each-job (j ∷ js) e zero h = both-true _ _ e .0
   each-job (j ∷ js) e (suc i) h = each-job js (both-true (jobSound limits clock next j) _ e .1) i (le-of-suc-le-suc h)
 
-  -- Where each job is sound, all are.
+  -- Where each job is sound, the test of all jobs holds.
   all-jobs : (js : List Job) → ((i : ℕ) → i < length js → jobSound limits clock next (getD js i noJob) ≡ true) → jobsSound limits clock next js ≡ true
   all-jobs [] f = refl
   all-jobs (j ∷ js) f = rw (f 0 (omega arith)) (all-jobs js (λ i h. f (suc i) (suc-le-suc h)))
 
--- A row is in range, and what is kept can be its.
+-- A row is in range, and its kept due times are sound.
 abbrev RowSound : Row → Kept → Type 0
 RowSound r k = (rowInRange r ≡ true) × (keptSound k r ≡ true)
 
--- Where all rows are sound, each is, with what is kept of it.
+-- Where the test of all rows holds, each row and its kept due times are sound.
 each-row : (rs : List Row) (ks : List Kept) → length rs ≤ length ks → rowsSound rs ks ≡ true
     → (i : ℕ) → i < length rs → RowSound (getD rs i noRow) (getD ks i noKept)
 each-row [] ks l e i h = absurd (not-suc-le-zero h)
@@ -132,7 +132,7 @@ each-row (r ∷ rs) (k ∷ ks) l e zero h = both-true _ _ (both-true _ (rowsSoun
 each-row (r ∷ rs) (k ∷ ks) l e (suc i) h =
     each-row rs ks (le-of-suc-le-suc l) (both-true (rowInRange r && keptSound k r) _ e .1) i (le-of-suc-le-suc h)
 
--- Where each row is sound, with what is kept of it, all are.
+-- Where each row and its kept due times are sound, the test of all rows holds.
 all-rows : (rs : List Row) (ks : List Kept) → ((i : ℕ) → i < length rs → RowSound (getD rs i noRow) (getD ks i noKept)) → rowsSound rs ks ≡ true
 all-rows [] ks f = refl
 all-rows (r ∷ rs) [] f = refl
@@ -140,7 +140,7 @@ all-rows (r ∷ rs) (k ∷ ks) f = let p = f 0 (omega arith) in rw (p .0, p .1) 
 
 -- ---- the tests of a run, one after another
 
--- Each test that fails settles that the run is not sound.
+-- A run that fails one of the tests is not sound.
 module _ (run : Run) where
   pub too-many-rows : maxRows < run .table .count → false ≡ soundOf run
   unfolding soundOf
@@ -166,14 +166,14 @@ module _ (run : Run) where
   unfolding soundOf
   serials-alike h = simp (h, and-false)
 
--- What is answered for the lent limits is what the test of the run's jobs says.
+-- The test of the jobs with the lent limits answers what the definition says about the run's jobs.
 pub jobs-tested : (run : Run) (all : List ℕ) → all ≡ csOf (run .table .rows) → (r : Bool)
     → r ≡ jobsSound (take (run .table .count) all) (run .clock .0) (run .next .0) (jobsOf (run .pending))
     → jobsSound (costLimits (run .table)) (run .clock .0) (run .next .0) (jobsOf (run .pending)) ≡ r
 jobs-tested run all e r h =
     ap (λ l. jobsSound l (run .clock .0) (run .next .0) (jobsOf (run .pending))) (sym (limits-lent (run .table) all e)) ∙ sym h
 
--- All of these hold.
+-- The run passes all tests but the last, which is the bound of the next serial.
 pub record AllBefore (run : Run) : Type 0 where
   pub few-rows : run .table .count ≤ maxRows
   pub clock-in-time : run .clock .0 ≤ maxTime
@@ -182,7 +182,7 @@ pub record AllBefore (run : Run) : Type 0 where
   pub jobs : jobsSound (costLimits (run .table)) (run .clock .0) (run .next .0) (jobsOf (run .pending)) ≡ true
   pub apart : distinctSerials (jobsOf (run .pending)) ≡ true
 
--- Then the bound of the next serial settles it.
+-- A run that passes all other tests is sound exactly when its next serial is within its bound.
 pub bound-settles : (run : Run) → AllBefore run → leb (run .next .0) (serialBound run) ≡ soundOf run
 unfolding soundOf
 bound-settles run a = simp (
@@ -204,7 +204,7 @@ module _ (run : Run) (whole : Whole run) where
   pending = jobsOf (run .pending)
 
   module _ (few : table .count ≤ maxRows) where
-    -- As many rows are in use as are counted.
+    -- The rows in use are as many as the table counts.
     counted : length (rowsOf table) ≡ table .count
     counted = length-take-le (table .count) (table .rows) (omega (arith, whole .all-rows))
 
@@ -212,18 +212,18 @@ module _ (run : Run) (whole : Whole run) where
     at-number : (i : ℕ) → i < table .count → getD (rowsOf table) i noRow ≡ rowAt table i
     at-number i h = getD-take (table .count) (table .rows) i noRow h
 
-    -- Where all rows are sound, each is by its number.
+    -- Where the test of all rows holds, the row of each row number in use is sound.
     each-numbered : rowsSound (rowsOf table) (run .kept) ≡ true → (i : ℕ) → i < table .count → RowSound (rowAt table i) (keptOf run i)
     each-numbered e i h =
         let enough : length (rowsOf table) ≤ length (run .kept) = omega (arith, counted, whole .all-kept) in
         (rw (at-number i h) at (each-row (rowsOf table) (run .kept) enough e i (omega (arith, counted))))
 
-    -- Where each row is sound by its number, all are.
+    -- Where the row of each row number in use is sound, the test of all rows holds.
     all-numbered : ((i : ℕ) → i < table .count → RowSound (rowAt table i) (keptOf run i)) → rowsSound (rowsOf table) (run .kept) ≡ true
     all-numbered f =
         all-rows (rowsOf table) (run .kept) (λ i h. let k : i < table .count = omega (arith, counted) in rw (at-number i k) (f i k))
 
-  -- The test of a run gives its facts.
+  -- A run that passes the test has the facts of a sound run.
   sound-facts : soundOf run ≡ true → Sound run
   unfolding soundOf
   sound-facts e =
@@ -245,7 +245,7 @@ module _ (run : Run) (whole : Whole run) where
         serials = leb-true _ _ (serials .1);
       }
 
-  -- The facts of a run give its test.
+  -- A run with the facts of a sound run passes the test.
   sound-tested : Sound run → soundOf run ≡ true
   sound-tested s =
       let row : (i : ℕ) → i < table .count → RowSound (rowAt table i) (keptOf run i) =
@@ -269,40 +269,40 @@ sound-means run whole = (sound-facts run whole, sound-tested run whole)
 abbrev jobAt : Pending → (i : ℕ) → Job
 jobAt p i = getD (p .places) i noJob
 
--- Whether all jobs are sound is settled by those from a place on.
+-- All pending jobs are sound exactly when the jobs from the place i on are.
 pub record JobsFrom (limits : List ℕ) (clock next : ℕ) (p : Pending) (i : ℕ) : Type 0 where
   pub all-places : length (p .places) ≡ maxPlaces
   pub few-pending : p .count ≤ maxPlaces
   pub settled : jobsSound limits clock next (drop i (jobsOf p)) ≡ jobsSound limits clock next (jobsOf p)
 
 module _ {limits : List ℕ} {clock next : ℕ} {p : Pending} {i : ℕ} (from : JobsFrom limits clock next p i) where
-  -- Where no job is left, they are.
+  -- Where no job is left to test, all pending jobs are sound.
   pub no-job-left : p .count ≤ i → true ≡ jobsSound limits clock next (jobsOf p)
   no-job-left h =
       let past : length (jobsOf p) ≤ i = omega (arith, length-take (p .count) (p .places)) in
       (rw (drop-of-length-le (jobsOf p) past) at (from .settled))
 
   module _ (here : i < p .count) where
-    -- Else it is settled by the job at the place and those after it.
+    -- Where a job is left, all pending jobs are sound exactly when the job at i and the jobs after it are.
     job-and-later : (jobSound limits clock next (jobAt p i) && jobsSound limits clock next (drop (i + 1) (jobsOf p)))
         ≡ jobsSound limits clock next (jobsOf p)
     job-and-later =
         let inside : i < length (jobsOf p) = omega (arith, length-take (p .count) (p .places)) in
         (rw (rest-cons (p .count) (p .places) i noJob inside) at (from .settled))
 
-    -- If its row number or its cost is refused, not all are sound.
+    -- Where the row number or the cost of the job at i is refused, not all pending jobs are sound.
     pub job-not-allowed : (r : Refusal) → costAnswer (limitOf limits (jobAt p i .row .0)) (jobAt p i .cost) ≡ answer.Refused r
         → false ≡ jobsSound limits clock next (jobsOf p)
     unfolding jobSound
     job-not-allowed r h = rw h at job-and-later
 
     module _ (ok : costAnswer (limitOf limits (jobAt p i .row .0)) (jobAt p i .cost) ≡ answer.Allowed) where
-      -- If it does not fit, not all are sound.
+      -- Where the job at i does not fit, not all pending jobs are sound.
       pub job-does-not-fit : jobFits clock next (jobAt p i) ≡ false → false ≡ jobsSound limits clock next (jobsOf p)
       unfolding jobSound
       job-does-not-fit h = rw (ok, h) at job-and-later
 
-      -- If it fits, it is settled by those after it.
+      -- Where the job at i fits, all pending jobs are sound exactly when the jobs after it are.
       pub job-fits : jobFits clock next (jobAt p i) ≡ true → JobsFrom limits clock next p (i + 1)
       unfolding jobSound
       job-fits h = record {
@@ -313,7 +313,7 @@ module _ {limits : List ℕ} {clock next : ℕ} {p : Pending} {i : ℕ} (from : 
 
 -- ---- the rows with their kept due times, one after another
 
--- Whether all rows are sound, with what is kept of them, is settled by those from a place on.
+-- All rows and their kept due times are sound exactly when those from the place i on are.
 pub record RowsFrom (t : Table) (ks : List Kept) (i : ℕ) : Type 0 where
   pub all-rows : length (t .rows) ≡ maxRows
   pub all-kept : length ks ≡ maxRows
@@ -321,30 +321,30 @@ pub record RowsFrom (t : Table) (ks : List Kept) (i : ℕ) : Type 0 where
   pub settled : rowsSound (drop i (rowsOf t)) (drop i ks) ≡ rowsSound (rowsOf t) ks
 
 module _ {t : Table} {ks : List Kept} {i : ℕ} (from : RowsFrom t ks i) where
-  -- Where no row is left, they are.
+  -- Where no row is left to test, all rows are sound.
   pub no-row-left : t .count ≤ i → true ≡ rowsSound (rowsOf t) ks
   no-row-left h =
       let past : length (rowsOf t) ≤ i = omega (arith, length-take (t .count) (t .rows)) in
       (rw (drop-of-length-le (rowsOf t) past) at (from .settled))
 
   module _ (here : i < t .count) where
-    -- Else it is settled by the row at the place, what is kept of it, and those after it.
+    -- Where a row is left, all rows are sound exactly when the row at i, its kept due times and the rows after it are.
     row-and-later : (rowInRange (rowAt t i) && keptSound (getD ks i noKept) (rowAt t i) && rowsSound (drop (i + 1) (rowsOf t)) (drop (i + 1) ks))
         ≡ rowsSound (rowsOf t) ks
     row-and-later =
         let inside : i < length (rowsOf t) = omega (arith, length-take (t .count) (t .rows)) in
         (rw (rest-cons (t .count) (t .rows) i noRow inside, drop-cons ks i noKept (omega arith), ← add-one i) at (from .settled))
 
-    -- If the row is out of range, not all are sound.
+    -- Where the row at i is out of range, not all rows are sound.
     pub row-out-of-range : rowInRange (rowAt t i) ≡ false → false ≡ rowsSound (rowsOf t) ks
     row-out-of-range r = simp r at row-and-later
 
     module _ (r : rowInRange (rowAt t i) ≡ true) where
-      -- If what is kept cannot be its, not all are sound.
+      -- Where the kept due times of the row at i are not sound, not all rows are sound.
       pub kept-unsound : keptSound (getD ks i noKept) (rowAt t i) ≡ false → false ≡ rowsSound (rowsOf t) ks
       kept-unsound k = simp (r, k) at row-and-later
 
-      -- If what is kept can be its, it is settled by those after it.
+      -- Where the row at i and its kept due times are sound, all rows are sound exactly when the rows after it are.
       pub row-sound : keptSound (getD ks i noKept) (rowAt t i) ≡ true → RowsFrom t ks (i + 1)
       row-sound k = record {
         all-rows = from .all-rows;

@@ -1,4 +1,4 @@
--- One tick: what each of its exits answers, that it is one turn of the pending jobs, and that a sound run stays sound. (docs/RULES.md, sections 6.10 to 6.17.)
+-- One tick: what each of its cases answers, that it is one turn of the pending jobs, and that a sound run stays sound. (docs/RULES.md, sections 6.10 to 6.17.)
 use Prim.Native.Nat.{ℕ, zero, suc, _+_, _-_, _≤_, _<_, suc-le-suc}
 use mathlib.Core.Path.{_≡_, refl}
 use mathlib.Core.Bool.{Bool, true, false}
@@ -21,16 +21,16 @@ use Rattle.jobs.specs.Choice.{firstPlace}
 use Rattle.jobs.specs.Units.{worked, after}
 use Rattle.jobs.specs.Turns.{oneTick, turned}
 use Rattle.jobs.specs.Serials.{distinctSerials}
-use Rattle.jobs.specs.Laws.{WellFormed, unitAt}
+use Rattle.jobs.specs.JobChanges.{WellFormed, unitAt}
 use Rattle.jobs.proofs.Turns.{turned-idle, turned-busy}
-use Rattle.jobs.proofs.Laws.{first-is-there, after-a-unit, after-keeps-form, after-keeps-serials, distinct-means, without-is-one-less}
+use Rattle.jobs.proofs.Changes.{first-is-there, after-a-unit, after-keeps-form, after-keeps-serials, distinct-means, without-is-one-less}
 use Rattle.run.specs.declared.Run.{Run}
 use Rattle.run.specs.declared.Ticked.{Ticked}
 use Rattle.run.specs.declared.Ticked.the-variants as answer
 use Rattle.run.specs.declared.TickStep.{TickStep}
 use Rattle.run.specs.Sound.{soundOf, SoundJob, Sound, Whole}
 use Rattle.run.specs.Ticking.{refusedTick, runWith, idleTick, busyTick, ticked}
-use Rattle.run.specs.Laws as laws
+use Rattle.run.specs.RunLaws.{ClockGrows, TickGivesOneUnit, TickKeepsSound}
 use Rattle.run.proofs.Sound.{sound-means}
 
 -- ---- the answers, one by one
@@ -54,9 +54,9 @@ module _ (run : Run) where
       unfolding ticked
       tick-busy h = rw (sound, lt-ltb (run .clock .0) maxTime in-time, ne-eqb (run .pending .count) 0 (λ e. omega arith))
 
--- ---- what a unit makes of the jobs
+-- ---- lists of jobs with one taken out or replaced
 
--- What each job has, and so each after it in another form, each of the jobs has where one is left out, or where another takes a place.
+-- Let P imply Q, and let each of some jobs have P. Then each job has Q after one was taken out, and also after one was replaced by a job that has Q.
 module _ (P Q : Job → Type 0) (on : (j : Job) → P j → Q j) where
   each-without : (js : List Job) (at : ℕ) → ((i : ℕ) → i < length js → P (getD js i noJob))
       → (i : ℕ) → i < length (without js at) → Q (getD (without js at) i noJob)
@@ -75,16 +75,16 @@ module _ (P Q : Job → Type 0) (on : (j : Job) → P j → Q j) where
 
 -- ---- a sound run
 
--- A run that a program can hold, and that is sound.
+-- A run is good when it is sound and its arrays have all their places.
 abbrev pub Good : Run → Type 0
 Good run = (soundOf run ≡ true) × Whole run
 
 module _ (run : Run) (good : Good run) where
-  -- What is known of it.
+  -- The facts about a sound run hold for a good run.
   pub facts : Sound run
   facts = sound-means run (good .1) .0 (good .0)
 
-  -- As many jobs are pending as are counted.
+  -- The pending jobs are as many as the run counts.
   pub counted : used (run .pending) ≡ run .pending .count
   counted = length-take-le (run .pending .count) (run .pending .places) (omega (arith, facts .few-pending, good .1 .all-places))
 
@@ -92,15 +92,15 @@ module _ (run : Run) (good : Good run) where
   formed : WellFormed (run .pending)
   formed = record { all-places = good .1 .all-places; in-places = facts .few-pending }
 
-  -- A job that is sound at the clock.
+  -- The job is sound at the run's clock.
   abbrev SoundNow : Job → Type 0
   SoundNow = SoundJob (run .table) (run .clock .0) (run .next .0)
 
-  -- A job that is sound at the next clock.
+  -- The job is sound at the clock after one tick.
   abbrev SoundNext : Job → Type 0
   SoundNext = SoundJob (run .table) (run .clock .0 + 1) (run .next .0)
 
-  -- A job is sound still where it keeps all but its units left, and some of those are.
+  -- A job is still sound after a tick where only its units left change, and at least one is left.
   still-sound : (j : Job) (left : ℕ) → 1 ≤ left → left ≤ j .left → SoundNow j
       → SoundNext (record { serial = j .serial; row = j .row; release = j .release; due = j .due; cost = j .cost; left = left })
   still-sound j left some few s = record {
@@ -114,18 +114,18 @@ module _ (run : Run) (good : Good run) where
     serial-given = s .serial-given;
   }
 
-  -- A job that gets no unit is sound still.
+  -- A job that gets no unit is still sound after a tick.
   untouched : (j : Job) → SoundNow j → SoundNext j
   untouched j s = still-sound j (j .left) (s .some-left) (omega arith) s
 
-  -- What the jobs that are pending after a tick have.
+  -- What is needed of the pending jobs after a tick.
   record Later (p : Pending) : Type 0 where
     form : WellFormed p
     jobs : (i : ℕ) → i < used p → SoundNext (getD (jobsOf p) i noJob)
     apart : distinctSerials (jobsOf p) ≡ true
     one-less : used (run .pending) ≤ used p + 1
 
-  -- With such jobs pending the run is sound at the next clock.
+  -- Where the pending jobs after a tick are as needed, the run is good at the next clock.
   later-sound : run .clock .0 < maxTime → (p : Pending) → Later p → Good (runWith run (run .clock .0 + 1) p)
   later-sound in-time p l =
       let next : Run = runWith run (run .clock .0 + 1) p in
@@ -144,7 +144,7 @@ module _ (run : Run) (good : Good run) where
         whole,
       )
 
-  -- The jobs that were pending have it where a tick is idle.
+  -- After an idle tick the pending jobs are as needed.
   later-same : Later (run .pending)
   later-same = record {
     form = formed;
@@ -153,12 +153,12 @@ module _ (run : Run) (good : Good run) where
     one-less = omega arith;
   }
 
-  -- The jobs have it where one of them got a unit.
+  -- In this part, the job at a place gets a unit.
   module _ (at : ℕ) (h : at < used (run .pending)) where
     abbrev js : List Job
     js = jobsOf (run .pending)
 
-    -- Each is sound still: the one that got the unit is gone, or has some left.
+    -- Each pending job is still sound. The job that got the unit is taken out, or has at least one unit left.
     each-later : (i : ℕ) → i < length (unitAt js at) → SoundNext (getD (unitAt js at) i noJob)
     each-later = elim (decLe (getD js at noJob .left) 1) [
       | yes l ↦ rw (le-leb (getD js at noJob .left) 1 l) (each-without SoundNow SoundNext untouched js at (facts .jobs))
@@ -168,13 +168,14 @@ module _ (run : Run) (good : Good run) where
           (each-set SoundNow SoundNext untouched js at (worked j) (still-sound j (j .left - 1) (omega arith) (omega arith) (facts .jobs at h)) (facts .jobs))
     ]
 
-    -- At most one less is pending.
+    -- At most one job fewer is pending.
     one-less-at : length js ≤ length (unitAt js at) + 1
     one-less-at = elim (decLe (getD js at noJob .left) 1) [
       | yes l ↦ rw (le-leb (getD js at noJob .left) 1 l) (omega (arith, without-is-one-less js at h))
       | no l ↦ rw (lt-leb (getD js at noJob .left) 1 (omega arith)) (omega (arith, length-set js at (worked (getD js at noJob))))
     ]
 
+    -- After the unit was given the pending jobs are as needed.
     later-after : Later (after (run .pending) at)
     later-after =
         let e = after-a-unit (run .pending) at h in
@@ -185,7 +186,7 @@ module _ (run : Run) (good : Good run) where
           one-less = rw e one-less-at;
         }
 
-  -- Some job is pending: the place of the one that goes first is in use.
+  -- Where a job is pending, the place of the chosen job is in use.
   first-there : 1 ≤ run .pending .count → firstPlace (jobsOf (run .pending)) < used (run .pending)
   first-there h = first-is-there (run .pending) (omega (arith, counted))
 
@@ -198,7 +199,7 @@ module _ (run : Run) (good : Good run) where
 
 -- ---- the laws
 
--- What holds of a tick's four answers holds of the tick.
+-- A property of the four cases of a tick is a property of every tick.
 by-answer : (P : TickStep → Type 0) (run : Run) → P (refusedTick run RunNotSound) → P (refusedTick run TimeTooLate)
     → (run .clock .0 < maxTime → P (idleTick run)) → (run .clock .0 < maxTime → 1 ≤ run .pending .count → P (busyTick run))
     → P (ticked run)
@@ -217,24 +218,24 @@ by-answer P run unsound late idle busy = by-sound (soundOf run) refl
 pub tick-keeps-good : (run : Run) → Good run → Good (ticked run .run)
 tick-keeps-good run good = by-answer (λ t. Good (t .run)) run good good (λ l. idle-keeps run good l) (λ l m. busy-keeps run good l m)
 
-pub tick-keeps-sound : laws.TickKeepsSound
+pub tick-keeps-sound : TickKeepsSound
 tick-keeps-sound run whole sound = tick-keeps-good run (sound, whole)
 
-pub clock-grows : laws.ClockGrows
+pub clock-grows : ClockGrows
 clock-grows run = by-answer (λ t. run .clock .0 ≤ t .run .clock .0) run (omega arith) (omega arith) (λ l. omega arith) (λ l m. omega arith)
 
-pub tick-gives-one-unit : laws.TickGivesOneUnit
+pub tick-gives-one-unit : TickGivesOneUnit
 tick-gives-one-unit run whole sound in-time h =
     rw (tick-busy run sound in-time h) (after-a-unit (run .pending) (firstPlace (jobsOf (run .pending))) (first-there run (sound, whole) h))
 
 -- ---- a tick is one turn
 
--- What a tick says of who had the turn.
+-- What a tick answers where the pending jobs had this turn.
 abbrev pub answerOf : Turn → Ticked
 answerOf turn.Idle = answer.Idle
 answerOf (turn.Ran r) = answer.Ran r
 
--- What a tick makes of one turn of the pending jobs.
+-- The tick of a run whose pending jobs had this turn.
 abbrev pub stepOf : Run → Turned → TickStep
 stepOf run t = record { run = runWith run (run .clock .0 + 1) (t .pending); answer = answerOf (t .turn); late = t .late }
 

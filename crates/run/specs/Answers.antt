@@ -1,9 +1,9 @@
--- What the answers of a run's calls say, each case with its number and values in the rules' own terms. (docs/RULES.md, sections 6 and 10.)
+-- What the answers of start, release and tick say: each case with its number and values. (docs/RULES.md, sections 6 and 10.)
 use Prim.Native.Nat.{ℕ, _≤_}
 use mathlib.Core.Path.{_≡_}
 use mathlib.Core.Bool.{Bool, true, false}
 use mathlib.Core.List.{[]}
-use Rattle.kinds.specs.Numbering.{Says, numbered, values, refusalNumber, refusedSays, NeverNumberedZero, SaysApart}
+use Rattle.kinds.specs.Numbering.{Says, numbered, values, refusalNumber, refusedSays, NeverNumberedZero, SaysApart, refusedWith}
 use Rattle.kinds.specs.declared.Refusal.{Refusal}
 use Rattle.jobs.specs.declared.Finished.the-variants as finished
 use Rattle.jobs.specs.Answers.{hasFinished, ranAs}
@@ -14,26 +14,28 @@ use Rattle.run.specs.declared.Released.the-variants as release
 use Rattle.run.specs.declared.Ticked.{Ticked}
 use Rattle.run.specs.declared.Ticked.the-variants as tick
 
--- A start has no value to say where the run is ready, and else says the table's refusal with its place.
+-- What the answer of a start says: no value where the run is ready, and otherwise the table's refusal with its place. (1.17, 6.4)
 abbrev pub startSays : StartAnswer → Says
 startSays start.Ready = values []
 startSays (start.Refused r) = numbered (refusedSays r)
 
--- A release says the job's serial and its due time, or the refusal's number and its place, which is 0: a release names none. (10.2)
+-- What a release can say: the job's serial and due time, or a refusal's number and place. (1.17, 6.6, 6.8)
 pub data ReleaseSays : Type 0 where
   accepted : (serial due : ℕ) → ReleaseSays
   refused : (number place : ℕ) → ReleaseSays
 
+-- What each answer of a release says. Its refusals name no place, so the place is 0. (1.17, 10.2)
 abbrev pub releaseSays : Released → ReleaseSays
 releaseSays (release.Accepted a) = accepted (a .serial .0) (a .due .0)
 releaseSays (release.Refused r) = refused (refusalNumber r) 0
 
--- A tick says that it was idle, or the serial of the job that ran and whether that job finished, or the refusal's number and its place, 0 again. (10.2)
+-- What a tick can say: that it was idle, the serial of the job that had the unit and whether it finished, or a refusal's number and place. (1.17, 6.12, 6.16)
 pub data TickSays : Type 0 where
   idle : TickSays
   ran : (serial : ℕ) (finished : Bool) → TickSays
   refused : (number place : ℕ) → TickSays
 
+-- What each answer of a tick says. Its refusals name no place, so the place is 0. (1.17, 10.2)
 abbrev pub tickSays : Ticked → TickSays
 tickSays tick.Idle = idle
 tickSays (tick.Ran r) = ran (r .serial .0) (hasFinished (r .finished))
@@ -41,14 +43,14 @@ tickSays (tick.Refused r) = refused (refusalNumber r) 0
 
 -- ---- what is proved (proofs/Answers.antt)
 
--- No answer is numbered 0.
+-- No answer of start, release or tick is numbered 0. (1.16)
 abbrev pub RunsNeverZero : Type 0
 RunsNeverZero =
     NeverNumberedZero startSays
     × ((a : Released) (number place : ℕ) → releaseSays a ≡ ReleaseSays.refused number place → 1 ≤ number)
     × ((a : Ticked) (number place : ℕ) → tickSays a ≡ TickSays.refused number place → 1 ≤ number)
 
--- Different answers say different things.
+-- Different answers of a start say different things, and so do different answers of a release and of a tick.
 abbrev pub RunsSaidApart : Type 0
 RunsSaidApart =
     SaysApart startSays
@@ -56,17 +58,17 @@ RunsSaidApart =
     × ((a b : Ticked) → tickSays a ≡ tickSays b → a ≡ b)
 
 -- A start that is ready has no value to say. (6.4)
-abbrev pub ReadySays : Type 0
-ReadySays = startSays start.Ready ≡ values []
+abbrev pub StartReadySays : Type 0
+StartReadySays = startSays start.Ready ≡ values []
 
 -- A start that is refused says the table's refusal: its number, its place and 0. (6.4)
 abbrev pub StartRefusedSays : Type 0
 StartRefusedSays = (r : Refusal) (place : ℕ)
-    → startSays (start.Refused (record { refusal = r; place = place })) ≡ numbered (record { number = refusalNumber r; first = place; second = 0 })
+    → startSays (start.Refused (record { refusal = r; place = place })) ≡ refusedWith (refusalNumber r) place
 
 -- An accepted release says the job's serial and its due time. (6.6)
-abbrev pub AcceptedSays : Type 0
-AcceptedSays = (serial due : ℕ)
+abbrev pub ReleaseAcceptedSays : Type 0
+ReleaseAcceptedSays = (serial due : ℕ)
     → releaseSays (release.Accepted (record { serial = record { 0 = serial }; due = record { 0 = due } })) ≡ accepted serial due
 
 -- A refused release says the refusal's number, at place 0. (6.8, 10.2)
@@ -77,11 +79,11 @@ ReleaseRefusedSays = (r : Refusal) → releaseSays (release.Refused r) ≡ Relea
 abbrev pub IdleTickSays : Type 0
 IdleTickSays = tickSays tick.Idle ≡ idle
 
--- A tick that finishes a job says its serial, and that it finished. (6.12)
+-- A tick that finishes a job says the job's serial, and that it finished. (6.12)
 abbrev pub FinishedTickSays : Type 0
 FinishedTickSays = (serial : ℕ) → tickSays (tick.Ran (ranAs serial finished.Yes)) ≡ ran serial true
 
--- A tick that leaves its job unfinished says the serial, and that it did not finish. (6.12)
+-- A tick that gives a job a unit and leaves it unfinished says the job's serial, and that it did not finish. (6.12)
 abbrev pub RanTickSays : Type 0
 RanTickSays = (serial : ℕ) → tickSays (tick.Ran (ranAs serial finished.No)) ≡ ran serial false
 

@@ -2,6 +2,7 @@ pub mod Runs
 pub mod Sound
 pub mod Release
 pub mod Ticking
-pub mod Advance
+pub mod ManyTicks
 pub mod Answers
-pub mod Laws
+pub mod History
+pub mod RunLaws

@@ -20,15 +20,16 @@ use Rattle.run.specs.declared.Released.the-variants as answer
 use Rattle.run.specs.Runs.{rowAt, keptOf}
 use Rattle.run.specs.Sound.{soundOf}
 
--- A refused release leaves the run as it was.
+-- A refused release leaves the run unchanged. It takes no serial, and leaves every due time alone. (4.4, 6.18)
 abbrev pub refusedRelease : Run → Refusal → ReleaseStep
 refusedRelease run r = record { run = run; answer = answer.Refused r }
 
--- The job that an accepted release adds: released at the clock, with the next serial and all of its cost left.
+-- The job that an accepted release adds: released at the clock, with the next serial, its due time, its stated cost, and as many units left. (6.6)
 abbrev pub newJob : Run → (row cost : ℕ) → (due : Tick) → Job
 newJob run row cost due = record { serial = run .next; row = record { 0 = row }; release = run .clock; due = due; cost = cost; left = cost }
 
--- The run with that job: in the first unused place, the next serial one up, the due time kept for its row. All else stays.
+-- The run after an accepted release. The job is in the first unused place, the next serial is one higher, and the due time is kept for the job's row. The
+-- clock, the rows and the other jobs stay as they were. (6.7)
 abbrev pub withJob : Run → (row cost : ℕ) → (due : Tick) → Run
 withJob run row cost due = record {
   table = run .table;
@@ -38,12 +39,13 @@ withJob run row cost due = record {
   kept = set (run .kept) row (keptWith (keptOf run row) (rowAt (run .table) row) due);
 }
 
--- A release whose due time is settled, or refused (9).
+-- The last test of a release: a due time above 2^40 is refusal 9. An accepted release answers the job's serial and due time. (6.6, 6.8)
 abbrev pub atDue : Run → (row cost : ℕ) → Due → ReleaseStep
 atDue run row cost (due.At t) = record { run = withJob run row cost t; answer = answer.Accepted (record { serial = run .next; due = t }) }
 atDue run row cost (due.Refused r) = refusedRelease run r
 
--- A release whose row number and cost are allowed, or refused (6, 7): 8 where all places are in use, and then its due time settles it. (6.8)
+-- A release of a sound run, by the test of its row number and cost. What that test refuses, with 6 or 7, is refused. Otherwise 64 pending jobs are refusal 8,
+-- and after that the due time decides. (6.8)
 abbrev pub atCost : Run → (row cost : ℕ) → CostAnswer → ReleaseStep
 atCost run row cost cost-answer.Allowed =
     cond (ltb (run .pending .count) maxPlaces)
@@ -51,7 +53,7 @@ atCost run row cost cost-answer.Allowed =
     (refusedRelease run PlacesFull)
 atCost run row cost (cost-answer.Refused r) = refusedRelease run r
 
--- The tests in their order: 11, 6, 7, 8, 9. (6.8)
+-- What a release answers, and the run after it. The tests come in this order: 11, 6, 7, 8, 9. (6.6 to 6.8, 10.4)
 unfoldable pub released : Run → (row cost : ℕ) → ReleaseStep
 released run row cost =
     cond (soundOf run) (atCost run row cost (costAnswer (limitOf (costLimits (run .table)) row) cost)) (refusedRelease run RunNotSound)

@@ -18,31 +18,32 @@ use Rattle.run.specs.declared.Started.{Started}
 use Rattle.run.specs.declared.StartAnswer.{StartAnswer}
 use Rattle.run.specs.declared.StartAnswer.the-variants as start
 
--- The fresh run of a table: the clock at 0, nothing pending, the next serial 0, and no due time kept.
+-- The fresh run of a table has the table's rows, the clock at 0, no pending job, the next serial 0, and no due time kept. (6.3)
 abbrev pub freshRun : Table → Run
 freshRun t = record { table = t; clock = record { 0 = 0 }; pending = emptyPending; next = record { 0 = 0 }; kept = replicate maxRows nothingKept }
 
--- A start is refused as its table is.
+-- A start is ready where the table is accepted, and otherwise gives the table's refusal. (6.4)
 abbrev pub startAnswer : TableAnswer → StartAnswer
 startAnswer (answer.Accepted period) = start.Ready
 startAnswer (answer.Refused r) = start.Refused r
 
--- A run is started on any table that is accepted; else the table's refusal, with the fresh run of the empty table (which is what a refused table is read as).
+-- A run started on a table's bytes. An accepted table, an overloaded one too, gives its fresh run. Other bytes give the table's refusal, with the fresh run of
+-- the empty table: `tableRead` gives the empty table beside every refusal. (6.4)
 abbrev pub started : List ℕ → Started
 started s = record { run = freshRun (tableRead s .table); answer = startAnswer (tableRead s .answer) }
 
--- A row number is in use when it is below the table's row count.
+-- A row number is in use when it is below the table's row count. (3.14)
 abbrev pub rowInUse : Table → (row : ℕ) → Bool
 rowInUse t row = ltb row (t .count)
 
--- The row that a number names.
+-- The row of a table with this row number. (1.2)
 abbrev pub rowAt : Table → (row : ℕ) → Row
 rowAt t row = getD (t .rows) row noRow
 
--- The most that a job of the row may cost.
+-- The most that a job of the row may cost, which is the row's c. (1.6)
 abbrev pub costLimit : Table → (row : ℕ) → ℕ
 costLimit t row = rowAt t row .c
 
--- What is kept of a row's due times.
+-- The due times that the run keeps for a row. (4.6)
 abbrev pub keptOf : Run → (row : ℕ) → Kept
 keptOf run row = getD (run .kept) row noKept

@@ -1,4 +1,4 @@
--- When a run is sound: exactly these conditions, and no other. (docs/RULES.md, sections 6.20 to 6.24.)
+-- The conditions on which a run is sound, as a test and as facts. (docs/RULES.md, sections 6.20 to 6.24.)
 use Prim.Native.Nat.{ℕ, _+_, _≤_, _<_}
 use mathlib.Core.Path.{_≡_}
 use mathlib.Core.Logic.{_↔_}
@@ -15,17 +15,18 @@ use Rattle.table.specs.declared.CostAnswer.the-variants as answer
 use Rattle.table.specs.Costs.{costLimits, limitOf, costAnswer}
 use Rattle.table.specs.Rows.{fromOneTo, rowInRange}
 use Rattle.table.specs.Tables.{rowsOf}
-use Rattle.table.specs.Laws.{WithinLimits}
+use Rattle.table.specs.SpelledTables.{WithinLimits}
 use Rattle.due.specs.declared.Kept.{Kept}
 use Rattle.due.specs.Kept.{keptSound}
-use Rattle.due.specs.Laws.{SoundKept}
+use Rattle.due.specs.KeptTimes.{SoundKept}
 use Rattle.jobs.specs.declared.Job.{Job}
 use Rattle.jobs.specs.Places.{maxPlaces, noJob, jobsOf}
 use Rattle.jobs.specs.Serials.{distinctSerials}
 use Rattle.run.specs.declared.Run.{Run}
 use Rattle.run.specs.Runs.{rowAt, costLimit, keptOf}
 
--- A job can be pending at a clock, whatever its row is: it was released by the clock, has some of its cost left, is due in time and has a serial that was given out. (6.22)
+-- What soundness asks of a pending job, apart from its row and its cost. It was released at or before the clock, has at least 1 unit left and at most its
+-- stated cost, is due at 2^40 or before, and has a serial below the next serial. (6.22)
 unfoldable pub jobFits : (clock next : ℕ) → Job → Bool
 jobFits clock next j =
     leb (j .release .0) clock
@@ -33,31 +34,33 @@ jobFits clock next j =
     && leb (j .due .0) maxTime
     && ltb (j .serial .0) next
 
--- The one test of a row number and a cost allows a job.
+-- The test of a row number and a cost allows them.
 abbrev pub allows : CostAnswer → Bool
 allows answer.Allowed = true
 allows (answer.Refused r) = false
 
--- A pending job can be one of a run's: its row number and cost are allowed, by the test that a release goes by, and it fits. (6.22)
+-- A pending job is sound when its row number and cost pass the test that a release makes, and the rest of the job fits. (6.22)
 unfoldable pub jobSound : (limits : List ℕ) (clock next : ℕ) → Job → Bool
 jobSound limits clock next j = allows (costAnswer (limitOf limits (j .row .0)) (j .cost)) && jobFits clock next j
 
--- Each of the jobs can.
+-- Every pending job is sound. (6.22)
 abbrev pub jobsSound : (limits : List ℕ) (clock next : ℕ) → List Job → Bool
 jobsSound limits clock next [] = true
 jobsSound limits clock next (j ∷ js) = jobSound limits clock next j && jobsSound limits clock next js
 
--- Each row is in range, and what is kept of its due times can be its.
+-- Each row is in range, and has at most x due times kept, none of them above 2^40. A run has kept due times for all 16 rows, so the case of a row without them
+-- does not come up. (6.21, 6.24)
 abbrev pub rowsSound : List Row → List Kept → Bool
 rowsSound [] ks = true
 rowsSound (r ∷ rs) [] = true
 rowsSound (r ∷ rs) (k ∷ ks) = rowInRange r && keptSound k r && rowsSound rs ks
 
--- The next serial is at most the clock plus the number of pending jobs: each serial given out is pending, or had a tick that finished it.
+-- The most that the next serial may be: the clock plus the number of pending jobs. The job of each serial given out is pending or was finished by a tick.
+-- (6.23)
 abbrev pub serialBound : Run → ℕ
 serialBound run = run .clock .0 + run .pending .count
 
--- The run is sound.
+-- A run is sound when all of these hold. The counts and the clock are tested before any place is looked at and before the clock is added to. (6.20 to 6.24)
 unfoldable pub soundOf : Run → Bool
 soundOf run =
     leb (run .table .count) maxRows
@@ -68,8 +71,9 @@ soundOf run =
     && distinctSerials (jobsOf (run .pending))
     && leb (run .next .0) (serialBound run)
 
--- ---- the same as facts
+-- ---- soundness as facts
 
+-- The facts about a sound pending job. (6.22)
 pub record SoundJob (t : Table) (clock next : ℕ) (j : Job) : Type 0 where
   pub row-in-use : j .row .0 < t .count
   pub released : j .release .0 ≤ clock
@@ -80,6 +84,7 @@ pub record SoundJob (t : Table) (clock next : ℕ) (j : Job) : Type 0 where
   pub due-in-time : j .due .0 ≤ maxTime
   pub serial-given : j .serial .0 < next
 
+-- The facts about a sound run. (6.20 to 6.24)
 pub record Sound (run : Run) : Type 0 where
   pub few-rows : run .table .count ≤ maxRows
   pub clock-in-time : run .clock .0 ≤ maxTime
@@ -91,13 +96,13 @@ pub record Sound (run : Run) : Type 0 where
       → getD (jobsOf (run .pending)) i noJob .serial .0 ≡ getD (jobsOf (run .pending)) k noJob .serial .0 → ⊥
   pub serials : run .next .0 ≤ run .clock .0 + run .pending .count
 
--- The arrays of a run have all their places. Every run that a program can hold does: `Run::sound` takes any run at all and ensures it, whatever it answers, so this premise of
--- the laws holds for every run that a call is handed.
+-- The arrays of a run have all their places. Every run that a program can hold has them by its type. `Run::sound` takes any run and ensures this, whatever it
+-- answers, so this premise of the laws holds for every run that a call is handed.
 pub record Whole (run : Run) : Type 0 where
   pub all-rows : length (run .table .rows) ≡ maxRows
   pub all-kept : length (run .kept) ≡ maxRows
   pub all-places : length (run .pending .places) ≡ maxPlaces
 
--- The test means these facts, and nothing more.
+-- A run passes the test exactly when the facts about a sound run hold for it, and on no other condition. (6.20)
 abbrev pub SoundMeans : Type 0
 SoundMeans = (run : Run) → Whole run → (soundOf run ≡ true) ↔ Sound run

@@ -15,19 +15,21 @@ use Rattle.run.specs.declared.TickStep.{TickStep}
 use Rattle.run.specs.declared.Ticked.the-variants as answer
 use Rattle.run.specs.Sound.{soundOf}
 
--- A refused tick leaves the run as it was, and no job becomes late.
+-- A refused tick leaves the run unchanged, and its late count is 0. (6.14, 6.18)
 abbrev pub refusedTick : Run → Refusal → TickStep
 refusedTick run r = record { run = run; answer = answer.Refused r; late = 0 }
 
--- The run at another clock, with other pending jobs. A tick touches nothing else.
+-- The run with another clock and other pending jobs. The rows, the next serial and the kept due times stay as they were: due times are kept after a finish and
+-- through idle time. (4.5, 6.17)
 abbrev pub runWith : Run → (clock : ℕ) → Pending → Run
 runWith run clock p = record { table = run .table; clock = record { 0 = clock }; pending = p; next = run .next; kept = run .kept }
 
--- A tick with nothing pending: the clock goes up by one, and nothing else changes. (6.12)
+-- A tick with nothing pending answers idle, with a late count of 0. The clock goes up by one, and nothing else changes. (6.10, 6.12, 6.14)
 abbrev pub idleTick : Run → TickStep
 idleTick run = record { run = runWith run (run .clock .0 + 1) (run .pending); answer = answer.Idle; late = 0 }
 
--- A tick that gives a unit to the job that goes first. (6.10, 6.12 to 6.14)
+-- A tick with a job pending gives one unit to the chosen job, and answers that job's serial, whether it finished, and how many jobs became late. The clock goes
+-- up by one. (6.10 to 6.14)
 abbrev pub busyTick : Run → TickStep
 busyTick run = record {
   run = runWith run (run .clock .0 + 1) (oneTick (run .pending));
@@ -35,7 +37,8 @@ busyTick run = record {
   late = lateCount (run .clock .0 + 1) (jobsOf (oneTick (run .pending)));
 }
 
--- The tests in their order: 11, 10.
+-- What a tick answers, and the run after it. The tests are 11 and then 10. Every other tick is free for jobs, and idle only with nothing pending.
+-- (6.5, 6.10, 6.12, 6.16)
 unfoldable pub ticked : Run → TickStep
 ticked run =
     cond (soundOf run)

@@ -1,4 +1,4 @@
-// The run: the scheduler's state, by value. Each call takes any run at all, tests that it is sound, and hands back the run after it beside its answer.
+// The run is the scheduler's state. Each call takes any run by value, tests that it is sound, and hands back the next run beside its answer.
 // (docs/RULES.md, section 6.)
 mod soundness;
 
@@ -24,6 +24,7 @@ ghost use Rattle.run.specs.Sound.{soundOf, Whole};
 ghost use Rattle.run.specs.Release.{refusedRelease, released};
 ghost use Rattle.run.specs.Ticking.{ticked};
 
+// A run holds its rows, the clock, the pending jobs, the next serial, and the kept due times of each row. (6.1)
 pub struct Run {
     pub table: Table,
     pub clock: Tick,
@@ -32,48 +33,52 @@ pub struct Run {
     pub kept: [Kept; Table::MAX_ROWS],
 }
 
-// Whether a run could be started on a table's bytes.
+// The answer of a start: the run is ready, or the table was refused. (6.4)
 pub enum StartAnswer {
     Ready,
     Refused(RefusedAt),
 }
 
+// The run that was started, beside the answer. After a refusal it is the fresh run of the empty table. (6.4)
 pub struct Started {
     pub run: Run,
     pub answer: StartAnswer,
 }
 
-// What a release is known by.
+// What an accepted release answers: the job's serial and its due time. (6.6)
 pub struct Accepted {
     pub serial: Serial,
     pub due: Tick,
 }
 
+// The answer of a release: the job was accepted or refused. (6.6, 6.8)
 pub enum Released {
     Accepted(Accepted),
     Refused(Refusal),
 }
 
+// The next run after a release, beside the answer. (6.19)
 pub struct ReleaseStep {
     pub run: Run,
     pub answer: Released,
 }
 
-// Who had a tick.
+// The answer of a tick: it was idle, a job had the unit, or it was refused. (6.12, 6.16)
 pub enum Ticked {
     Idle,
     Ran(Ran),
     Refused(Refusal),
 }
 
-// The late count stands beside the answer, whatever the answer is.
+// The next run after a tick, beside the answer and the late count. The late count is answered whatever the answer is. (6.14, 6.19)
 pub struct TickStep {
     pub run: Run,
     pub answer: Ticked,
     pub late: u64,
 }
 
-// The fresh run of the table that the bytes spell, also where it is overloaded; or its refusal, with the fresh run of the empty table.
+// Starts a run on a table's bytes. An accepted table, an overloaded one too, gives its fresh run. Other bytes give the table's refusal, with the fresh run of
+// the empty table. (6.4)
 pub fn start(bytes: &[u8]) -> Started
     ensures { λ r. ⌜ r ≡ started (now (bytes .entry)) ⌝ }
 {
@@ -94,10 +99,13 @@ pub fn start(bytes: &[u8]) -> Started
 }
 
 impl Run {
+    // At most 64 jobs are pending. (6.2)
     pub const MAX_PENDING: usize = Pending::PLACES;
 
+    // The clock is at most 2^40. (6.2)
     pub const MAX_CLOCK: u64 = Tick::MAX;
 
+    // The fresh run of a table. (6.2, 6.3)
     pub fn fresh(table: Table) -> Run
         ensures { λ r. ⌜ r ≡ freshRun table ⌝ }
     {
@@ -112,7 +120,7 @@ impl Run {
         }
     }
 
-    // Whether the run can be trusted: the conditions of the rules, and no other. Whatever the answer, the run's arrays have all their places.
+    // Whether the run is sound. The second clause holds whatever the answer is: the run's arrays have all their places. (6.20)
     pub fn sound(self) -> bool
         ensures { λ r. ⌜ r ≡ soundOf self ⌝ }
         ensures whole { λ r. ⌜ Whole self ⌝ }
@@ -145,7 +153,8 @@ impl Run {
         next.0 <= clock.0 + pending.count as u64
     }
 
-    // A job of a row, released now: 11, 6, 7, 8, 9, with the run as it was; else its serial and its due time.
+    // Releases a job of a row at the clock. It answers the job's serial and due time, or refuses with 11, 6, 7, 8 or 9, in this order. A refused release leaves
+    // the run unchanged. (6.6 to 6.8, 6.18)
     pub fn release(self, row: RowNumber, cost: u64) -> ReleaseStep
         ensures { λ r. ⌜ r ≡ released self (row .0) cost ⌝ }
     {
@@ -197,7 +206,8 @@ impl Run {
         }
     }
 
-    // One tick: 11, 10, with the run as it was; else one unit to the job that goes first.
+    // Lets one tick go by. It gives one unit to the chosen job, if one is pending, or refuses with 11 or 10, in this order. A refused tick leaves the run
+    // unchanged. (6.5, 6.10 to 6.14, 6.16, 6.18)
     pub fn tick(self) -> TickStep
         ensures { λ r. ⌜ r ≡ ticked self ⌝ }
     {
@@ -240,6 +250,7 @@ impl Run {
     }
 }
 
+// A refused release leaves the run unchanged. (4.4, 6.18)
 fn refused_release(run: Run, refusal: Refusal) -> ReleaseStep
     ensures { λ r. ⌜ r ≡ refusedRelease run refusal ⌝ }
 {

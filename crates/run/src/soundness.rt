@@ -1,4 +1,4 @@
-// What soundness asks of each pending job, of each row and of what is kept of its due times. (docs/RULES.md, 6.21, 6.22 and 6.24.)
+// What soundness asks of each pending job, of each row and of its kept due times. (docs/RULES.md, 6.21, 6.22 and 6.24.)
 use due::Kept;
 use jobs::Job;
 use jobs::Pending;
@@ -13,7 +13,7 @@ ghost use Rattle.table.specs.Tables.{rowsOf};
 ghost use Rattle.jobs.specs.Places.{maxPlaces, jobsOf};
 ghost use Rattle.run.specs.Sound.{jobFits, jobsSound, rowsSound};
 
-// Each pending job can be one of the run's. The limits are what a job of each row in use may cost.
+// Every pending job is sound. `limits` has the most that a job may cost, for each row in use. (6.22)
 pub(crate) fn jobs_sound(limits: &[u64], clock: Tick, next: Serial, pending: Pending) -> bool
     requires { ⌜ pending .count ≤ maxPlaces ⌝ }
     ensures { λ r. ⌜ r ≡ jobsSound (now (limits .entry)) (clock .0) (next .0) (jobsOf pending) ⌝ }
@@ -35,7 +35,7 @@ pub(crate) fn jobs_sound(limits: &[u64], clock: Tick, next: Serial, pending: Pen
     true
 }
 
-// What is left to test of a job whose row number and cost are allowed.
+// What soundness asks of a pending job, apart from its row and its cost. (6.22)
 fn job_fits(job: Job, clock: Tick, next: Serial) -> bool
     ensures { λ r. ⌜ r ≡ jobFits (clock .0) (next .0) job ⌝ }
 {
@@ -45,7 +45,7 @@ fn job_fits(job: Job, clock: Tick, next: Serial) -> bool
         & (job.serial.0 < next.0)
 }
 
-// Each row is in range, and what is kept of its due times can be its.
+// Each row in use is in range, and has at most x due times kept, none of them above 2^40. (6.21, 6.24)
 pub(crate) fn rows_sound(table: Table, kept: [Kept; Table::MAX_ROWS]) -> bool
     requires { ⌜ table .count ≤ maxRows ⌝ }
     ensures { λ r. ⌜ r ≡ rowsSound (rowsOf table) kept ⌝ }

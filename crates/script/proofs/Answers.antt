@@ -1,9 +1,9 @@
--- What the readers of a script and the chooser say: each case is settled, no answer is numbered 0, different answers say different things, and what is said
--- tells what stands there. (docs/RULES.md, section 7.)
+-- What the number reader and the record reader of a script say, and what the chooser says. No answer is numbered 0, different answers say different things, and
+-- what is said tells what stands there. (docs/RULES.md, section 7.)
 use Prim.Native.Nat.{ℕ}
 use mathlib.Core.Path.{_≡_, refl, sym, ap, ap₂, _∙_}
 use native.Mathlib.Omega.{arith}
-use Rattle.kinds.specs.Numbering.{Said, numbered, refusedSays, NeverNumberedZero, SaysApart}
+use Rattle.kinds.specs.Numbering.{Said, numbered, refusedSays, NeverNumberedZero, SaysApart, refusalAt}
 use Rattle.kinds.specs.declared.RefusedAt.{RefusedAt}
 use Rattle.kinds.proofs.Apart.{impossible}
 use Rattle.kinds.proofs.Numbering.{never-zero, numbers-differ, saidIn, refusals-apart}
@@ -11,8 +11,8 @@ use Rattle.numbers.specs.declared.Number.{Number}
 use Rattle.numbers.specs.declared.NumberRead.{NumberRead}
 use Rattle.numbers.specs.declared.NumberRead.the-variants as number
 use Rattle.numbers.specs.Reading.{readAt}
-use Rattle.numbers.specs.Answers.{numberSays, refusalAt}
-use Rattle.numbers.proofs.Laws.{refused-at-its-start}
+use Rattle.numbers.specs.Answers.{numberSays}
+use Rattle.numbers.proofs.Spellings.{refused-at-its-start}
 use Rattle.numbers.proofs.Answers.{numbers-said-apart}
 use Rattle.script.specs.declared.RecordAt.{RecordAt}
 use Rattle.script.specs.declared.RecordRead.{RecordRead}
@@ -24,7 +24,7 @@ use Rattle.script.specs.declared.Chosen.the-variants as answer
 use Rattle.script.specs.Records.{asScripts, scriptNumber, recordAt}
 use Rattle.script.specs.Answers.{recordSays, whichNumber, chosenSays, ScriptsNeverZero, ScriptsSaidApart}
 use Rattle.script.specs.Answers.{RecordReadSays, EndSays, RefusedRecordSays, FirstNextSays, SecondNextSays, EndedSays, RefusedInFirstSays, RefusedInSecondSays}
-use Rattle.script.specs.Laws.{EndIsTheLength, PastTheEnd, RefusedAtANumber, NumberIsRead, NumberRefused, NumberPastTheEnd}
+use Rattle.script.specs.ScriptLaws.{EndIsTheLength, PastTheEnd, RefusedAtANumber, NumberIsRead, NumberRefused, NumberPastTheEnd}
 use Rattle.script.proofs.Records.{number-past-end, number-inside, number-stands, number-read, record-past-end, record-end, end-is-length, no-number-of}
 
 -- ---- what each answer says
@@ -68,7 +68,7 @@ chosen-never-zero (answer.Refused r) = never-zero (r .at .refusal)
 pub scripts-never-zero : ScriptsNeverZero
 scripts-never-zero = (record-never-zero, chosen-never-zero)
 
--- Records that agree in their gap, row and cost and in the place after them are one.
+-- Records are equal where their gaps, row numbers, costs and the places after them are.
 same-record : (a b : RecordAt) → a .release .gap ≡ b .release .gap → a .release .row .0 ≡ b .release .row .0 → a .release .cost ≡ b .release .cost
     → a .next ≡ b .next → a ≡ b
 same-record a b gap row cost next =
@@ -87,14 +87,14 @@ record-apart (read.Refused q) (read.Record b) e = impossible cc
 record-apart (read.Refused q) read.End e = impossible cc
 record-apart (read.Refused q) (read.Refused r) e = ap read.Refused (refusals-apart q r e)
 
--- The two scripts have two numbers.
+-- Different scripts of the two have different numbers.
 which-apart : (a b : Which) → whichNumber a ≡ whichNumber b → a ≡ b
 which-apart which.First which.First e = refl
 which-apart which.First which.Second e = absurd (omega arith)
 which-apart which.Second which.First e = absurd (omega arith)
 which-apart which.Second which.Second e = refl
 
--- Refusals in scripts that say the same are one.
+-- Refusals in scripts that say the same are equal.
 refused-apart : (q r : RefusedIn) → chosenSays (answer.Refused q) ≡ chosenSays (answer.Refused r) → q ≡ r
 refused-apart q r e =
     ap₂ (λ script at. record { script = script; at = at }) (which-apart (q .script) (r .script) (ap (λ a. saidIn a .second) e))
@@ -119,9 +119,9 @@ chosen-apart (answer.Refused q) (answer.Refused r) e = ap answer.Refused (refuse
 pub scripts-said-apart : ScriptsSaidApart
 scripts-said-apart = (record-apart, chosen-apart)
 
--- ---- what is known of a place, by what was said
+-- ---- what is known about a place, by what was said
 
--- What is numbered is a refusal, which says that.
+-- An answer of the record reader that is numbered is a refusal, with that number.
 pub refused-record : {G : Type 0} (v : RecordRead) (said : Said) → recordSays v ≡ numbered said
     → ((r : RefusedAt) → v ≡ read.Refused r → said ≡ refusedSays r → G) → G
 refused-record (read.Record a) said e then = impossible cc

@@ -1,4 +1,4 @@
--- What the chooser says of two scripts, by what each begins with and the time that each has reached. (docs/RULES.md, section 7.)
+-- What the chooser says about two scripts, by what each begins with and the time that each has reached. (docs/RULES.md, section 7.)
 use Prim.Native.Nat.{ℕ}
 use native.Mathlib.Omega.{arith}
 use mathlib.Core.Path.{_≡_, refl, sym, ap, _∙_}
@@ -12,20 +12,21 @@ use Rattle.script.specs.declared.Which.the-variants as which
 use Rattle.script.specs.Records.{recordAt}
 use Rattle.script.specs.Chooser.{refusedIn, earlierOf, comesNext, chosen}
 use Rattle.script.specs.Answers.{chosenSays, refusalIn}
-use Rattle.script.specs.Laws.{BeginsWith, HasEnded, RefusedFirst, TwoRecords, FirstUnlessLater, FirstAtEqualTimes, SecondIfEarlier}
-use Rattle.script.specs.Laws.{FirstAlone, SecondAlone, BothEnded, TooLateInFirst, TooLateInSecond, RefusedInFirst, RefusedInSecond}
+use Rattle.script.specs.TwoScripts.{BeginsWith, HasEnded, RefusedFirst, TwoRecords}
+use Rattle.script.specs.ChooserLaws.{FirstUnlessLater, FirstAtEqualTimes, SecondIfEarlier}
+use Rattle.script.specs.ChooserLaws.{FirstAlone, SecondAlone, BothEnded, TooLateInFirst, TooLateInSecond, RefusedInFirst, RefusedInSecond}
 use Rattle.script.proofs.Chooser.{first-earlier, second-earlier, first-too-late, second-too-late, by-records}
 use Rattle.script.proofs.Answers.{scripts-said-apart, refused-record}
 
--- What is said of the first record tells which it is.
+-- What the record reader says about the first record tells which record it is.
 begins : (s : List ℕ) (a : RecordAt) → BeginsWith s a → recordAt s 0 ≡ read.Record a
 begins s a e = scripts-said-apart .0 (recordAt s 0) (read.Record a) e
 
--- Where no value is said of the first record, the script has ended.
+-- Where the record reader says no value at the start, the script has ended.
 ends : (s : List ℕ) → HasEnded s → recordAt s 0 ≡ read.End
 ends s e = scripts-said-apart .0 (recordAt s 0) read.End e
 
--- With a record in each script, the choice is the earlier of the two.
+-- Where each script begins with a record, the choice is the earlier of the two.
 earlier-of-two : (s₁ s₂ : List ℕ) (time₁ time₂ : ℕ) (a b : RecordAt) → TwoRecords s₁ s₂ time₁ time₂ a b → chosen s₁ s₂ time₁ time₂ ≡ earlierOf a b time₁ time₂
 earlier-of-two s₁ s₂ time₁ time₂ a b t = by-records s₁ s₂ time₁ time₂ (t .first-time) (t .second-time) (begins s₁ a (t .first)) (begins s₂ b (t .second))
 
@@ -58,7 +59,7 @@ refused-in-first s₁ s₂ time₁ time₂ said h k p =
     refused-record (recordAt s₁ 0) said p λ r is says.
     ap chosenSays (by-records s₁ s₂ time₁ time₂ h k is refl) ∙ rw says
 
--- With a record or the end in the first script, the second's refusal is the answer.
+-- Where the first script's record is not refused, the refusal of the second script's is the answer.
 second-refusal : (one : RecordRead) (r : RefusedAt) (time₁ time₂ : ℕ) → ((q : RefusedAt) → one ≡ read.Refused q → ⊥)
     → comesNext one (read.Refused r) time₁ time₂ ≡ refusedIn which.Second r
 second-refusal (read.Record a) r time₁ time₂ n = refl

@@ -1,5 +1,5 @@
 pub mod Records
 pub mod Chooser
-pub mod Laws
+pub mod Scripts
 pub mod Answers
 pub mod Choices

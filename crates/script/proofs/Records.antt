@@ -1,5 +1,5 @@
--- A record of a script is read as its three numbers, and where a record is read its spelling stands. Each answer of the reader is a law; the spelling goes by
--- a number, and then the next. (docs/RULES.md, section 7.)
+-- A record of a script is read as its three numbers, and where a record is read its spelling stands. Each answer of the record reader is stated as a law.
+-- (docs/RULES.md, section 7.)
 use Prim.Native.Nat.{ℕ, _+_, _≤_, _<_}
 use native.Mathlib.Omega.{arith}
 use mathlib.Core.Path.{_≡_, refl, sym, ap, _∙_}
@@ -17,28 +17,28 @@ use Rattle.numbers.specs.declared.NumberRead.{NumberRead}
 use Rattle.numbers.specs.declared.NumberRead.the-variants as number
 use Rattle.numbers.specs.Spelling.{maxNumber, spelling}
 use Rattle.numbers.specs.Reading.{readAt}
-use Rattle.numbers.specs.Laws.{Bytes, Spelled, NoNumber}
-use Rattle.numbers.proofs.Laws.{read-here, read-within, one-spelling, spelling-length, refused-at-its-start, refused-none}
+use Rattle.numbers.specs.SpelledNumbers.{Bytes, Spelled, NoNumber}
+use Rattle.numbers.proofs.Spellings.{read-here, read-within, number-has-one-spelling, spelling-length, refused-at-its-start, refused-none}
 use Rattle.script.specs.declared.Record.{Record}
 use Rattle.script.specs.declared.RecordAt.{RecordAt}
 use Rattle.script.specs.declared.RecordRead.{RecordRead}
 use Rattle.script.specs.declared.RecordRead.the-variants as read
 use Rattle.script.specs.Records.{asScripts, refusedAtLength, scriptNumber, afterNumber, recordAt}
-use Rattle.script.specs.Laws.{spelledRecord, CanBeSpelled, SpelledHere, NoNumberOf, no-gap, no-row, no-cost}
+use Rattle.script.specs.SpelledScripts.{spelledRecord, CanBeSpelled, SpelledHere, NoNumberOf, no-gap, no-row, no-cost}
 
--- ---- the answers of the reader
+-- ---- the answers of the number reader and the record reader
 
 -- A number at a place past the end is refused at the script's length.
 pub number-past-end : (s : List ℕ) (at : ℕ) → length s < at → scriptNumber s at ≡ number.Refused (refusedAtLength (length s))
 unfolding scriptNumber
 number-past-end s at h = rw (lt-ltb (length s) at h)
 
--- A number at a place up to the end goes by the number reader.
+-- A number at a place up to the end is read by the number reader.
 pub number-inside : (s : List ℕ) (at : ℕ) → at ≤ length s → scriptNumber s at ≡ asScripts (readAt s at)
 unfolding scriptNumber
 number-inside s at h = rw (le-ltb (length s) at h)
 
--- A number that can be read is the number there.
+-- A number that the number reader reads is the script's number at that place.
 pub number-stands : (s : List ℕ) (at : ℕ) {n : Number} → readAt s at ≡ number.Number n → scriptNumber s at ≡ number.Number n
 number-stands s at {n} e = number-inside s at (omega (arith, read-within s at n e)) ∙ rw e
 
@@ -47,7 +47,7 @@ pub number-misspelled : (s : List ℕ) (at : ℕ) {r : RefusedAt} → at ≤ len
     → scriptNumber s at ≡ number.Refused (record { refusal = ScriptMisspelled; place = r .place })
 number-misspelled s at h e = number-inside s at h ∙ rw e
 
--- What holds of every number and of every refusal with 14 holds of a script's number.
+-- A property of every number and of every refusal with 14 is a property of what is read as a script's number.
 pub number-or-14 : (P : NumberRead → Type 0) (s : List ℕ) (at : ℕ) → ((n : Number) → P (number.Number n))
     → ((place : ℕ) → P (number.Refused (record { refusal = ScriptMisspelled; place = place }))) → P (scriptNumber s at)
 unfolding scriptNumber
@@ -58,7 +58,7 @@ number-or-14 P s at reads refuses = by-test (ltb (length s) at) (readAt s at)
     by-test false (number.Number n) = reads n
     by-test false (number.Refused r) = refuses (r .place)
 
--- Where no number can be read, the place is refused with 14.
+-- Where no number can be read, the answer is refusal 14 at that place.
 pub number-unreadable : (s : List ℕ) (at : ℕ) → at ≤ length s → ((n : Number) → readAt s at ≡ number.Number n → ⊥)
     → scriptNumber s at ≡ number.Refused (record { refusal = ScriptMisspelled; place = at })
 number-unreadable s at h none = by-answer (readAt s at) refl
@@ -72,30 +72,30 @@ pub record-past-end : (s : List ℕ) (at : ℕ) → length s < at
     → recordAt s at ≡ read.Refused (refusedAtLength (length s))
 record-past-end s at h = rw (lt-ltb (length s) at h)
 
--- At its length the script has ended.
+-- At its length a script has ended.
 pub record-end : (s : List ℕ) (at : ℕ) → at ≡ length s → recordAt s at ≡ read.End
 record-end s at e = rw (le-ltb (length s) at (omega arith), eq-eqb at (length s) e)
 
 module _ (s : List ℕ) (at : ℕ) (inside : at < length s) where
-  -- Before its end neither of these is the answer.
+  -- Before the script's end neither test of the place settles the answer.
   before-end : (past then : RecordRead) → cond (ltb (length s) at) past (cond (eqb at (length s)) read.End then) ≡ then
   before-end past then = rw (le-ltb (length s) at (omega arith), ne-eqb at (length s) (λ z. omega arith))
 
-  -- Where the gap can't be read, the record is refused as it is.
+  -- Where the gap is refused, the record is refused with it.
   pub gap-refused : (r : RefusedAt) → scriptNumber s at ≡ number.Refused r → recordAt s at ≡ read.Refused r
   gap-refused r e = before-end _ _ ∙ rw e
 
   module _ (gap : Number) (g : scriptNumber s at ≡ number.Number gap) where
-    -- Where the row number after the gap can't be read, the record is refused as it is.
+    -- Where the row number after the gap is refused, the record is refused with it.
     pub row-refused : (r : RefusedAt) → scriptNumber s (gap .next) ≡ number.Refused r → recordAt s at ≡ read.Refused r
     row-refused r e = before-end _ _ ∙ rw (g, e)
 
     module _ (row : Number) (n : scriptNumber s (gap .next) ≡ number.Number row) where
-      -- Where the cost after the row number can't be read, the record is refused as it is.
+      -- Where the cost after the row number is refused, the record is refused with it.
       pub cost-refused : (r : RefusedAt) → scriptNumber s (row .next) ≡ number.Refused r → recordAt s at ≡ read.Refused r
       cost-refused r e = before-end _ _ ∙ rw (g, n, e)
 
-      -- Three numbers that are read are the record.
+      -- Where three numbers are read, they are the record.
       pub record-read : (cost : Number) → scriptNumber s (row .next) ≡ number.Number cost
           → recordAt s at
           ≡ read.Record (record { release = record { gap = gap .value; row = record { 0 = row .value }; cost = cost .value }; next = cost .next })
@@ -103,7 +103,7 @@ module _ (s : List ℕ) (at : ℕ) (inside : at < length s) where
 
 -- ---- where a record was read
 
--- A number of a script that was read is the number at its place.
+-- A number that was read as a script's is what the number reader reads there.
 pub number-read : (s : List ℕ) (at : ℕ) (n : Number) → scriptNumber s at ≡ number.Number n → readAt s at ≡ number.Number n
 unfolding scriptNumber
 number-read s at n e = by-test (ltb (length s) at) (readAt s at) e
@@ -114,20 +114,20 @@ number-read s at n e = by-test (ltb (length s) at) (readAt s at) e
     by-test true (number.Number m) q = impossible cc
     by-test true (number.Refused r) q = impossible cc
 
--- Where a record was read, the number before it was.
+-- Where a record was read, the number that it was to begin with was read.
 number-before : (v : NumberRead) (k : Number → RecordRead) (found : RecordAt) → afterNumber v k ≡ read.Record found
     → (n : Number) × (v ≡ number.Number n) × (k n ≡ read.Record found)
 number-before (number.Number n) k found e = (n, refl, e)
 number-before (number.Refused r) k found e = impossible cc
 
--- Where a record was read, neither test of the place ended the script.
+-- Where a record was read, neither test of the place settled the answer.
 not-ended : (t u : Bool) (r : RefusedAt) (then : RecordRead) (found : RecordAt) → cond t (read.Refused r) (cond u read.End then) ≡ read.Record found
     → then ≡ read.Record found
 not-ended true u r then found e = impossible cc
 not-ended false true r then found e = impossible cc
 not-ended false false r then found e = e
 
--- The three numbers of a record that was read, one after another.
+-- The three numbers of a record that was read, one after the other.
 record ThreeNumbers (s : List ℕ) (at : ℕ) (found : RecordAt) : Type 0 where
   gap : Number
   row : Number
@@ -137,7 +137,7 @@ record ThreeNumbers (s : List ℕ) (at : ℕ) (found : RecordAt) : Type 0 where
   cost-read : readAt s (row .next) ≡ number.Number cost
   make-record : found ≡ record { release = record { gap = gap .value; row = record { 0 = row .value }; cost = cost .value }; next = cost .next }
 
--- A record that was read has them.
+-- A record that was read consists of three numbers that were read.
 three-numbers : (s : List ℕ) (at : ℕ) (found : RecordAt) → recordAt s at ≡ read.Record found → ThreeNumbers s at found
 three-numbers s at found e =
     let gap = number-before _ _ found (not-ended (ltb (length s) at) (eqb at (length s)) _ _ found e) in
@@ -153,13 +153,13 @@ three-numbers s at found e =
       make-record = cc;
     }
 
--- Its spelling stands from the place on.
+-- Where a record was read, its spelling stands from the place on.
 pub record-stands : (s : List ℕ) (at : ℕ) (found : RecordAt) → Bytes s → recordAt s at ≡ read.Record found → SpelledHere s at found
 record-stands s at found b e =
     let t = three-numbers s at found e in
-    let gap = one-spelling s at (t .gap) b (t .gap-read) in
-    let row = one-spelling s (t .gap .next) (t .row) b (t .row-read) in
-    let cost = one-spelling s (t .row .next) (t .cost) b (t .cost-read) in
+    let gap = number-has-one-spelling s at (t .gap) b (t .gap-read) in
+    let row = number-has-one-spelling s (t .gap .next) (t .row) b (t .row-read) in
+    let cost = number-has-one-spelling s (t .row .next) (t .cost) b (t .cost-read) in
     rw (t .make-record) (record {
       in-range = record { gap = gap .in-range; row = row .in-range; cost = cost .in-range };
       stands-here = gap .stands-here ∙ rw (row .stands-here, cost .stands-here, append-assoc, append-assoc);
@@ -170,17 +170,18 @@ record-stands s at found b e =
 
 -- ---- where a record was refused
 
--- Where what begins with a number was refused, the number was read and what comes after it refused, or no number is there and its place was refused with 14.
+-- Where what begins with a number is refused, there are two cases. The number was read and what comes after it is refused, or no number is there and its place
+-- is refused with 14.
 refused-there : {G : Type 0} (s : List ℕ) (at : ℕ) (k : Number → RecordRead) (r : RefusedAt) → Bytes s → at ≤ length s
     → afterNumber (scriptNumber s at) k ≡ read.Refused r
     → (NoNumber s at → r ≡ record { refusal = ScriptMisspelled; place = at } → G) → ((n : Number) → Spelled s at n → k n ≡ read.Refused r → G) → G
 refused-there {G} s at k r b inside e none later = go (readAt s at) refl (rw (number-inside s at inside) at e)
   where
     go : (v : NumberRead) → readAt s at ≡ v → afterNumber (asScripts v) k ≡ read.Refused r → G
-    go (number.Number n) f g = later n (one-spelling s at n b f) g
+    go (number.Number n) f g = later n (number-has-one-spelling s at n b f) g
     go (number.Refused q) f g = let start = refused-at-its-start s at q f in none (refused-none f) cc
 
--- Where a record was refused, it is the first of its three numbers that is not there.
+-- Where a record is refused, the place is that of the first of its three numbers that can't be read.
 pub no-number-of : (s : List ℕ) (at : ℕ) (r : RefusedAt) → Bytes s → at < length s → recordAt s at ≡ read.Refused r
     → (r .refusal ≡ ScriptMisspelled) × NoNumberOf s at (r .place)
 no-number-of s at r b inside e =
@@ -190,16 +191,16 @@ no-number-of s at r b inside e =
 
 -- ---- where a script has ended
 
--- A record is no end.
+-- A record is not the end of a script.
 no-end : (found : RecordAt) → read.Record found ≡ read.End → ⊥
 no-end found e = impossible cc
 
--- What has a number before it is no end either.
+-- What begins with a number is not the end of a script.
 no-end-after : (v : NumberRead) (k : Number → RecordRead) → ((n : Number) → k n ≡ read.End → ⊥) → afterNumber v k ≡ read.End → ⊥
 no-end-after (number.Number n) k h e = h n e
 no-end-after (number.Refused r) k h e = impossible cc
 
--- Where the end is answered, it is the test of the length that holds.
+-- Where the end is answered, the test for the script's length has passed.
 length-passed : (t u : Bool) (past : RefusedAt) (then : RecordRead) → (then ≡ read.End → ⊥)
     → cond t (read.Refused past) (cond u read.End then) ≡ read.End → u ≡ true
 length-passed true u past then h e = impossible cc
@@ -217,12 +218,12 @@ end-is-length s at e =
 
 -- ---- where a spelling stands
 
--- From a place to the end stands `rest`.
+-- From a place to the end of the script stands `rest`.
 pub record From (s : List ℕ) (at : ℕ) (rest : List ℕ) : Type 0 where
   pub stands-here : drop at s ≡ rest
   pub within : at ≤ length s
 
--- What stands behind a beginning.
+-- Behind the bytes `front`, at the place of their length, stands `rest`.
 pub from-behind : (front rest : List ℕ) → From (front ++ rest) (length front) rest
 from-behind front rest = record { stands-here = drop-append-seam front rest; within = omega (arith, length-append front rest) }
 

@@ -1,4 +1,7 @@
 pub mod Records
 pub mod Chooser
-pub mod Laws
+pub mod SpelledScripts
+pub mod TwoScripts
+pub mod ChooserLaws
+pub mod ScriptLaws
 pub mod Answers

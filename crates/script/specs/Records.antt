@@ -1,4 +1,4 @@
--- A record of a script: gap, row and cost. (docs/RULES.md, section 7.)
+-- How a number and a record of a script are read at a place. (docs/RULES.md, section 7.)
 use Prim.Native.Nat.{ℕ}
 use mathlib.Core.Bool.{cond}
 use mathlib.Core.List.{List}
@@ -13,25 +13,26 @@ use Rattle.numbers.specs.Reading.{readAt}
 use Rattle.script.specs.declared.RecordRead.{RecordRead}
 use Rattle.script.specs.declared.RecordRead.the-variants as read
 
--- A number of a script that can't be read is refused with 14, at the place where the number reader refuses it. (2.10)
+-- The reader's refusal 1 becomes 14 with the same place. (2.10)
 abbrev pub asScripts : NumberRead → NumberRead
 asScripts (number.Number n) = number.Number n
 asScripts (number.Refused r) = number.Refused (record { refusal = ScriptMisspelled; place = r .place })
 
--- A place past the end of a script is refused with 14, at the script's length. (7.5)
+-- Refusal 14 at the script's length, for a place past the end of the script. (7.5)
 abbrev pub refusedAtLength : (length : ℕ) → RefusedAt
 refusedAtLength length = record { refusal = ScriptMisspelled; place = length }
 
--- The number of a script at a place. A place past the end is refused at the script's length, as it is for a record.
+-- The number of a script at a place, or refusal 14: at the script's length for a place past the end, and else at the number's start. (2.10, 7.5, 7.6)
 unfoldable pub scriptNumber : List ℕ → (at : ℕ) → NumberRead
 scriptNumber s at = cond (ltb (length s) at) (number.Refused (refusedAtLength (length s))) (asScripts (readAt s at))
 
--- What comes after a number; a refusal ends the record.
+-- Reading goes on after a number that was read. A number that was refused makes the whole record refused, at the same place. (7.6)
 abbrev pub afterNumber : NumberRead → (Number → RecordRead) → RecordRead
 afterNumber (number.Number n) k = k n
 afterNumber (number.Refused r) k = read.Refused r
 
--- The record at a place: three numbers from left to right. At the script's length it has ended, and past it the place is refused there.
+-- The record at a place: its gap, its row number and its cost, read from left to right, and the place right after it. The script's length is the end, and a
+-- place past the end is refusal 14 at the script's length. Places count from the start of the bytes that were lent. (7.1, 7.4 to 7.6, 7.15)
 abbrev pub recordAt : List ℕ → (at : ℕ) → RecordRead
 recordAt s at =
     cond (ltb (length s) at) (read.Refused (refusedAtLength (length s)))

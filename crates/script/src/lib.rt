@@ -1,5 +1,6 @@
-// Scripts: releases with their times, as bytes. One record at a place, and the chooser that says which of two scripts comes next. Spelling only, but for the
-// time that the chooser is handed: rows, costs and the limit of a record's time belong to whoever replays. (docs/RULES.md, section 7.)
+// Scripts are lists of releases with their times, as bytes. This crate reads one number or one record at a place, and chooses which of two scripts comes next.
+// It looks at spelling only, and at the times that the chooser is handed. Rows, costs and the limit of a record's time are tested by the replay.
+// (docs/RULES.md, section 7.)
 use kinds::Refusal;
 use kinds::RefusedAt;
 use kinds::RowNumber;
@@ -12,50 +13,52 @@ ghost use Rattle.numbers.specs.Spelling.{maxNumber};
 ghost use Rattle.script.specs.Records.{scriptNumber, recordAt};
 ghost use Rattle.script.specs.Chooser.{refusedIn, tooLate, nextOf, earlierOf, chosen, partOf, partStart};
 
-// A release: so long after the last record, of this row, at this cost.
+// A record of a script: the gap since the last record, the row number and the cost. (7.1, 7.2)
 pub struct Record {
     pub gap: u64,
     pub row: RowNumber,
     pub cost: u64,
 }
 
-// A record, and the place after it.
+// A record, and the place right after it. (7.4)
 pub struct RecordAt {
     pub release: Record,
     pub next: usize,
 }
 
+// What the record reader answers: a record, the end of the script, or a refusal. (7.4 to 7.6)
 pub enum RecordRead {
     Record(RecordAt),
     End,
     Refused(RefusedAt),
 }
 
-// One of two scripts.
+// The first or the second of two scripts.
 pub enum Which {
     First,
     Second,
 }
 
-// A refusal, in one of two scripts.
+// A refusal in one of two scripts, with which script it is. (7.11, 7.12)
 pub struct RefusedIn {
     pub script: Which,
     pub at: RefusedAt,
 }
 
-// Which script's record comes next, and how long its spelling is.
+// Which script's record comes next, and how many bytes its spelling has. (7.8)
 pub struct Next {
     pub script: Which,
     pub length: usize,
 }
 
+// What the chooser answers: the record that comes next, that both scripts have ended, or a refusal. (7.8 to 7.12)
 pub enum Chosen {
     Next(Next),
     Ended,
     Refused(RefusedIn),
 }
 
-// A number of a script: refusal 14 where it can't be read; a place past the end is refused at the script's length.
+// The number of a script at a place, or refusal 14: at the script's length for a place past the end, and else at the number's start. (2.10, 7.5, 7.6)
 pub fn number_at(script: &[u8], at: usize) -> NumberRead
     ensures { λ r. ⌜ r ≡ scriptNumber (now (script .entry)) at ⌝ }
 {
@@ -74,7 +77,8 @@ pub fn number_at(script: &[u8], at: usize) -> NumberRead
     }
 }
 
-// The record at a place, the end, or refusal 14; a place past the end is refused at the script's length.
+// The record at a place, or the end at the script's length. A number that can't be read is refusal 14 at its start, and a place past the end is refusal 14 at
+// the script's length. (7.4 to 7.6)
 pub fn record_at(script: &[u8], at: usize) -> RecordRead
     ensures { λ r. ⌜ r ≡ recordAt (now (script .entry)) at ⌝ }
 {
@@ -110,8 +114,9 @@ pub fn record_at(script: &[u8], at: usize) -> RecordRead
     })
 }
 
-// Which of two scripts, each read from its start, has the record that comes next, given the time that each has reached: 10 for a time later than any may be,
-// then 14 for a record that can't be read, the first script's before the second's; the earlier record, and the first script's at equal times.
+// Chooses which of two scripts, each read from its start, has the record that comes next, given the time that each has reached. A time reached above 2^40 is
+// refusal 10, and then a next record that can't be read is 14, the first script's before the second's. The record with the earlier time comes next, and at
+// equal times the first script's. A record's time above 2^40 is compared like any other. Places count from the start of each lent script. (7.8 to 7.13, 7.15)
 pub fn choose(first: &[u8], second: &[u8], first_time: Tick, second_time: Tick) -> Chosen
     ensures { λ r. ⌜ r ≡ chosen (now (first .entry)) (now (second .entry)) («first_time» .0) («second_time» .0) ⌝ }
 {
@@ -138,7 +143,8 @@ pub fn choose(first: &[u8], second: &[u8], first_time: Tick, second_time: Tick) 
     }
 }
 
-// The bytes of the record that `choose` names: a part of one script or the other, and an empty part of the first where it names none.
+// The bytes of the record that `choose` names, as a part of one script or the other. When both have ended, and with a refusal, the part is an empty part of the
+// first script. (7.8, 7.10, 7.14)
 pub fn chosen_part<'a>(
     first: &'a [u8],
     second: &'a [u8],
@@ -164,7 +170,7 @@ pub fn chosen_part<'a>(
     }
 }
 
-// The earlier of two records, and the first script's at equal times.
+// Of two records the one with the earlier time comes next, and at equal times the first script's. A time above 2^40 is compared like any other. (7.9, 7.13)
 fn earlier(a: RecordAt, b: RecordAt, first_time: Tick, second_time: Tick) -> Chosen
     requires { ⌜ («first_time» .0 ≤ maxTime) × («second_time» .0 ≤ maxTime) × (a .release .gap ≤ maxNumber) × (b .release .gap ≤ maxNumber) ⌝ }
     ensures { λ r. ⌜ r ≡ earlierOf a b («first_time» .0) («second_time» .0) ⌝ }
@@ -178,18 +184,21 @@ fn earlier(a: RecordAt, b: RecordAt, first_time: Tick, second_time: Tick) -> Cho
     }
 }
 
+// The record that comes next is the first of this script, and its spelling has this many bytes. (7.8)
 fn next_of(script: Which, length: usize) -> Chosen
     ensures { λ r. ⌜ r ≡ nextOf script length ⌝ }
 {
     Chosen::Next(Next { script, length })
 }
 
+// A refusal says which script it is about. (7.11, 7.12)
 fn refused_in(script: Which, at: RefusedAt) -> Chosen
     ensures { λ r. ⌜ r ≡ refusedIn script at ⌝ }
 {
     Chosen::Refused(RefusedIn { script, at })
 }
 
+// A time reached above 2^40 is refusal 10, with which script it is and place 0. (7.11)
 fn too_late(script: Which) -> Chosen
     ensures { λ r. ⌜ r ≡ tooLate script ⌝ }
 {

@@ -1,5 +1,5 @@
--- A value, a row or rows that are refused: good values stand up to a bad one, and the refusal is that of the bad one, at its start. Each level is shown from
--- the one below, both ways. (docs/RULES.md, 3.7, 3.8 and 3.10.)
+-- How a value, a row and several rows are refused: good values stand up to a bad one, and the refusal is that of the bad one, at its start. Rows are proved
+-- from a row, and a row from a value, each in both directions. (docs/RULES.md, 3.7, 3.8 and 3.10.)
 use Prim.Native.Nat.{ℕ, zero, suc, _≤_, _<_}
 use native.Mathlib.Decide.{decLe}
 use native.Mathlib.Omega.{arith}
@@ -18,21 +18,21 @@ use Rattle.numbers.specs.declared.NumberRead.{NumberRead}
 use Rattle.numbers.specs.declared.NumberRead.the-variants as number
 use Rattle.numbers.specs.Spelling.{maxNumber, spelling}
 use Rattle.numbers.specs.Reading.{readAt}
-use Rattle.numbers.specs.Laws.{Bytes, Spelled, NoNumber}
-use Rattle.numbers.proofs.Laws.{one-spelling, spelled-read, none-read, refused-none}
+use Rattle.numbers.specs.SpelledNumbers.{Bytes, Spelled, NoNumber}
+use Rattle.numbers.proofs.Spellings.{number-has-one-spelling, spelled-read, none-read, refused-none}
 use Rattle.table.specs.declared.Row.{Row}
 use Rattle.table.specs.declared.RowRead.{RowRead}
 use Rattle.table.specs.declared.RowRead.the-variants as row
 use Rattle.table.specs.Rows.{withinLimit, readValue, afterValue, readRow}
 use Rattle.table.specs.Tables.{Rows, rows, refused, inFront, afterRow, readRows}
-use Rattle.table.specs.Laws.{spelledRow}
-use Rattle.table.specs.Refusals.{Stands, valueLimits, FirstValues, BadValue, misspelled, out-of-range}
+use Rattle.table.specs.SpelledTables.{spelledRow}
+use Rattle.table.specs.Refusals.{PartStands, valueLimits, FirstValues, BadValue, misspelled, out-of-range}
 use Rattle.table.proofs.Each.{each-none, each-cons, each-head, each-tail}
 use Rattle.table.proofs.Spelling.{parted, joined, spelled-stands, value-read, RowStands, row-read, row-stands, RowsStand}
 
 -- ---- a value
 
--- What a value is answered with: itself, from 1 to its limit, or a refusal at its start for what is wrong with it.
+-- Reading a value answers the value, if it is from 1 to its limit, or a refusal at its start.
 data ValueAnswer (s : List ℕ) (at most : ℕ) : NumberRead → Type 0 where
   good : {n : Number} → Spelled s at n → 1 ≤ n .value → n .value ≤ most → ValueAnswer s at most (number.Number n)
   bad : (r : Refusal) → BadValue s at most (refusalNumber r) → ValueAnswer s at most (number.Refused (record { refusal = r; place = at }))
@@ -58,55 +58,55 @@ module _ {s : List ℕ} {at most : ℕ} where
       ])
       o
 
-  -- No value is answered otherwise.
+  -- Reading a value always answers as `ValueAnswer` says.
   value-answer : Bytes s → ValueAnswer s at most (readValue (withinLimit most) s at)
   value-answer b = go (readAt s at) refl
     where
       outside : (n : Number) → readAt s at ≡ number.Number n → (n .value ≡ 0) ⊎ (most < n .value) → ValueAnswer s at most (readValue (withinLimit most) s at)
-      outside n e o = let p = one-spelling s at n b e in rw (outside-refused n p o) (bad ValueOutOfRange (out-of-range n p o))
+      outside n e o = let p = number-has-one-spelling s at n b e in rw (outside-refused n p o) (bad ValueOutOfRange (out-of-range n p o))
 
       go : (v : NumberRead) → readAt s at ≡ v → ValueAnswer s at most (readValue (withinLimit most) s at)
       go (number.Number n) e = elim (decLe 1 (n .value)) [
         | yes l ↦ elim (decLe (n .value) most) [
-          | yes h ↦ let p = one-spelling s at n b e in rw (good-value p l h) (good p l h)
+          | yes h ↦ let p = number-has-one-spelling s at n b e in rw (good-value p l h) (good p l h)
           | no h ↦ outside n e (inr (omega arith))
         ]
         | no l ↦ outside n e (inl (omega arith))
       ]
       go (number.Refused r) e = let none : NoNumber s at = refused-none e in rw (misspelled-refused most b none) (bad Misspelled (misspelled none))
 
--- A value that begins at a place is refused there, with a refusal of that number.
+-- A value that begins at the place `at` is refused there, with a refusal of the number n.
 pub record ValueRefused (s : List ℕ) (at most n : ℕ) : Type 0 where
   pub kind : Refusal
   pub its-number : refusalNumber kind ≡ n
   pub answer : readValue (withinLimit most) s at ≡ number.Refused (record { refusal = kind; place = at })
 
--- A bad value is refused so.
+-- A bad value is refused at its start, with the number of `BadValue`.
 pub bad-refused : {s : List ℕ} {at most n : ℕ} → Bytes s → BadValue s at most n → ValueRefused s at most n
 bad-refused {most = most} b (misspelled none) = record { kind = Misspelled; its-number = refl; answer = misspelled-refused most b none }
 bad-refused b (out-of-range n p o) = record { kind = ValueOutOfRange; its-number = refl; answer = outside-refused n p o }
 
 -- ---- a row
 
--- Values one after another, with one limit each, and then what is made of them.
+-- Values are read one after another, one for each limit, and the last argument makes a row of them.
 fromValues : (limits : List ℕ) → List ℕ → (at : ℕ) → (List ℕ → ℕ → RowRead) → RowRead
 fromValues [] s at k = k [] at
 fromValues (most ∷ limits) s at k =
     afterValue (readValue (withinLimit most) s at) (λ n. fromValues limits s (n .next) (λ values next. k (n .value ∷ values) next))
 
--- A row of four values.
+-- `ofFour` makes a row of four values.
 ofFour : List ℕ → ℕ → RowRead
 ofFour values next = row.Row (record {
   row = record { x = getD values 0 0; y = getD values 1 0; d = getD values 2 0; c = getD values 3 0 };
   next = next;
 })
 
--- So a row is read.
+-- Reading a row is reading one value for each of the four limits.
 row-from-values : (s : List ℕ) (at : ℕ) → readRow s at ≡ fromValues valueLimits s at ofFour
 unfolding fromValues ofFour
 row-from-values s at = refl
 
--- With one more in front, from 1 to its limit, values are still the first of a row.
+-- The first values of a row still are its first values with one more in front, if that one is from 1 to its limit.
 first-more : {most v : ℕ} {limits values : List ℕ} → 1 ≤ v → v ≤ most → FirstValues limits values → FirstValues (most ∷ limits) (v ∷ values)
 first-more {most} {v} {limits} {values} l h first = record { fewer = omega (arith, first .fewer); within = each }
   where
@@ -114,17 +114,17 @@ first-more {most} {v} {limits} {values} l h first = record { fewer = omega (arit
     each zero k = (l, h)
     each (suc i) k = first .within i (omega arith)
 
--- Without the one in front, values are still the first of a row.
+-- The first values of a row still are its first values without the one in front.
 first-less : {most v : ℕ} {limits values : List ℕ} → FirstValues (most ∷ limits) (v ∷ values) → FirstValues limits values
 first-less first = record { fewer = omega (arith, first .fewer); within = λ i h. first .within (suc i) (omega arith) }
 
--- From a place on stand the first values of a row, up to a value that is bad; so the refusal is that of the bad one.
+-- From the place `at` on stand the first values of a row, and then a bad value, which is refused as r says.
 pub record EndsBadly (limits s : List ℕ) (at : ℕ) (r : RefusedAt) : Type 0 where
   pub values : List ℕ
   pub next : ℕ
   pub kind : Refusal
   pub first : FirstValues limits values
-  pub stand : Stands s at (flatten (map spelling values)) next
+  pub stand : PartStands s at (flatten (map spelling values)) next
   pub wrong : BadValue s next (getD limits (length values) 0) (refusalNumber kind)
   pub is : r ≡ record { refusal = kind; place = next }
 
@@ -172,9 +172,9 @@ ends-badly (most ∷ limits) {s} at k {r} b made e =
     go (number.Number n) (good p l h) f more = good-first p l h (more n f)
     go (number.Refused q) (bad kind w) f more = bad-first kind w cc
 
--- Values that stand up to one that is refused, all limits of which can be spelled, end in that refusal.
+-- If good values stand up to one that is refused, and every limit can be spelled, reading the values ends in that refusal.
 badly-refused : (limits values : List ℕ) {s : List ℕ} (at : ℕ) (k : List ℕ → ℕ → RowRead) {next number : ℕ} → ((i : ℕ) → getD limits i 0 ≤ maxNumber)
-    → FirstValues limits values → Stands s at (flatten (map spelling values)) next → (wrong : ValueRefused s next (getD limits (length values) 0) number)
+    → FirstValues limits values → PartStands s at (flatten (map spelling values)) next → (wrong : ValueRefused s next (getD limits (length values) 0) number)
     → fromValues limits s at k ≡ row.Refused (record { refusal = wrong .kind; place = next })
 unfolding fromValues flatten
 badly-refused [] values at k small first stand wrong = absurd (omega (arith, first .fewer))
@@ -196,11 +196,11 @@ limits-small (suc (suc (suc zero))) = omega arith
 limits-small (suc (suc (suc (suc i)))) = omega arith
 
 -- A row is refused where a value of it is.
-row-refused : {s : List ℕ} {at next number : ℕ} (values : List ℕ) → FirstValues valueLimits values → Stands s at (flatten (map spelling values)) next
+row-refused : {s : List ℕ} {at next number : ℕ} (values : List ℕ) → FirstValues valueLimits values → PartStands s at (flatten (map spelling values)) next
     → (wrong : ValueRefused s next (getD valueLimits (length values) 0) number) → readRow s at ≡ row.Refused (record { refusal = wrong .kind; place = next })
 row-refused {s} {at} values first stand wrong = row-from-values s at ∙ badly-refused valueLimits values at ofFour limits-small first stand wrong
 
--- A row is refused nowhere else.
+-- If a row is refused, its values end badly.
 row-ends-badly : {s : List ℕ} {at : ℕ} {r : RefusedAt} → Bytes s → readRow s at ≡ row.Refused r → EndsBadly valueLimits s at r
 unfolding ofFour
 row-ends-badly {s} {at} b e =
@@ -208,7 +208,7 @@ row-ends-badly {s} {at} b e =
 
 -- ---- rows
 
--- From a place on stand fewer rows than there should be, and the values of the next one end badly.
+-- From the place `at` on stand fewer than n rows, and the values of the next row end badly.
 pub record RowsEndBadly (n : ℕ) (s : List ℕ) (at : ℕ) (r : RefusedAt) : Type 0 where
   pub before : List Row
   pub next : ℕ
@@ -239,7 +239,7 @@ later-ends-badly {q} p e = record {
   then = e .then;
 }
 
--- A row in front hides no refusal.
+-- If rows with one more in front are refused, the rows after that one are refused in the same way.
 behind-front : (q : Row) (v : Rows) {r : RefusedAt} → inFront q v ≡ refused r → v ≡ refused r
 behind-front q (rows rs next) e = impossible cc
 behind-front q (refused at) e = e
@@ -255,9 +255,9 @@ rows-end-badly (suc n) {s} at {r} b e = go (readRow s at) refl e (λ next f. row
     go (row.Row q) f g more = later-ends-badly (row-stands at q b f) (more (q .next) (behind-front (q .row) (readRows n s (q .next)) g))
     go (row.Refused q) f g more = let same : q ≡ r = cc in first-ends-badly (row-ends-badly b (f ∙ ap row.Refused same))
 
--- Rows are refused where a value of the next one is.
+-- If fewer than n rows stand up to a row with a refused value, reading n rows ends in that refusal.
 pub rows-refused : (n : ℕ) {s : List ℕ} (at : ℕ) (before : List Row) {mid next number : ℕ} (values : List ℕ) → length before < n
-    → RowsStand s at before mid → FirstValues valueLimits values → Stands s mid (flatten (map spelling values)) next
+    → RowsStand s at before mid → FirstValues valueLimits values → PartStands s mid (flatten (map spelling values)) next
     → (wrong : ValueRefused s next (getD valueLimits (length values) 0) number) → readRows n s at ≡ refused (record { refusal = wrong .kind; place = next })
 unfolding readRows flatten
 rows-refused zero at before values fewer p first stand wrong = absurd (omega arith)

@@ -10,20 +10,20 @@ use Rattle.table.specs.declared.Row.{Row}
 use Rattle.table.specs.Limits.{maxRows}
 use Rattle.table.specs.Tables.{noRow}
 
--- The numbers of the first rows are the first numbers.
+-- Mapping the first n elements of a list gives the first n of the mapped list.
 pub map-take : {A B : Type 0} (f : A → B) (n : ℕ) (l : List A) → map f (take n l) ≡ take n (map f l)
 map-take f zero l = refl
 map-take f (suc n) [] = refl
 map-take f (suc n) (a ∷ l) = ap (_∷_ (f a)) (map-take f n l)
 
--- The numbers of the first i rows are written.
+-- The numbers of the first i rows are written into `column`.
 pub record Gathered (f : Row → ℕ) (rows : List Row) (column : List ℕ) (i : ℕ) : Type 0 where
   pub not-past : i ≤ maxRows
   pub all-places : length column ≡ maxRows
   pub so-far : take i column ≡ map f (take i rows)
 
 module _ {f : Row → ℕ} {rows : List Row} {column : List ℕ} {i : ℕ} (places : length rows ≡ maxRows) (p : Gathered f rows column i) where
-  -- One more is written.
+  -- One more turn of the loop writes the number of row i.
   pub one-more-gathered : i < maxRows → Gathered f rows (set column i (f (getD rows i noRow))) (i + 1)
   one-more-gathered h = record {
     not-past = omega arith;

@@ -10,7 +10,7 @@ use lib.ListN.{length, getD, length-map, List·getD-map}
 use lib.Seq.{getD-take, length-take-le}
 use borrow.Author.Tests.{lt-ltb, le-ltb, le-leb, lt-leb}
 use Rattle.kinds.specs.declared.Refusal.the-variants as refusal
-use Rattle.kinds.specs.Numbering.{values, NeverNumberedZero}
+use Rattle.kinds.specs.Numbering.{values, NeverNumberedZero, refusedWith}
 use Rattle.kinds.proofs.Apart.{impossible}
 use Rattle.kinds.proofs.Numbering.{never-zero, plain-refusals-apart}
 use Rattle.periods.proofs.Periods.{numbers-apart}
@@ -31,7 +31,7 @@ use Rattle.table.proofs.Columns.{map-take}
 pub limit-in-use : (limits : List ℕ) (number : ℕ) → number < length limits → limitOf limits number ≡ limit.Units (getD limits number 0)
 limit-in-use limits number h = rw (lt-ltb number (length limits) h)
 
--- A row number that is not in use has none.
+-- A row number that is not in use has no limit.
 pub limit-not-in-use : (limits : List ℕ) (number : ℕ) → length limits ≤ number → limitOf limits number ≡ limit.NoSuchRow
 limit-not-in-use limits number h = rw (le-ltb number (length limits) h)
 
@@ -47,17 +47,18 @@ no-cost most cost h = simp (lt-leb 1 cost h)
 pub cost-too-high : (most cost : ℕ) → 1 ≤ cost → most < cost → costAnswer (limit.Units most) cost ≡ answer.Refused refusal.CostOutOfRange
 cost-too-high most cost l h = simp (le-leb 1 cost l, lt-leb cost most h)
 
--- The three outcomes of the one test, each with what it means.
+-- The test of a row number and a cost has three outcomes, each with what it means.
 pub data CostTested (limits : List ℕ) (number cost : ℕ) : CostAnswer → Type 0 where
   not-in-use : length limits ≤ number → CostTested limits number cost (answer.Refused refusal.NoSuchRow)
   out-of-range : number < length limits → (cost ≡ 0) ⊎ (getD limits number 0 < cost) → CostTested limits number cost (answer.Refused refusal.CostOutOfRange)
   allowed : number < length limits → 1 ≤ cost → cost ≤ getD limits number 0 → CostTested limits number cost answer.Allowed
 
 module _ (limits : List ℕ) (number cost : ℕ) where
-  -- The answer in each of the three cases.
+  -- A row number that is not in use is refused with 6.
   refused-not-in-use : length limits ≤ number → costAnswer (limitOf limits number) cost ≡ answer.Refused refusal.NoSuchRow
   refused-not-in-use h = rw (limit-not-in-use limits number h)
 
+  -- A cost that is 0 or above the limit is refused with 7.
   refused-out-of-range : number < length limits → (cost ≡ 0) ⊎ (getD limits number 0 < cost)
       → costAnswer (limitOf limits number) cost ≡ answer.Refused refusal.CostOutOfRange
   refused-out-of-range h o = rw (limit-in-use limits number h) (elim (decLe 1 cost) [
@@ -65,10 +66,11 @@ module _ (limits : List ℕ) (number cost : ℕ) where
     | no l ↦ no-cost (getD limits number 0) cost (omega arith)
   ])
 
+  -- A cost from 1 to the limit is allowed.
   allowed-in-range : number < length limits → 1 ≤ cost → cost ≤ getD limits number 0 → costAnswer (limitOf limits number) cost ≡ answer.Allowed
   allowed-in-range h l m = rw (limit-in-use limits number h) (cost-allowed (getD limits number 0) cost l m)
 
-  -- One of the three holds.
+  -- The test always has one of the three outcomes.
   pub cost-tested : CostTested limits number cost (costAnswer (limitOf limits number) cost)
   cost-tested = elim (decLe (length limits) number) [
     | yes h ↦ rw (refused-not-in-use h) (not-in-use h)
@@ -86,7 +88,7 @@ module _ (limits : List ℕ) (number cost : ℕ) where
 pub not-in-use-means : laws.NotInUseMeans
 not-in-use-means limits number cost = (to _ (cost-tested limits number cost), λ h. rw (refused-not-in-use limits number cost h))
   where
-    to : (a : CostAnswer) → CostTested limits number cost a → costSays a ≡ laws.onlyNumber 6 → length limits ≤ number
+    to : (a : CostAnswer) → CostTested limits number cost a → costSays a ≡ refusedWith 6 0 → length limits ≤ number
     to a (not-in-use h) e = h
     to a (out-of-range h o) e = numbers-apart {m = 7} {n = 6} e refl refl (λ z. omega arith)
     to a (allowed h l m) e = impossible cc
@@ -94,7 +96,7 @@ not-in-use-means limits number cost = (to _ (cost-tested limits number cost), λ
 pub out-of-range-cost-means : laws.OutOfRangeCostMeans
 out-of-range-cost-means limits number cost = (to _ (cost-tested limits number cost), λ h. rw (refused-out-of-range limits number cost (h .0) (h .1)))
   where
-    to : (a : CostAnswer) → CostTested limits number cost a → costSays a ≡ laws.onlyNumber 7
+    to : (a : CostAnswer) → CostTested limits number cost a → costSays a ≡ refusedWith 7 0
         → (number < length limits) × ((cost ≡ 0) ⊎ (getD limits number 0 < cost))
     to a (not-in-use h) e = numbers-apart {m = 6} {n = 7} e refl refl (λ z. omega arith)
     to a (out-of-range h o) e = (h, o)
@@ -120,7 +122,7 @@ limit-means limits number most = (to, λ h. rw (limit-in-use limits number (h .0
 pub no-limit-means : laws.NoLimitMeans
 no-limit-means limits number = (to, λ h. rw (limit-not-in-use limits number h))
   where
-    to : limitSays (limitOf limits number) ≡ laws.onlyNumber 6 → length limits ≤ number
+    to : limitSays (limitOf limits number) ≡ refusedWith 6 0 → length limits ≤ number
     to e = elim (decLe (length limits) number) [
       | yes h ↦ h
       | no h ↦ let f = rw (limit-in-use limits number (omega arith)) at e in impossible cc

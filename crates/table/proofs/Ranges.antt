@@ -1,4 +1,4 @@
--- A row's rule: what it says of a value, and what of a row. (docs/RULES.md, section 3.)
+-- The rules for a row's values: what they say about one value, and what about a row. (docs/RULES.md, section 3.)
 use Prim.Native.Nat.{ℕ, _≤_}
 use mathlib.Core.Path.{_≡_, refl, sym, _∙_}
 use mathlib.Core.Bool.{Bool, true, false, cond, _&&_}
@@ -11,40 +11,40 @@ pub use Rattle.periods.proofs.Multiples.{both-true}
 use Rattle.table.specs.declared.Row.{Row}
 use Rattle.table.specs.Limits.{maxX, maxY, maxD, maxC}
 use Rattle.table.specs.Rows.{withinLimit, fine, ruleOfX, ruleOfY, ruleOfD, ruleOfC, rowInRange}
-use Rattle.table.specs.Laws.{WithinLimits}
+use Rattle.table.specs.SpelledTables.{WithinLimits}
 
 -- ---- a value
 
--- Where nothing is wrong, a rule has no refusal.
+-- If a value is fine, its rule gives no refusal.
 pub nothing-wrong : (o : Option Refusal) → fine o ≡ true → o ≡ none
 nothing-wrong none e = refl
 nothing-wrong (some r) e = cc
 
--- A rule that refuses where a test fails is fine where the test holds.
+-- If a rule refuses exactly where a test fails, it is fine exactly where the test holds.
 fine-where : (t : Bool) (r : Refusal) → fine (cond t none (some r)) ≡ t
 fine-where true r = refl
 fine-where false r = refl
 
--- Such a rule refuses where it is not fine.
+-- If a rule refuses exactly where a test fails, and it is not fine, it gives its refusal.
 refused-where : (t : Bool) (r : Refusal) → fine (cond t none (some r)) ≡ false → cond t none (some r) ≡ some r
 refused-where true r e = cc
 refused-where false r e = refl
 
--- Nothing is wrong with a value exactly where both tests of its range hold.
+-- A value is fine exactly when both tests of its range hold.
 pub fine-within : (most v : ℕ) → fine (withinLimit most v) ≡ (leb 1 v && leb v most)
 fine-within most v = fine-where (leb 1 v && leb v most) ValueOutOfRange
 
--- A value with which nothing is wrong is from 1 to its limit.
+-- A value that is fine is from 1 to its limit.
 fine-limits : (most v : ℕ) → fine (withinLimit most v) ≡ true → (1 ≤ v) × (v ≤ most)
 fine-limits most v e =
     let t = both-true (leb 1 v) (leb v most) (sym (fine-within most v) ∙ e) in
     (leb-true 1 v (t .0), leb-true v most (t .1))
 
--- Nothing is wrong with a value from 1 to its limit.
+-- A value from 1 to its limit is fine.
 pub within-fine : (most v : ℕ) → 1 ≤ v → v ≤ most → fine (withinLimit most v) ≡ true
 within-fine most v l h = simp (le-leb 1 v l, le-leb v most h)
 
--- A value with which something is wrong is out of range.
+-- A value that is not fine is refused as out of range.
 pub out-of-range : (most v : ℕ) → fine (withinLimit most v) ≡ false → withinLimit most v ≡ some ValueOutOfRange
 out-of-range most v e = refused-where (leb 1 v && leb v most) ValueOutOfRange e
 

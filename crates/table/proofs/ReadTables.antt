@@ -1,4 +1,4 @@
--- What rows that were read are, and how a table is read from them. (docs/RULES.md, section 3.)
+-- What is known about rows that were read, and how a table is read from them. (docs/RULES.md, section 3.)
 use Prim.Native.Nat.{ℕ, zero, suc, _≤_, _<_}
 use mathlib.Core.Path.{_≡_, refl, sym, ap, ap₂, _∙_}
 use mathlib.Core.Bool.{Bool, true, false, cond}
@@ -31,31 +31,31 @@ use Rattle.table.specs.Content.{rowsAlone}
 use Rattle.table.specs.Period.{ysOf, leastCommonMultiple}
 use Rattle.table.specs.Rows.{rowInRange, readRow}
 use Rattle.table.specs.Tables.{heldRows, Rows, rows, refused, inFront, afterRow, readRows, afterCount, rowsFrom, heldAs, tableOf, refusedTable, tableRead}
-use Rattle.table.specs.Laws.{GoodRows}
+use Rattle.table.specs.SpelledTables.{GoodRows}
 use Rattle.table.proofs.Each.{Each, each-none, each-cons, each-mapped}
 use Rattle.table.proofs.Columns.{map-take}
 use Rattle.table.proofs.Ranges.{limits-of}
 use Rattle.table.proofs.Reading.{four-values, row-in-range}
 
--- ---- what rows that were read are
+-- ---- rows that were read
 
--- So many rows, each in range.
+-- There are n rows, and each is in range.
 record ManyInRange (n : ℕ) (rs : List Row) : Type 0 where
   many : length rs ≡ n
   in-range : Each (λ r. rowInRange r ≡ true) rs
 
--- Rows that are read have a first row.
+-- If n + 1 rows are read, the first of them is read.
 pub first-row : (n : ℕ) (s : List ℕ) (v : RowRead) {rs : List Row} {next : ℕ} → afterRow v (λ r after. inFront r (readRows n s after)) ≡ rows rs next
     → (r : RowAt) × (v ≡ row.Row r) × (inFront (r .row) (readRows n s (r .next)) ≡ rows rs next)
 first-row n s (row.Row r) e = (r, refl, e)
 first-row n s (row.Refused at) e = impossible cc
 
--- Rows that are read have the others after the first.
+-- If rows are read, those after the first are read.
 pub other-rows : (r : Row) (v : Rows) {rs : List Row} {next : ℕ} → inFront r v ≡ rows rs next → (qs : List Row) × (v ≡ rows qs next) × (r ∷ qs ≡ rs)
 other-rows r (rows qs next) e = (qs, cc, cc)
 other-rows r (refused at) e = impossible cc
 
--- Rows that are read are so many, each in range.
+-- If n rows are read, there are n of them, each in range.
 many-in-range : (n : ℕ) (s : List ℕ) (at : ℕ) {rs : List Row} {next : ℕ} → readRows n s at ≡ rows rs next → ManyInRange n rs
 unfolding readRows
 many-in-range zero s at {rs} e = let none : [] ≡ rs = cc in rw (← none) (record { many = refl; in-range = each-none _ })
@@ -65,7 +65,7 @@ many-in-range (suc n) s at e =
     let more = many-in-range n s (f .0 .next) (o .1) in
     rw (← o .2) (record { many = ap suc (more .many); in-range = each-cons (row-in-range (four-values s at (f .0) (f .1))) (more .in-range) })
 
--- A count behind which rows are read was read, and is not too large.
+-- If rows are read, their count was read before them, and it is at most 16.
 pub record CountRead (s : List ℕ) (v : NumberRead) (rs : List Row) (next : ℕ) : Type 0 where
   pub count : Number
   pub was-read : v ≡ number.Number count
@@ -81,7 +81,7 @@ count-read s at (number.Number n) {rs} {next} e = by-test (leb (n .value) maxRow
     by-test false t f = impossible cc
 count-read s at (number.Refused r) e = impossible cc
 
--- Rows that are read behind their count are good.
+-- Rows that are read after their count are rows that a table may have.
 pub good-rows : (s : List ℕ) (at : ℕ) {rs : List Row} {next : ℕ} → rowsFrom s at ≡ rows rs next → GoodRows rs
 good-rows s at e =
     let c = count-read s at (readAt s at) e in
@@ -90,37 +90,37 @@ good-rows s at e =
 
 -- ---- a table
 
--- Rows that were read are held up to the place after them.
+-- If `read_rows` answers a place, the rows were read up to that place.
 held-until : (v : Rows) (read : RowsRead) (next : ℕ) → read ≡ heldAs v → read .answer ≡ answer.Until next
     → (rs : List Row) × (v ≡ rows rs next) × (read .rows ≡ heldRows rs) × (read .count ≡ length rs)
 held-until (rows rs at) read next is e = (rs, cc, cc, cc)
 held-until (refused r) read next is e = impossible cc
 
--- Rows that were refused are held as the refusal.
+-- If `read_rows` answers a refusal, the rows were refused so.
 held-refused : (v : Rows) (read : RowsRead) (r : RefusedAt) → read ≡ heldAs v → read .answer ≡ answer.Refused r → v ≡ refused r
 held-refused (rows rs at) read r is e = impossible cc
 held-refused (refused q) read r is e = cc
 
--- Each y of good rows is positive.
+-- Each y of rows in range is at least 1.
 pub some-ys : (rs : List Row) → Each (λ r. rowInRange r ≡ true) rs → EachPositive (ysOf rs)
 some-ys rs h = each-mapped _ (λ (r : Row). r .y) rs (λ r m. limits-of r (h r m) .some-y)
 
 module _ (s : List ℕ) (rs : List Row) (next : ℕ) (read : rowsFrom s 0 ≡ rows rs next) (rest : length s ≤ next) where
-  -- With no extra bytes the table of the rows is accepted, their period within the limit.
+  -- With no extra bytes and an H within its limit, the table of the rows is accepted.
   accepted-of : (h : ℕ) → periodWithin maxPeriod (ysOf rs) ≡ period.Ticks h → record { table = tableOf (rowsAlone rs); answer = Accepted h } ≡ tableRead s
   accepted-of h e =
       let means = period-means maxPeriod (ysOf rs) h .0 (ap periodSays e) in
       let within : leastCommonMultiple (ysOf rs) ≤ maxPeriod = omega (arith, means .1, means .2) in
       rw (read, le-ltb next (length s) rest, le-leb (leastCommonMultiple (ysOf rs)) maxPeriod within, means .1)
 
-  -- With no extra bytes the table is refused, their period above the limit.
+  -- With no extra bytes and an H above its limit, the table is refused.
   too-long-of : (r : Refusal) → periodWithin maxPeriod (ysOf rs) ≡ period.Refused r → refusedTable (record { refusal = r; place = length s }) ≡ tableRead s
   too-long-of r e =
       let above = refused-above maxPeriod (ysOf rs) (some-ys rs (good-rows s 0 read .in-range)) r e in
       rw (read, le-ltb next (length s) rest, above .0, lt-leb (leastCommonMultiple (ysOf rs)) maxPeriod (above .1))
 
 module _ (s : List ℕ) (read : RowsRead) (is : read ≡ heldAs (rowsFrom s 0)) where
-  -- Refused rows are a refused table.
+  -- If the rows are refused, the table is refused so.
   pub table-refused : (r : RefusedAt) → read .answer ≡ answer.Refused r → refusedTable r ≡ tableRead s
   table-refused r e = rw (held-refused (rowsFrom s 0) read r is e)
 
@@ -129,17 +129,17 @@ module _ (s : List ℕ) (read : RowsRead) (is : read ≡ heldAs (rowsFrom s 0)) 
     pub extra-bytes : next < length s → refusedTable (record { refusal = ExtraBytes; place = next }) ≡ tableRead s
     extra-bytes h = let v = held-until (rowsFrom s 0) read next is until in rw (v .1, lt-ltb next (length s) h)
 
-    -- The rows in use have their places.
+    -- At most 16 rows are in use.
     pub count-fits : read .count ≤ maxRows
     count-fits = let v = held-until (rowsFrom s 0) read next is until in omega (arith, v .3, good-rows s 0 (v .1) .few-rows)
 
     module _ (rest : length s ≤ next) {ys : List ℕ} (column : ys ≡ ysOf (read .rows)) where
-      -- The numbers that join H are those of the rows that were read.
+      -- H is made from the y of each row that was read.
       joining : (rs : List Row) → read .rows ≡ heldRows rs → read .count ≡ length rs → take (read .count) ys ≡ ysOf rs
       joining rs held many =
           ap₂ take many (column ∙ ap ysOf held) ∙ sym (map-take (λ (r : Row). r .y) (length rs) (heldRows rs)) ∙ ap ysOf (take-append-seam rs _)
 
-      -- The table is accepted, its period within the limit.
+      -- If its H is within the limit, the table is accepted.
       pub accepted : (h : ℕ) → periodWithin maxPeriod (take (read .count) ys) ≡ period.Ticks h
           → record { table = record { rows = read .rows; count = read .count }; answer = Accepted h } ≡ tableRead s
       accepted h e =
@@ -147,7 +147,7 @@ module _ (s : List ℕ) (read : RowsRead) (is : read ≡ heldAs (rowsFrom s 0)) 
           ap₂ (λ held many. record { table = record { rows = held; count = many }; answer = Accepted h }) (v .2) (v .3)
           ∙ accepted-of s (v .0) next (v .1) rest h (rw (joining (v .0) (v .2) (v .3)) at e)
 
-      -- The table is refused, its period above the limit.
+      -- If its H is above the limit, the table is refused.
       pub period-too-long : (r : Refusal) → periodWithin maxPeriod (take (read .count) ys) ≡ period.Refused r
           → refusedTable (record { refusal = r; place = length s }) ≡ tableRead s
       period-too-long r e =

@@ -1,4 +1,4 @@
--- How a table is read, step by step: a value, a row of four, and the rows behind their count. Each law is an answer of the code.
+-- How a table is read, step by step: a value, a row of four values, and the rows after their count. Each law shows that one answer of the code is right.
 -- (docs/RULES.md, section 3.)
 use Prim.Native.Nat.{ℕ, suc, _+_, _-_, _≤_, _<_}
 use mathlib.Core.Path.{_≡_, refl, sym, ap, _∙_}
@@ -30,12 +30,12 @@ use Rattle.table.proofs.Ranges.{nothing-wrong, out-of-range}
 
 -- ---- a value
 
--- At a place stands a number with which nothing is wrong.
+-- The number n is read at the place `at`, and it is fine by the rule.
 pub record ValueAt (rule : ℕ → Option Refusal) (s : List ℕ) (at : ℕ) (n : Number) : Type 0 where
   pub reads : readAt s at ≡ number.Number n
   pub is-fine : fine (rule (n .value)) ≡ true
 
--- A number with which nothing is wrong is the value.
+-- A number that is fine by its rule is answered as the value.
 pub value-stands : (rule : ℕ → Option Refusal) (s : List ℕ) (at : ℕ) (n : Number) → ValueAt rule s at n → readValue rule s at ≡ number.Number n
 value-stands rule s at n p = rw (p .reads, nothing-wrong (rule (n .value)) (p .is-fine))
 
@@ -44,14 +44,14 @@ pub value-out-of-range : (most : ℕ) (s : List ℕ) (at : ℕ) (n : Number) →
     → readValue (withinLimit most) s at ≡ number.Refused (record { refusal = ValueOutOfRange; place = at })
 value-out-of-range most s at n e wrong = rw (e, out-of-range most (n .value) wrong)
 
--- What can't be read is refused as the reader says.
+-- A number that can't be read keeps the reader's refusal.
 pub value-misspelled : (rule : ℕ → Option Refusal) (s : List ℕ) (at : ℕ) (r : RefusedAt) → readAt s at ≡ number.Refused r
     → readValue rule s at ≡ number.Refused r
 value-misspelled rule s at r e = rw e
 
 -- ---- a row
 
--- A value that stands is followed by the next.
+-- After a value that was read the row goes on.
 pub after-value : {v : NumberRead} {n : Number} (k : Number → RowRead) → v ≡ number.Number n → afterValue v k ≡ k n
 after-value k e = rw e
 
@@ -59,13 +59,13 @@ after-value k e = rw e
 pub after-refused : {v : NumberRead} {r : RefusedAt} (k : Number → RowRead) → v ≡ number.Refused r → afterValue v k ≡ row.Refused r
 after-refused k e = rw e
 
--- Where a row goes on after a number, nothing was wrong with the number.
+-- If a row is read past a number, that number was fine.
 fine-before : (at : ℕ) (o : Option Refusal) (n : Number) (k : Number → RowRead) (r : RowAt) → afterValue (testedAt at o n) k ≡ row.Row r
     → (fine o ≡ true) × (k n ≡ row.Row r)
 fine-before at none n k r e = (refl, e)
 fine-before at (some f) n k r e = (cc, cc)
 
--- Where a row goes on after a place, a value stood there.
+-- If a row is read past a place, a number that is fine stood there.
 value-before : (rule : ℕ → Option Refusal) (s : List ℕ) (at : ℕ) (v : NumberRead) (k : Number → RowRead) (r : RowAt) → readAt s at ≡ v
     → afterValue (tested rule at v) k ≡ row.Row r → (n : Number) × ValueAt rule s at n × (k n ≡ row.Row r)
 value-before rule s at (number.Number n) k r q e =
@@ -73,7 +73,7 @@ value-before rule s at (number.Number n) k r q e =
     (n, record { reads = q; is-fine = p .0 }, p .1)
 value-before rule s at (number.Refused a) k r q e = impossible cc
 
--- The four values of a row that was read, one after another.
+-- The row r is made of four values, which stand one after another from the place `at` on.
 pub record FourValues (s : List ℕ) (at : ℕ) (r : RowAt) : Type 0 where
   pub x : Number
   pub y : Number
@@ -85,7 +85,7 @@ pub record FourValues (s : List ℕ) (at : ℕ) (r : RowAt) : Type 0 where
   pub c-stands : ValueAt ruleOfC s (d .next) c
   pub made-of-them : r ≡ record { row = record { x = x .value; y = y .value; d = d .value; c = c .value }; next = c .next }
 
--- A row that was read has them.
+-- A row that was read is made of four values.
 pub four-values : (s : List ℕ) (at : ℕ) (r : RowAt) → readRow s at ≡ row.Row r → FourValues s at r
 four-values s at r e =
     let x = value-before ruleOfX s at _ _ _ refl e in
@@ -104,58 +104,58 @@ four-values s at r e =
       made-of-them = cc;
     }
 
--- So it is in range.
+-- A row that is made of four such values is in range.
 pub row-in-range : {s : List ℕ} {at : ℕ} {r : RowAt} → FourValues s at r → rowInRange (r .row) ≡ true
 row-in-range p = rw (p .made-of-them, p .x-stands .is-fine, p .y-stands .is-fine, p .d-stands .is-fine, p .c-stands .is-fine)
 
 -- ---- rows
 
--- Rows in front of what was read after them.
+-- `allInFront` puts rows in front of the rows that were read after them.
 pub allInFront : List Row → Rows → Rows
 allInFront [] rest = rest
 allInFront (r ∷ rs) rest = inFront r (allInFront rs rest)
 
--- One row more, behind the others, is the one right in front of the rest.
+-- Adding a row at the end of the rows in front is the same as putting it in front of the rest.
 one-more-in-front : (rs : List Row) (r : Row) (rest : Rows) → allInFront (rs ++ (r ∷ [])) rest ≡ allInFront rs (inFront r rest)
 unfolding allInFront
 one-more-in-front [] r rest = refl
 one-more-in-front (q ∷ rs) r rest = ap (inFront q) (one-more-in-front rs r rest)
 
--- Rows in front of the end are all the rows.
+-- If no rows are read after the rows in front, these are all the rows.
 all-the-rows : (rs : List Row) (at : ℕ) → allInFront rs (rows [] at) ≡ rows rs at
 unfolding allInFront
 all-the-rows [] at = refl
 all-the-rows (r ∷ rs) at = ap (inFront r) (all-the-rows rs at)
 
--- Rows in front of a refusal are gone.
+-- If what comes after the rows in front is refused, the whole is refused.
 rows-refused : (rs : List Row) (at : RefusedAt) → allInFront rs (refused at) ≡ refused at
 unfolding allInFront
 rows-refused [] at = refl
 rows-refused (r ∷ rs) at = ap (inFront r) (rows-refused rs at)
 
--- A row that is left to read stands in front of the others.
+-- If the next row is read, it stands in front of the rows after it.
 next-row : (left : ℕ) (s : List ℕ) (at : ℕ) (r : RowAt) → readRow s at ≡ row.Row r
     → readRows (suc left) s at ≡ inFront (r .row) (readRows left s (r .next))
 unfolding readRows
 next-row left s at r e = rw e
 
--- A row that is refused refuses them all.
+-- If the next row is refused, the rows are refused so.
 next-refused : (left : ℕ) (s : List ℕ) (at : ℕ) (r : RefusedAt) → readRow s at ≡ row.Refused r → readRows (suc left) s at ≡ refused r
 unfolding readRows
 next-refused left s at r e = rw e
 
--- With none left, the rows end here.
+-- With no row left to read, the rows end here.
 no-more : (s : List ℕ) (at : ℕ) → readRows 0 s at ≡ rows [] at
 unfolding readRows
 no-more s at = refl
 
--- ---- rows behind their count
+-- ---- rows after their count
 
--- A count that can't be read is refused as the reader says.
+-- A count that can't be read keeps the reader's refusal.
 pub count-misspelled : (s : List ℕ) (at : ℕ) (r : RefusedAt) → readAt s at ≡ number.Refused r → heldAs (refused r) ≡ heldAs (rowsFrom s at)
 count-misspelled s at r e = rw e
 
--- Too large a count is refused at once.
+-- A count above 16 is refused at once.
 pub too-many-rows : (s : List ℕ) (at : ℕ) (n : Number) → readAt s at ≡ number.Number n → maxRows < n .value
     → heldAs (refused (record { refusal = TooManyRows; place = at })) ≡ heldAs (rowsFrom s at)
 too-many-rows s at n e many = rw (e, lt-leb (n .value) maxRows many)
@@ -177,7 +177,7 @@ none-read s from n e few =
     let all : n .value - 0 ≡ n .value = omega arith in
     record { not-past = omega arith; few-rows = few; all-places = refl; unused = refl; answers = rw (e, le-leb (n .value) maxRows few, all) }
 
--- Behind one row more, the rows are unused.
+-- After one more row is stored, the rows after it are still unused.
 unused-more : (held : List Row) (i : ℕ) (r : Row) → i < maxRows → drop i held ≡ replicate (maxRows - i) noRow
     → drop (i + 1) (set held i r) ≡ replicate (maxRows - (i + 1)) noRow
 unused-more held i r h e =
@@ -185,7 +185,7 @@ unused-more held i r h e =
     drop-set-lt (i + 1) held i r (omega arith) ∙ sym (drop-drop 1 i held) ∙ rw (e, left)
 
 module _ {s : List ℕ} {from n : ℕ} {held : List Row} {at i : ℕ} (p : ReadSoFar s from n held at i) where
-  -- One row more is read.
+  -- If row i is read, one more row is held.
   pub row-more : (r : RowAt) → i < n → readRow s at ≡ row.Row r → ReadSoFar s from n (set held i (r .row)) (r .next) (i + 1)
   row-more r h e =
       let room : i < maxRows = omega (arith, p .few-rows) in
@@ -199,14 +199,14 @@ module _ {s : List ℕ} {from n : ℕ} {held : List Row} {at i : ℕ} (p : ReadS
         answers = p .answers ∙ rw (left, next-row (n - (i + 1)) s at r e, add-one, now-first, one-more-in-front);
       }
 
-  -- One row more is refused, and the rows with it.
+  -- If row i is refused, the rows are refused so.
   pub row-refused : (r : RefusedAt) → i < n → readRow s at ≡ row.Refused r → heldAs (refused r) ≡ heldAs (rowsFrom s from)
   row-refused r h e =
       let left : n - i ≡ suc (n - (i + 1)) = omega arith in
       let gone : rowsFrom s from ≡ refused r = p .answers ∙ rw (left, next-refused (n - (i + 1)) s at r e, rows-refused) in
       rw gone
 
-  -- With all rows read, what is held is these rows.
+  -- When all n rows are read, the code holds exactly these rows.
   pub all-read : n ≤ i → record { rows = held; count = i; answer = answer.Until at } ≡ heldAs (rowsFrom s from)
   all-read end =
       let left : n - i ≡ 0 = omega arith in

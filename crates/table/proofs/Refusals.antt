@@ -1,4 +1,4 @@
--- Bytes are refused exactly as the rules say: by their row count, by a bad value, by bytes after the rows, or by their period. (docs/RULES.md, 3.7 to 3.12.)
+-- Bytes are refused exactly as the rules say: for their row count, for a bad value, for bytes after the rows, or for their H. (docs/RULES.md, 3.7 to 3.12.)
 use Prim.Native.Nat.{ℕ, _+_, _-_, _≤_}
 use native.Mathlib.Decide.{decLe}
 use native.Mathlib.Omega.{arith}
@@ -6,7 +6,7 @@ use mathlib.Core.Path.{_≡_, refl, ap, _∙_}
 use mathlib.Core.List.{List, _++_, flatten, map}
 use lib.ListN.{length, getD, length-append, length-drop}
 use borrow.Author.Tests.{le-leb, lt-leb, lt-ltb, le-ltb}
-use Rattle.kinds.specs.Numbering.{refusalNumber}
+use Rattle.kinds.specs.Numbering.{refusalNumber, refusedWith}
 use Rattle.kinds.specs.declared.Refusal.the-variants.{Misspelled, TooManyRows, ExtraBytes, PeriodTooLong}
 use Rattle.kinds.specs.declared.RefusedAt.{RefusedAt}
 use Rattle.kinds.proofs.Apart.{impossible}
@@ -15,30 +15,30 @@ use Rattle.numbers.specs.declared.NumberRead.{NumberRead}
 use Rattle.numbers.specs.declared.NumberRead.the-variants as number
 use Rattle.numbers.specs.Spelling.{spelling}
 use Rattle.numbers.specs.Reading.{readAt}
-use Rattle.numbers.specs.Laws.{Bytes}
-use Rattle.numbers.proofs.Laws.{one-spelling, refused-at-its-start, spelled-read, none-read, refused-none}
+use Rattle.numbers.specs.SpelledNumbers.{Bytes}
+use Rattle.numbers.proofs.Spellings.{number-has-one-spelling, refused-at-its-start, spelled-read, none-read, refused-none}
 use Rattle.table.specs.declared.TableAnswer.the-variants.{Accepted, Refused}
 use Rattle.table.specs.Limits.{maxRows, maxPeriod}
 use Rattle.table.specs.Content.{Content}
 use Rattle.table.specs.Period.{periodOf}
 use Rattle.table.specs.Tables.{Rows, rows, refused, readRows, rowsFrom, afterCount, atEnd, afterRows, tableRead}
-use Rattle.table.specs.Answers.{tableSays, refusedWith}
-use Rattle.table.specs.Laws.{spelledRow}
-use Rattle.table.specs.Refusals.{Stands, valueLimits, ValueNext, RowsEnd, ContentEnds, BadValue, misspelled, out-of-range}
+use Rattle.table.specs.Answers.{tableSays}
+use Rattle.table.specs.SpelledTables.{spelledRow}
+use Rattle.table.specs.Refusals.{PartStands, valueLimits, ValueNext, RowsEnd, ContentEnds, BadValue, misspelled, out-of-range}
 use Rattle.table.specs.Refusals.{RowsRefusedSo, no-count, too-large-count, bad-value, RefusedSo, bad-rows, bytes-after, long-period}
 use Rattle.table.proofs.Spelling.{parted, joined, number-stands, RowsStand, count-then, rows-then, rows-end}
 use Rattle.table.proofs.BadValues.{RowsEndBadly, rows-end-badly, bad-refused, rows-refused}
 
 -- ---- rows
 
--- Rows are refused at a place, with a refusal of that number.
+-- Reading the rows is refused at this place, with a refusal of this number.
 record RowsRefused (s : List ℕ) (from number place : ℕ) : Type 0 where
   how : RefusedAt
   its-number : refusalNumber (how .refusal) ≡ number
   its-place : how .place ≡ place
   answer : rowsFrom s from ≡ refused how
 
--- Rows that are to be refused are refused.
+-- If the rules refuse the rows, reading them is refused so.
 rows-refused-if-so : {s : List ℕ} {from number place : ℕ} → Bytes s → RowsRefusedSo s from number place → RowsRefused s from number place
 rows-refused-if-so {from = from} b (no-count none) =
     record { how = record { refusal = Misspelled; place = from }; its-number = refl; its-place = refl; answer = simp (none-read b none) }
@@ -61,8 +61,8 @@ rows-refused-if-so {s} {place = place} b (bad-value p w) =
       answer = count-then (p .count) (p .few-rows) (t .1) ∙ rows-refused (p .count) (t .0) (p .rows) (p .values) (p .fewer) stand (p .first-values) (u .2) wrong;
     }
 
--- Rows that end badly behind their count: a value is next, and is bad.
-badly-behind-count : {s : List ℕ} {from c n : ℕ} {r : RefusedAt} → n ≤ maxRows → Stands s from (spelling n) c → RowsEndBadly n s c r
+-- If rows end badly after a count of at most 16, the rules refuse them so, for the bad value.
+badly-behind-count : {s : List ℕ} {from c n : ℕ} {r : RefusedAt} → n ≤ maxRows → PartStands s from (spelling n) c → RowsEndBadly n s c r
     → RowsRefusedSo s from (refusalNumber (r .refusal)) (r .place)
 badly-behind-count {s} {from} {n = n} few p e =
     let values = e .then in
@@ -79,7 +79,7 @@ badly-behind-count {s} {from} {n = n} few p e =
     } in
     rw (values .is) (bad-value next (values .wrong))
 
--- Rows that are refused were to be refused so.
+-- If reading the rows is refused, the rules refuse them so.
 rows-so-if-refused : {s : List ℕ} (from : ℕ) {r : RefusedAt} → Bytes s → rowsFrom s from ≡ refused r
     → RowsRefusedSo s from (refusalNumber (r .refusal)) (r .place)
 rows-so-if-refused {s} from {r} b e = count (readAt s from) refl e
@@ -91,7 +91,7 @@ rows-so-if-refused {s} from {r} b e = count (readAt s from) refl e
       | no many ↦
           let h = simp (lt-leb (n .value) maxRows (omega arith)) at g in
           let is : r ≡ record { refusal = TooManyRows; place = from } = cc in
-          rw is (too-large-count n (one-spelling s from n b f) (omega arith))
+          rw is (too-large-count n (number-has-one-spelling s from n b f) (omega arith))
     ]
     count (number.Refused q) f g =
         let is : r ≡ record { refusal = Misspelled; place = from } = cc (g, refused-at-its-start s from q f) in
@@ -99,20 +99,20 @@ rows-so-if-refused {s} from {r} b e = count (readAt s from) refl e
 
 -- ---- a table
 
--- What is to be refused says so.
+-- If the rules refuse the bytes, the answer says so.
 pub says-refused-if-so : {s : List ℕ} {number place : ℕ} → Bytes s → RefusedSo s number place → tableSays (tableRead s .answer) ≡ refusedWith number place
 says-refused-if-so {s} b (bad-rows w) = let r = rows-refused-if-so b w in rw (r .answer, r .its-number, r .its-place)
 says-refused-if-so {s} b (bytes-after {at} p l) = rw (rows-then p, lt-ltb at (length s) l)
 says-refused-if-so {s} b (long-period {content} p l) =
     rw (rows-then p, le-ltb (length s) (length s) (omega arith), lt-leb (periodOf content) maxPeriod l)
 
--- What stands from the start on ends inside the bytes.
-ends-inside : {s part : List ℕ} {next : ℕ} → Stands s 0 part next → next ≤ length s
+-- A part that stands at the start of the bytes ends inside them.
+ends-inside : {s part : List ℕ} {next : ℕ} → PartStands s 0 part next → next ≤ length s
 ends-inside {s} {part} {next} p =
     let long : length s ≡ length part + (length s - next) = ap length (p .here) ∙ rw (length-append, length-drop) in
     omega (arith, p .ends)
 
--- After the content only bytes after it and a period too long are refused.
+-- After the rows, only extra bytes and an H above its limit are refused.
 refused-at-end : {s : List ℕ} {at : ℕ} {content : Content} {r : RefusedAt} → ContentEnds s at content → atEnd s content at .answer ≡ Refused r
     → RefusedSo s (refusalNumber (r .refusal)) (r .place)
 refused-at-end {s} {at} {content} {r} p e = elim (decLe (length s) at) [
@@ -133,7 +133,7 @@ refused-at-end {s} {at} {content} {r} p e = elim (decLe (length s) at) [
       rw is (bytes-after {content = content} p (omega arith))
 ]
 
--- What is refused was to be refused so.
+-- If reading the bytes is refused, the rules refuse them so.
 pub so-if-refused : (s : List ℕ) (r : RefusedAt) → Bytes s → tableRead s .answer ≡ Refused r → RefusedSo s (refusalNumber (r .refusal)) (r .place)
 so-if-refused s r b e = after (rowsFrom s 0) refl e
   where
@@ -141,7 +141,7 @@ so-if-refused s r b e = after (rowsFrom s 0) refl e
     after (rows rs at) f g = refused-at-end {content = record { rows = rs }} (rows-end 0 b f) g
     after (refused q) f g = let same : q ≡ r = cc in bad-rows (rows-so-if-refused 0 b (f ∙ ap refused same))
 
--- What is to be refused so has a number from 1 to 5.
+-- The rules refuse bytes with the numbers 1 to 5 only.
 pub one-to-five : {s : List ℕ} {number place : ℕ} → RefusedSo s number place → (1 ≤ number) × (number ≤ 5)
 one-to-five (bad-rows (no-count none)) = (omega arith, omega arith)
 one-to-five (bad-rows (too-large-count n read many)) = (omega arith, omega arith)

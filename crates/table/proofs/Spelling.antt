@@ -1,5 +1,5 @@
--- What is read at a place, and what stands there. A value, a row, and rows one after another are read exactly where their spelling stands, within
--- their limits: each level is shown from the one below, both ways. (docs/RULES.md, section 3.)
+-- A value, a row, and rows one after another are read at a place exactly when their spelling stands there and they are within their limits. Rows are proved
+-- from a row, and a row from a value, each in both directions. (docs/RULES.md, section 3.)
 use Prim.Native.Nat.{ℕ, zero, suc, _+_, _≤_}
 use native.Mathlib.Omega.{arith}
 use mathlib.Core.Path.{_≡_, refl, sym, ap, _∙_}
@@ -12,16 +12,16 @@ use Rattle.numbers.specs.declared.Number.{Number}
 use Rattle.numbers.specs.declared.NumberRead.the-variants as number
 use Rattle.numbers.specs.Spelling.{maxNumber, spelling}
 use Rattle.numbers.specs.Reading.{readAt}
-use Rattle.numbers.specs.Laws.{Bytes, Spelled}
-use Rattle.numbers.proofs.Laws.{read-here, one-spelling}
+use Rattle.numbers.specs.SpelledNumbers.{Bytes, Spelled}
+use Rattle.numbers.proofs.Spellings.{read-here, number-has-one-spelling}
 use Rattle.table.specs.declared.Row.{Row}
 use Rattle.table.specs.declared.RowAt.{RowAt}
 use Rattle.table.specs.declared.RowRead.the-variants as row
 use Rattle.table.specs.Limits.{maxRows, maxX, maxY, maxD, maxC}
 use Rattle.table.specs.Rows.{withinLimit, readValue, readRow}
 use Rattle.table.specs.Tables.{rows, readRows, rowsFrom}
-use Rattle.table.specs.Laws.{spelledRow, WithinLimits}
-use Rattle.table.specs.Refusals.{Stands, RowsEnd}
+use Rattle.table.specs.SpelledTables.{spelledRow, WithinLimits}
+use Rattle.table.specs.Refusals.{PartStands, RowsEnd}
 use Rattle.table.proofs.Each.{Each, each-none, each-cons, each-head, each-tail}
 use Rattle.table.proofs.Ranges.{within-fine, limits-of}
 use Rattle.table.proofs.Reading.{value-stands, four-values, row-in-range}
@@ -29,17 +29,17 @@ use Rattle.table.proofs.ReadTables.{first-row, other-rows, count-read}
 
 -- ---- parts of the bytes
 
--- The whole stands at the start.
-pub stands-whole : (s : List ℕ) → Stands s 0 s (length s)
+-- All the bytes together stand at place 0.
+pub stands-whole : (s : List ℕ) → PartStands s 0 s (length s)
 stands-whole s = record { here = rw (drop-length, append-nil); ends = omega arith }
 
 module _ {s : List ℕ} {at next : ℕ} where
   -- Two parts, one after the other, are one part.
-  pub joined : {a b : List ℕ} {mid : ℕ} → Stands s at a mid → Stands s mid b next → Stands s at (a ++ b) next
+  pub joined : {a b : List ℕ} {mid : ℕ} → PartStands s at a mid → PartStands s mid b next → PartStands s at (a ++ b) next
   joined {a} {b} p q = record { here = p .here ∙ rw (q .here, append-assoc); ends = omega (arith, length-append a b) }
 
-  -- One part that is made of two is the two, one after the other.
-  pub parted : (a b : List ℕ) → Stands s at (a ++ b) next → (mid : ℕ) × Stands s at a mid × Stands s mid b next
+  -- A part that is made of two parts is these two, one after the other.
+  pub parted : (a b : List ℕ) → PartStands s at (a ++ b) next → (mid : ℕ) × PartStands s at a mid × PartStands s mid b next
   parted a b p =
       let later : drop (at + length a) s ≡ b ++ drop next s = rw (← drop-drop, p .here, append-assoc, drop-append-seam) in (
         at + length a,
@@ -49,33 +49,33 @@ module _ {s : List ℕ} {at next : ℕ} where
 
 -- ---- a number, and a value
 
--- Where a number is spelled stands its spelling.
-pub spelled-stands : {s : List ℕ} {at : ℕ} {n : Number} → Spelled s at n → Stands s at (spelling (n .value)) (n .next)
+-- Where a number is spelled, its spelling stands.
+pub spelled-stands : {s : List ℕ} {at : ℕ} {n : Number} → Spelled s at n → PartStands s at (spelling (n .value)) (n .next)
 spelled-stands p = record { here = p .stands-here; ends = p .ends }
 
 -- A number is read where its spelling stands.
-pub number-read : {s : List ℕ} {at next : ℕ} (v : ℕ) → v ≤ maxNumber → Stands s at (spelling v) next
+pub number-read : {s : List ℕ} {at next : ℕ} (v : ℕ) → v ≤ maxNumber → PartStands s at (spelling v) next
     → readAt s at ≡ number.Number (record { value = v; next = next })
 number-read {s} {at} {next} v h p =
     read-here s at v (drop next s) h (p .here) ∙ ap (λ (n : ℕ). number.Number (record { value = v; next = n })) (sym (p .ends))
 
 -- Where a number is read, its spelling stands.
-pub number-stands : {s : List ℕ} (at : ℕ) (n : Number) → Bytes s → readAt s at ≡ number.Number n → Stands s at (spelling (n .value)) (n .next)
-number-stands {s} at n b e = spelled-stands (one-spelling s at n b e)
+pub number-stands : {s : List ℕ} (at : ℕ) (n : Number) → Bytes s → readAt s at ≡ number.Number n → PartStands s at (spelling (n .value)) (n .next)
+number-stands {s} at n b e = spelled-stands (number-has-one-spelling s at n b e)
 
--- So a value is read where its spelling stands, within its limit.
-pub value-read : {s : List ℕ} {at next : ℕ} (most v : ℕ) → most ≤ maxNumber → 1 ≤ v → v ≤ most → Stands s at (spelling v) next
+-- A value from 1 to its limit is read where its spelling stands.
+pub value-read : {s : List ℕ} {at next : ℕ} (most v : ℕ) → most ≤ maxNumber → 1 ≤ v → v ≤ most → PartStands s at (spelling v) next
     → readValue (withinLimit most) s at ≡ number.Number (record { value = v; next = next })
 value-read {s} {at} most v m l h p = value-stands (withinLimit most) s at _ (record { reads = number-read v (omega arith) p; is-fine = within-fine most v l h })
 
 -- ---- a row
 
--- Somewhere stands the spelling of a row within its limits.
+-- From the place `at` up to `next` stands the spelling of the row r, which is within its limits.
 pub record RowStands (s : List ℕ) (at : ℕ) (r : Row) (next : ℕ) : Type 0 where
   pub limits : WithinLimits r
-  pub stands : Stands s at (spelledRow r) next
+  pub stands : PartStands s at (spelledRow r) next
 
--- There the row is read.
+-- A row within its limits is read where its spelling stands.
 pub row-read : {s : List ℕ} {at next : ℕ} {r : Row} → RowStands s at r next → readRow s at ≡ row.Row (record { row = r; next = next })
 row-read {r} p =
     let w = p .limits in
@@ -89,7 +89,7 @@ row-read {r} p =
       value-read maxC (r .c) (omega arith) (w .some-c) (w .most-c) (d .2),
     )
 
--- Where a row is read, its spelling stands, within its limits.
+-- Where a row is read, its spelling stands, and it is within its limits.
 pub row-stands : {s : List ℕ} (at : ℕ) (r : RowAt) → Bytes s → readRow s at ≡ row.Row r → RowStands s at (r .row) (r .next)
 row-stands {s} at r b e =
     let v = four-values s at r e in
@@ -101,12 +101,12 @@ row-stands {s} at r b e =
 
 -- ---- rows, one after another
 
--- Somewhere stand the spellings of rows within their limits, one after another.
+-- From the place `at` up to `next` stand the spellings of the rows, one after another, and each row is within its limits.
 pub record RowsStand (s : List ℕ) (at : ℕ) (rs : List Row) (next : ℕ) : Type 0 where
   pub limits : Each WithinLimits rs
-  pub stand : Stands s at (flatten (map spelledRow rs)) next
+  pub stand : PartStands s at (flatten (map spelledRow rs)) next
 
--- There the rows are read.
+-- Rows within their limits are read where their spellings stand.
 pub rows-read : {s : List ℕ} {at next : ℕ} (rs : List Row) → RowsStand s at rs next → readRows (length rs) s at ≡ rows rs next
 unfolding readRows flatten
 rows-read [] p = ap (rows []) (omega arith)
@@ -116,7 +116,7 @@ rows-read (r ∷ rs) p =
     let more = rows-read rs (record { limits = each-tail (p .limits); stand = t .2 }) in
     simp (one, more)
 
--- Where so many rows are read, their spellings stand, within their limits.
+-- Where n rows are read, their spellings stand, and each row is within its limits.
 pub rows-stand : {s : List ℕ} (n at : ℕ) (rs : List Row) (next : ℕ) → Bytes s → readRows n s at ≡ rows rs next
     → (length rs ≡ n) × RowsStand s at rs next
 unfolding readRows flatten
@@ -137,22 +137,22 @@ rows-stand {s} (suc n) at rs next b e =
       },
     )
 
--- ---- rows behind their count
+-- ---- rows after their count
 
--- Where the count of some rows stands that is not too large, the bytes behind it are read as rows.
-pub count-then : {s : List ℕ} {at next : ℕ} (n : ℕ) → n ≤ maxRows → Stands s at (spelling n) next → rowsFrom s at ≡ readRows n s next
+-- Where a row count n of at most 16 stands, the bytes after it are read as n rows.
+pub count-then : {s : List ℕ} {at next : ℕ} (n : ℕ) → n ≤ maxRows → PartStands s at (spelling n) next → rowsFrom s at ≡ readRows n s next
 count-then n few p = simp (number-read n (omega arith) p, le-leb n maxRows few)
 
--- Rows are read where they end behind their count.
+-- If rows end at a place in the sense of `RowsEnd`, they are read up to that place.
 pub rows-then : {s : List ℕ} {from at : ℕ} {rs : List Row} → RowsEnd s from at rs → rowsFrom s from ≡ rows rs at
 rows-then {s} {from} {at} {rs} p =
     let t = parted (spelling (length rs)) (flatten (map spelledRow rs)) (p .before) in
     count-then (length rs) (p .few-rows) (t .1) ∙ rows-read rs (record { limits = p .rows-within; stand = t .2 })
 
--- Where rows are read behind their count, they end.
+-- If rows are read up to a place, they end there in the sense of `RowsEnd`.
 pub rows-end : {s : List ℕ} (from : ℕ) {at : ℕ} {rs : List Row} → Bytes s → rowsFrom s from ≡ rows rs at → RowsEnd s from at rs
 rows-end {s} from {at} {rs} b e =
     let c = count-read s from (readAt s from) e in
     let t = rows-stand (c .count .value) (c .count .next) rs at b (c .then) in
-    let counted : Stands s from (spelling (length rs)) (c .count .next) = rw (t .0) (number-stands from (c .count) b (c .was-read)) in
+    let counted : PartStands s from (spelling (length rs)) (c .count .next) = rw (t .0) (number-stands from (c .count) b (c .was-read)) in
     record { few-rows = omega (arith, t .0, c .few-rows); rows-within = t .1 .limits; before = joined counted (t .1 .stand) }

@@ -1,5 +1,5 @@
--- What bytes are read as: a content that was accepted, or the empty table with the refusal. So it is in range, and its unused rows hold zeros.
--- (docs/RULES.md, sections 3.14 and 10.5.)
+-- Bytes are read as the table of a content that was accepted, or as the empty table beside the refusal. So the table is in range, and its unused rows hold
+-- zeros. (docs/RULES.md, 3.14 and 10.5.)
 use Prim.Native.Nat.{ℕ, zero, suc, _+_, _-_, _≤_, _<_}
 use mathlib.Core.Path.{_≡_, refl, _∙_}
 use mathlib.Core.Logic.{_⊎_, inl, inr, ⊎-elim}
@@ -11,7 +11,7 @@ use lib.ListN.{length, getD, replicate, length-append, length-replicate, List·g
 use lib.Seq.{getD-append-add, length-take-le}
 use Rattle.kinds.specs.declared.RefusedAt.{RefusedAt}
 use Rattle.kinds.proofs.Apart.{impossible}
-use Rattle.numbers.specs.Laws.{Bytes}
+use Rattle.numbers.specs.SpelledNumbers.{Bytes}
 use Rattle.table.specs.declared.Row.{Row}
 use Rattle.table.specs.declared.Table.{Table}
 use Rattle.table.specs.declared.TableRead.{TableRead}
@@ -20,36 +20,37 @@ use Rattle.table.specs.Limits.{maxRows, maxPeriod}
 use Rattle.table.specs.Content.{Content, rowsAlone}
 use Rattle.table.specs.Period.{periodOf}
 use Rattle.table.specs.Tables.{InRange, Rows, rows, refused, noRow, heldRows, rowsOf, tableOf, emptyTable, rowsFrom, afterRows, tableRead}
-use Rattle.table.specs.Laws.{GoodRows, LimitsOfTables, ReadInRange, UnusedHoldZeros}
+use Rattle.table.specs.SpelledTables.{GoodRows}
+use Rattle.table.specs.TableLaws.{LimitsOfTables, ReadInRange, UnusedHoldZeros}
 use Rattle.table.proofs.Each.{stands-in, each-none}
-use Rattle.table.proofs.Laws.{accepted-is-spelled}
+use Rattle.table.proofs.SpelledTables.{accepted-is-spelled}
 
 pub limits-of-tables : LimitsOfTables
 limits-of-tables = refl
 
 -- ---- rows as a table holds them
 
--- Good rows are held in all places.
+-- The rows in use and the unused rows of a table are 16 together.
 places-held : (rs : List Row) → GoodRows rs → length (heldRows rs) ≡ maxRows
 places-held rs good = simp (length-append, length-replicate) (omega (arith, good .few-rows))
 
--- A row in use stands at its number.
+-- The table holds each row in use at its row number.
 row-held : (rs : List Row) (i : ℕ) → i < length rs → getD (heldRows rs) i noRow ≡ getD rs i noRow
 row-held rs i h = List·getD-append rs _ noRow i h
 
--- A copy of something is at every place of its copies, and past them.
+-- In a list of copies of a, every place holds a, and so does the default past the end.
 same-copies : {A : Type 0} (n i : ℕ) (a : A) → getD (replicate n a) i a ≡ a
 same-copies zero i a = refl
 same-copies (suc n) zero a = refl
 same-copies (suc n) (suc i) a = same-copies n i a
 
--- The unused rows hold nothing.
+-- The unused rows hold zeros.
 unused-held : (rs : List Row) (i : ℕ) → length rs ≤ i → getD (heldRows rs) i noRow ≡ noRow
 unused-held rs i h =
     let place : i ≡ length rs + (i - length rs) = omega arith in
     rw place (getD-append-add rs _ (i - length rs) noRow ∙ same-copies (maxRows - length rs) (i - length rs) noRow)
 
--- No rows are good.
+-- A table may have no rows at all.
 no-rows-good : GoodRows []
 no-rows-good = record { few-rows = omega arith; in-range = each-none _ }
 
@@ -66,29 +67,29 @@ good-in-range content good =
     }
 
 module _ {t : Table} (r : InRange t) where
-  -- The rows in use are as many as are counted.
+  -- The number of rows in use is the table's count.
   pub rows-used : length (rowsOf t) ≡ t .count
   rows-used = length-take-le (t .count) (t .rows) (omega arith)
 
 -- ---- whatever is read
 
--- A table is accepted, or it is read as the empty one.
+-- The table is accepted, or the empty table is answered.
 abbrev AcceptedOrEmpty : TableRead → Type 0
 AcceptedOrEmpty r = ((h : ℕ) × (r .answer ≡ Accepted h)) ⊎ (r .table ≡ emptyTable)
 
--- Of two that are so, the one that a test picks is.
+-- If two answers are accepted or empty, the one that a test picks is accepted or empty.
 either : (test : Bool) (r q : TableRead) → AcceptedOrEmpty r → AcceptedOrEmpty q → AcceptedOrEmpty (cond test r q)
 either true r q a b = a
 either false r q a b = b
 
--- What is read after the rows is so.
+-- The answer after the rows is accepted or empty.
 after-rows : (s : List ℕ) (v : Rows) → AcceptedOrEmpty (afterRows s v)
 after-rows s (rows rs next) =
     either (ltb next (length s)) _ _ (inr refl)
     (either (leb (periodOf (rowsAlone rs)) maxPeriod) _ _ (inl (periodOf (rowsAlone rs), refl)) (inr refl))
 after-rows s (refused at) = inr refl
 
--- What bytes are read as is the table of a content with good rows.
+-- Bytes are always read as the table of a content whose rows a table may have.
 read-as-content : (s : List ℕ) → Bytes s → (content : Content) × (tableRead s .table ≡ tableOf content) × GoodRows (content .rows)
 read-as-content s b = ⊎-elim
     (λ accepted. let a = accepted-is-spelled s (accepted .0) b (accepted .1) in (a .0, a .1 .read-as, a .1 .acceptable .good-rows))

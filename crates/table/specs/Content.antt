@@ -1,4 +1,5 @@
--- What a table says, apart from how it is spelled and held. Whatever speaks of a whole table speaks of this record. (docs/RULES.md, section 3.)
+-- The content of a table, apart from how it is spelled in bytes and held in memory. Definitions about a whole table take this record. (docs/RULES.md, section
+-- 3.)
 use mathlib.Core.List.{List}
 use Rattle.table.specs.declared.Row.{Row}
 
@@ -6,6 +7,6 @@ use Rattle.table.specs.declared.Row.{Row}
 pub record Content : Type 0 where
   pub rows : List Row
 
--- The content that is some rows and nothing else.
+-- This content consists of the given rows and nothing else. (1.2)
 abbrev pub rowsAlone : List Row → Content
 rowsAlone rows = record { rows = rows }

@@ -5,5 +5,6 @@ pub mod Rows
 pub mod Tables
 pub mod Costs
 pub mod Answers
-pub mod Laws
+pub mod SpelledTables
+pub mod TableLaws
 pub mod Refusals

@@ -1,31 +1,31 @@
--- The limits of a table, each once. (docs/RULES.md, section 3.)
+-- The limits of a table. All other definitions use them by name. (docs/RULES.md, section 3.)
 use Prim.Native.Nat.{ℕ}
 use Rattle.table.specs.declared.Limits.{Limits}
 
--- A table has at most so many rows. (3.1)
+-- A table has at most this many rows. (3.1)
 abbrev pub maxRows : ℕ
 maxRows = 16
 
--- A row's x is at most so much. (3.2)
+-- A row's x is at most this. (3.2)
 abbrev pub maxX : ℕ
 maxX = 64
 
--- A row's y is at most so much. (3.2)
+-- A row's y is at most this. (3.2)
 abbrev pub maxY : ℕ
 maxY = 4096
 
--- A row's d is at most so much. (3.2)
+-- A row's d is at most this. (3.2)
 abbrev pub maxD : ℕ
 maxD = 16384
 
--- A row's c is at most so much. (3.2)
+-- A row's c is at most this. (3.2)
 abbrev pub maxC : ℕ
 maxC = 4096
 
--- H is at most so many ticks. (3.4)
+-- H is at most this many ticks. (3.4)
 abbrev pub maxPeriod : ℕ
 maxPeriod = 1048576
 
--- The limits together, as the code hands them out. (3.1, 3.2, 3.4)
+-- `Table::limits` hands out all limits of a table in one record. (3.1, 3.2, 3.4)
 abbrev pub limits : Limits
 limits = record { rows = maxRows; x = maxX; y = maxY; d = maxD; c = maxC; period = maxPeriod }

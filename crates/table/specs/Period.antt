@@ -5,14 +5,14 @@ unfoldable pub use Rattle.periods.specs.Multiples.{firstMultiple, leastCommonMu
 use Rattle.table.specs.declared.Row.{Row}
 use Rattle.table.specs.Content.{Content}
 
--- The y of each row.
+-- `ysOf` lists the y of each row, in the order of the rows. (1.1)
 abbrev pub ysOf : List Row → List ℕ
 ysOf rows = map (λ (r : Row). r .y) rows
 
--- The numbers that join H: the y of each row. (3.4)
+-- H is made from the y of each row. (3.4)
 abbrev pub periodsOf : Content → List ℕ
 periodsOf content = ysOf (content .rows)
 
--- H of a table's content. (3.4)
+-- H is the least common multiple of the y of all rows. (3.4)
 abbrev pub periodOf : Content → ℕ
 periodOf content = leastCommonMultiple (periodsOf content)

@@ -1,4 +1,4 @@
--- A row's rule, and how a row is read. (docs/RULES.md, section 3.)
+-- The ranges of a row's values, and how a row is read from bytes. (docs/RULES.md, section 3.)
 use Prim.Native.Nat.{ℕ}
 use mathlib.Core.Bool.{Bool, true, false, cond, _&&_}
 use mathlib.Core.Option.{Option, none, some}
@@ -15,7 +15,7 @@ use Rattle.table.specs.declared.RowRead.{RowRead}
 use Rattle.table.specs.declared.RowRead.the-variants as row
 use Rattle.table.specs.Limits.{maxX, maxY, maxD, maxC}
 
--- Whether a number is from 1 to a limit.
+-- `fromOneTo` tests whether the number n is from 1 to the limit `most`. (3.2)
 abbrev pub fromOneTo : (most n : ℕ) → Bool
 fromOneTo most n = leb 1 n && leb n most
 
@@ -23,51 +23,51 @@ fromOneTo most n = leb 1 n && leb n most
 abbrev pub withinLimit : (most v : ℕ) → Option Refusal
 withinLimit most v = cond (fromOneTo most v) none (some ValueOutOfRange)
 
--- What is wrong with an x, if anything. No range depends on another value. (3.2, 3.3)
+-- An x is refused unless it is from 1 to its limit. No range depends on another value of the row. (3.2, 3.3)
 abbrev pub ruleOfX : ℕ → Option Refusal
 ruleOfX x = withinLimit maxX x
 
--- What is wrong with a y, if anything. (3.2)
+-- A y is refused unless it is from 1 to its limit. (3.2)
 abbrev pub ruleOfY : ℕ → Option Refusal
 ruleOfY y = withinLimit maxY y
 
--- What is wrong with a d, if anything. (3.2)
+-- A d is refused unless it is from 1 to its limit. (3.2)
 abbrev pub ruleOfD : ℕ → Option Refusal
 ruleOfD d = withinLimit maxD d
 
--- What is wrong with a c, if anything. (3.2)
+-- A c is refused unless it is from 1 to its limit. (3.2)
 abbrev pub ruleOfC : ℕ → Option Refusal
 ruleOfC c = withinLimit maxC c
 
--- Whether nothing is wrong.
+-- A value is fine when its rule gives no refusal.
 abbrev pub fine : Option Refusal → Bool
 fine none = true
 fine (some r) = false
 
--- A row is in range where nothing is wrong with any of its values. (3.2)
+-- A row is in range when each of its four values is. (3.2)
 abbrev pub rowInRange : Row → Bool
 rowInRange r = fine (ruleOfX (r .x)) && fine (ruleOfY (r .y)) && fine (ruleOfD (r .d)) && fine (ruleOfC (r .c))
 
--- A number that was read at a place, tested by a rule: it stands, or is refused at its start. (3.10)
+-- A number that was read at the place `at` is answered as it is if its rule gives no refusal. Otherwise that refusal is answered, at the number's start. (3.10)
 abbrev pub testedAt : (at : ℕ) → Option Refusal → Number → NumberRead
 testedAt at none n = number.Number n
 testedAt at (some r) n = number.Refused (record { refusal = r; place = at })
 
--- What can't be read is refused as the reader says. (3.8)
+-- A number that was read is tested by its rule, and a number that can't be read keeps the reader's refusal. (3.8, 3.10)
 abbrev pub tested : (rule : ℕ → Option Refusal) (at : ℕ) → NumberRead → NumberRead
 tested rule at (number.Number n) = testedAt at (rule (n .value)) n
 tested rule at (number.Refused r) = number.Refused r
 
--- A value is tested as it is read. (3.7)
+-- A value is tested as it is read, before the next one is looked at. (3.7)
 abbrev pub readValue : (rule : ℕ → Option Refusal) → List ℕ → (at : ℕ) → NumberRead
 readValue rule s at = tested rule at (readAt s at)
 
--- What comes after a value; a refusal ends the row.
+-- After a value that was read the row goes on with `k`, and a refusal ends it. (3.7)
 abbrev pub afterValue : NumberRead → (Number → RowRead) → RowRead
 afterValue (number.Number n) k = k n
 afterValue (number.Refused r) k = row.Refused r
 
--- A row: x, y, d and c from left to right. (3.6, 3.7)
+-- A row is read as x, y, d and c, from left to right. (3.6, 3.7)
 abbrev pub readRow : List ℕ → (at : ℕ) → RowRead
 readRow s at =
     afterValue (readValue ruleOfX s at) λ x.

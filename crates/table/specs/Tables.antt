@@ -25,31 +25,31 @@ use Rattle.table.specs.Rows.{rowInRange, readRow}
 
 -- ---- rows and tables
 
--- What an unused row holds. (3.14)
+-- An unused row holds zeros. (3.14)
 abbrev pub noRow : Row
 noRow = record { x = 0; y = 0; d = 0; c = 0 }
 
--- Rows as a table holds them: they stand first, and the unused ones hold nothing. (3.14)
+-- A table holds its rows first, and the unused rows after them hold zeros. (3.14)
 abbrev pub heldRows : List Row → List Row
 heldRows rows = rows ++ replicate (maxRows - length rows) noRow
 
--- The rows in use. (3.14)
+-- The rows in use are the first `count` rows of a table. (3.14)
 abbrev pub rowsOf : Table → List Row
 rowsOf t = take (t .count) (t .rows)
 
--- What a table says.
+-- The content of a table is its rows in use. (1.2, 3.14)
 abbrev pub contentOf : Table → Content
 contentOf t = rowsAlone (rowsOf t)
 
--- The table that says so.
+-- `tableOf` is the table that holds a content. (3.14)
 abbrev pub tableOf : Content → Table
 tableOf content = record { rows = heldRows (content .rows); count = length (content .rows) }
 
--- The table of no rows. (3.15)
+-- The empty table has no rows. (3.15)
 abbrev pub emptyTable : Table
 emptyTable = tableOf (rowsAlone [])
 
--- A table is in range: it has all its places and not too many rows, and each row in use is in range.
+-- A table is in range when it has room for 16 rows, at most 16 rows are in use, and each row in use is in range. (3.1, 3.2, 3.14)
 pub record InRange (t : Table) : Type 0 where
   pub few-rows : t .count ≤ maxRows
   pub all-places : length (t .rows) ≡ maxRows
@@ -57,58 +57,60 @@ pub record InRange (t : Table) : Type 0 where
 
 -- ---- how rows are read
 
--- Some rows, read one after another, and the place after them; or the refusal that ended them.
+-- Reading rows gives the rows and the place right after them, or the refusal that ended the reading. (3.7)
 pub data Rows : Type 0 where
   rows : List Row → (next : ℕ) → Rows
   refused : RefusedAt → Rows
 
--- One row in front of what was read after it.
+-- `inFront` puts one row in front of the rows that were read after it. If those were refused, the refusal stays.
 abbrev pub inFront : Row → Rows → Rows
 inFront r (rows rs next) = rows (r ∷ rs) next
 inFront r (refused at) = refused at
 
--- What comes after a row; a refusal ends the rows.
+-- After a row that was read the rows go on with `k`, and a refusal ends them. (3.7)
 abbrev pub afterRow : RowRead → (Row → (next : ℕ) → Rows) → Rows
 afterRow (row.Row r) k = k (r .row) (r .next)
 afterRow (row.Refused at) k = refused at
 
--- So many rows from a place on.
+-- `readRows` reads n rows, one after another, from the place `at` on. (3.6, 3.7)
 unfoldable pub readRows : (n : ℕ) → List ℕ → (at : ℕ) → Rows
 readRows zero s at = rows [] at
 readRows (suc n) s at = afterRow (readRow s at) (λ r next. inFront r (readRows n s next))
 
--- The row count is read: too many rows are refused at once, at the count's place. (3.9)
+-- After the row count its rows are read. A count above 16 is refusal 2 at once, at the count's start, and a count that can't be read keeps the reader's
+-- refusal. (3.8, 3.9)
 abbrev pub afterCount : List ℕ → (at : ℕ) → NumberRead → Rows
 afterCount s at (number.Number n) = cond (leb (n .value) maxRows) (readRows (n .value) s (n .next)) (refused (record { refusal = TooManyRows; place = at }))
 afterCount s at (number.Refused r) = refused r
 
--- The row count at a place, and the rows behind it. (3.6, 3.7)
+-- `rowsFrom` reads the row count at a place, and then the rows after it. (3.6, 3.7)
 abbrev pub rowsFrom : List ℕ → (at : ℕ) → Rows
 rowsFrom s at = afterCount s at (readAt s at)
 
--- Rows that were read, as the code holds them; none are held where they were refused.
+-- The code holds the rows that were read as a table does. If they were refused, no row is in use. (3.14)
 abbrev pub heldAs : Rows → RowsRead
 heldAs (rows rs next) = record { rows = heldRows rs; count = length rs; answer = answer.Until next }
 heldAs (refused r) = record { rows = heldRows []; count = 0; answer = answer.Refused r }
 
 -- ---- how a table is read
 
--- A refused table: the empty one, with the refusal. (10.5)
+-- For a refused table the empty table is answered, beside the refusal. (10.5)
 abbrev pub refusedTable : RefusedAt → TableRead
 refusedTable at = record { table = emptyTable; answer = Refused at }
 
--- The whole content is read, up to a place: nothing may follow it, and then H must be within its limit. (3.11, 3.12)
+-- The rows were read up to the place `next`. Bytes after them are refusal 4. After that test, an H above 1,048,576 is refusal 5. Otherwise the table is
+-- accepted, with its H. (3.11, 3.12, 3.13)
 abbrev pub atEnd : List ℕ → Content → (next : ℕ) → TableRead
 atEnd s content next =
     cond (ltb next (length s)) (refusedTable (record { refusal = ExtraBytes; place = next }))
     (cond (leb (periodOf content) maxPeriod) (record { table = tableOf content; answer = Accepted (periodOf content) })
     (refusedTable (record { refusal = PeriodTooLong; place = length s })))
 
--- The rows end the table; a refusal of them is the table's.
+-- After the rows come the tests for extra bytes and of H. A refusal of the rows is the table's refusal. (3.7)
 abbrev pub afterRows : List ℕ → Rows → TableRead
 afterRows s (rows rs next) = atEnd s (rowsAlone rs) next
 afterRows s (refused at) = refusedTable at
 
--- What the bytes are read as: the row count at place 0, its rows, and nothing after them. (3.6, 3.7)
+-- The bytes are read as a table: the row count at place 0, its rows, and nothing after them. (3.6, 3.7)
 abbrev pub tableRead : List ℕ → TableRead
 tableRead s = afterRows s (rowsFrom s 0)

@@ -1,4 +1,4 @@
-// One test of a row number and a cost: which row's job, and may it cost so much? (docs/RULES.md, 6.8.)
+// The test of a row number and a cost: is the row number in use, and is the cost from 1 to the row's c? (docs/RULES.md, 6.8.)
 use crate::CostAnswer;
 use crate::CostLimit;
 use crate::Table;
@@ -8,7 +8,7 @@ ghost use mathlib.Core.Path.{_≡_};
 ghost use Rattle.table.specs.Costs.{csOf, limitOf, costAnswer};
 
 impl Table {
-    // The most that a job of each row may cost; those of the rows in use are the first `count`.
+    // The c of every row is listed. Those of the rows in use are the first `count`. (1.6, 3.14)
     pub fn cost_limits(self) -> [u64; Table::MAX_ROWS]
         ensures { λ r. ⌜ r ≡ csOf (self .rows) ⌝ }
     {
@@ -23,7 +23,7 @@ impl Table {
     }
 }
 
-// The most that a job of a row may cost, where the limits are those of the rows in use.
+// `limits` holds the most that a job may cost, for each row in use. The row number is compared with their count before it is narrowed. (2.11, 6.8)
 pub fn limit_of(limits: &[u64], number: RowNumber) -> CostLimit
     ensures { λ r. ⌜ r ≡ limitOf (now (limits .entry)) (number .0) ⌝ }
 {
@@ -35,7 +35,7 @@ pub fn limit_of(limits: &[u64], number: RowNumber) -> CostLimit
 }
 
 impl CostLimit {
-    // Whether a job may have a cost; else 6 where there is no such row, and 7 where the cost is not from 1 to the most.
+    // A cost from 1 to the most is allowed. Any other is refusal 7, and where the row number is not in use every cost is refusal 6. (6.8)
     pub fn answer(self, cost: u64) -> CostAnswer
         ensures { λ r. ⌜ r ≡ costAnswer self cost ⌝ }
     {

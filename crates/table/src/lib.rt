@@ -13,7 +13,7 @@ ghost use Rattle.table.specs.Period.{ysOf};
 ghost use Rattle.table.specs.Rows.{withinLimit, fine, rowInRange};
 ghost use Rattle.table.specs.Tables.{emptyTable, refusedTable, tableRead};
 
-// A row expects x jobs in any y ticks, each due d ticks after its release and costing at most c units.
+// A row expects x jobs in any y ticks, each due d ticks after its release and costing at most c units. (1.1)
 pub struct Row {
     pub x: u64,
     pub y: u64,
@@ -21,25 +21,25 @@ pub struct Row {
     pub c: u64,
 }
 
-// The rows in use are the first `count`; the others are all zero in a table that was read.
+// The rows in use are the first `count`. The others hold zeros in every table that was read. (3.14)
 pub struct Table {
     pub rows: [Row; Table::MAX_ROWS],
     pub count: usize,
 }
 
-// Whether the bytes are a table: accepted, with H, the least common multiple of every row's y; or refused.
+// A table is accepted, with its H, or it is refused. (3.4, 3.13)
 pub enum TableAnswer {
     Accepted(u64),
     Refused(RefusedAt),
 }
 
-// The table that was read, beside the answer; refused, the empty one.
+// The table that was read stands beside the answer. If it was refused, this is the empty table. (10.5)
 pub struct TableRead {
     pub table: Table,
     pub answer: TableAnswer,
 }
 
-// The limits of the rules, together.
+// These are all limits of a table. (3.1, 3.2, 3.4)
 pub struct Limits {
     pub rows: usize,
     pub x: u64,
@@ -49,37 +49,37 @@ pub struct Limits {
     pub period: u64,
 }
 
-// The most that a job of a row may cost, where there is such a row.
+// A row in use limits the cost of its jobs, and a row number that is not in use has no limit. (6.8)
 pub enum CostLimit {
     Units(u64),
     NoSuchRow,
 }
 
-// Whether a job may have a cost.
+// A job may have its stated cost, or is refused. (6.8)
 pub enum CostAnswer {
     Allowed,
     Refused(Refusal),
 }
 
-// A row that was read, and the place after it.
+// A row that was read comes with the place right after it.
 struct RowAt {
     row: Row,
     next: usize,
 }
 
-// A row that was read, or the refusal that ended it.
+// Reading a row gives the row, or the refusal that ended it.
 enum RowRead {
     Row(RowAt),
     Refused(RefusedAt),
 }
 
-// Whether rows were read: up to a place, or the refusal that ended them.
+// Rows were read up to this place, or this refusal ended them.
 enum RowsAnswer {
     Until(usize),
     Refused(RefusedAt),
 }
 
-// The rows that were read, beside the answer; refused, none.
+// The rows that were read stand beside the answer. If they were refused, no row is in use.
 struct RowsRead {
     rows: [Row; Table::MAX_ROWS],
     count: usize,
@@ -87,7 +87,7 @@ struct RowsRead {
 }
 
 impl Row {
-    // The most that each value may be; the least is 1.
+    // The next four constants are the most that x, y, d and c may be. The least is 1. (3.2)
     pub const MAX_X: u64 = 64;
 
     pub const MAX_Y: u64 = 4_096;
@@ -96,7 +96,7 @@ impl Row {
 
     pub const MAX_C: u64 = 4_096;
 
-    // Whether each value is from 1 to its limit.
+    // A row is in range when each value is from 1 to its limit. (3.2)
     pub fn in_range(self) -> bool
         ensures { λ r. ⌜ r ≡ rowInRange self ⌝ }
     {
@@ -107,7 +107,7 @@ impl Row {
     }
 }
 
-// Whether a value is from 1 to its limit.
+// `within_limit` tests whether a value is from 1 to its limit. (3.2)
 fn within_limit(most: u64, value: u64) -> bool
     ensures { λ r. ⌜ r ≡ fine (withinLimit most value) ⌝ }
 {
@@ -115,12 +115,12 @@ fn within_limit(most: u64, value: u64) -> bool
 }
 
 impl Table {
-    // A table has room for so many rows.
+    // A table has room for this many rows. (3.1)
     pub const MAX_ROWS: usize = 16;
-    // The most that H may be.
+    // H may be at most this. (3.4)
     pub const MAX_PERIOD: u64 = 1_048_576;
 
-    // The table with no rows.
+    // The empty table has no rows. (3.15)
     pub fn empty() -> Table
         ensures { λ r. ⌜ r ≡ emptyTable ⌝ }
     {
@@ -135,7 +135,7 @@ impl Table {
         }
     }
 
-    // The y of each row; those of the rows in use are the first `count`.
+    // The y of every row is listed. Those of the rows in use are the first `count`. (3.14)
     fn ys(self) -> [u64; Table::MAX_ROWS]
         ensures { λ r. ⌜ r ≡ ysOf (self .rows) ⌝ }
     {
@@ -149,7 +149,7 @@ impl Table {
         ys
     }
 
-    // The limits of the code are those of the rules.
+    // The contract ties the limits in the code to those in the definitions.
     pub fn limits() -> Limits
         ensures { λ r. ⌜ r ≡ limits ⌝ }
     {
@@ -164,7 +164,7 @@ impl Table {
     }
 }
 
-// The empty table, with the refusal.
+// For a refused table the empty table is answered, beside the refusal. (10.5)
 fn refused(at: RefusedAt) -> TableRead
     ensures { λ r. ⌜ r ≡ refusedTable at ⌝ }
 {
@@ -174,7 +174,7 @@ fn refused(at: RefusedAt) -> TableRead
     }
 }
 
-// The table that the bytes spell, or the refusal with its place.
+// The answer is the table that the bytes spell, or the refusal with its place. (3.6, 3.7, 3.13)
 pub fn read_table(bytes: &[u8]) -> TableRead
     ensures { λ r. ⌜ r ≡ tableRead (now (bytes .entry)) ⌝ }
 {

@@ -1,4 +1,4 @@
-// How rows are read: a value, a row of four values, and rows one after another behind their count. (docs/RULES.md, 3.6 to 3.10.)
+// How rows are read: a value, a row of four values, and rows one after another after their count. (docs/RULES.md, 3.6 to 3.10.)
 use crate::Row;
 use crate::RowAt;
 use crate::RowRead;
@@ -13,7 +13,7 @@ ghost use mathlib.Core.Path.{_≡_};
 ghost use Rattle.table.specs.Rows.{withinLimit, readValue, readRow};
 ghost use Rattle.table.specs.Tables.{refused, rowsFrom, heldAs};
 
-// One value of a row, tested as it is read.
+// A value of a row is tested as it is read, before the next is looked at. (3.7, 3.10)
 fn read_value(bytes: &[u8], at: usize, most: u64) -> NumberRead
     ensures { λ r. ⌜ r ≡ readValue (withinLimit most) (now (bytes .entry)) at ⌝ }
 {
@@ -32,7 +32,7 @@ fn read_value(bytes: &[u8], at: usize, most: u64) -> NumberRead
     }
 }
 
-// Four values, left to right.
+// A row is read as x, y, d and c, from left to right. (3.6, 3.7)
 fn read_row(bytes: &[u8], at: usize) -> RowRead
     ensures { λ r. ⌜ r ≡ readRow (now (bytes .entry)) at ⌝ }
 {
@@ -63,7 +63,7 @@ fn read_row(bytes: &[u8], at: usize) -> RowRead
     })
 }
 
-// No rows, with the refusal.
+// If rows are refused, no row is in use.
 fn refused_rows(at: RefusedAt) -> RowsRead
     ensures { λ r. ⌜ r ≡ heldAs (refused at) ⌝ }
 {
@@ -76,7 +76,7 @@ fn refused_rows(at: RefusedAt) -> RowsRead
     }
 }
 
-// The row count at a place, and the rows behind it.
+// The row count is read at a place, and then the rows after it. (3.6, 3.7, 3.9)
 pub(crate) fn read_rows(bytes: &[u8], at: usize) -> RowsRead
     ensures { λ r. ⌜ r ≡ heldAs (rowsFrom (now (bytes .entry)) at) ⌝ }
 {

@@ -1,6 +1,6 @@
--- Jobs of a row that are all released at zero, at full cost. They come by the rule and are due in batches of x, y apart: job number n, counted from 0, is
--- due at d + floor(n/x) · y. So the first `rowJobs` of them are due within L and no other is: the bound on a row's jobs in a window is reached, and those jobs
--- cost the row's demand. They are numbered from the first name on.
+-- Jobs of a row that are all released at zero and at full cost. They are due in batches of x jobs, y ticks apart: job number n, counted from 0, is due at
+-- d + floor(n/x) · y. So exactly the first `rowJobs` of them are due within L. The bound on a row's jobs in a window is reached, and these jobs cost the row's
+-- demand.
 use Prim.Native.Nat.{ℕ, zero, suc, _+_, _-_, _*_, _/_, _≤_, _<_, min}
 use mathlib.Core.Path.{_≡_, refl}
 use mathlib.Core.Logic.{_≢_}
@@ -19,7 +19,7 @@ use Rattle.theory.proofs.Demand.{batches}
 use Rattle.theory.proofs.DueTimes.{due-of-the-first, due-of-the-further}
 
 module _ (x y d c source first : ℕ) where
-  -- The first n jobs, newest first.
+  -- The list of the first n jobs, newest first.
   abbrev firstJobs : ℕ → List Job
   firstJobs n = allAtZero x y d c source first n
 
@@ -27,37 +27,37 @@ module _ (x y d c source first : ℕ) where
   abbrev number : ℕ → Job
   number n = record { name = first + n; source = source; release = 0; due = dueTime x y d (dues (firstJobs n)) 0; cost = c }
 
-  -- What holds of each number below n holds of all of the first n jobs.
+  -- Where each job with a number below n has a property, all of the first n jobs have it.
   all-of-the-first : (P : Job → Type 0) (n : ℕ) → ((i : ℕ) → i < n → P (number i)) → All P (firstJobs n)
   unfolding allAtZero
   all-of-the-first P zero f = tt
   all-of-the-first P (suc n) f = (f n (omega arith), all-of-the-first P n λ i h. f i (omega arith))
 
-  -- The first n jobs are n jobs ..
+  -- The list of the first n jobs has n elements.
   length-of-the-first : (n : ℕ) → length (firstJobs n) ≡ n
   unfolding allAtZero
   length-of-the-first zero = refl
   length-of-the-first (suc n) = omega (arith, length-of-the-first n)
 
-  -- .. and cost n · c.
+  -- The first n jobs together cost n · c.
   cost-of-the-first : (n : ℕ) → total (λ j. j .cost) (firstJobs n) ≡ n * c
   unfolding allAtZero total
   cost-of-the-first zero = omega arith
   cost-of-the-first (suc n) = omega (arith, cost-of-the-first n)
 
-  -- No two have one name.
+  -- No two of the first n jobs have the same name.
   distinct-names : (n : ℕ) → DistinctNames (firstJobs n)
   unfolding allAtZero
   distinct-names zero = tt
   distinct-names (suc n) = (all-of-the-first (λ j. j .name ≢ first + n) n (λ i h e. omega arith), distinct-names n)
 
-  -- The newest is released at zero ..
+  -- The newest of the first n jobs is released at zero.
   latest-at-zero : (n : ℕ) → latest (firstJobs n) ≡ 0
   unfolding allAtZero
   latest-at-zero zero = refl
   latest-at-zero (suc n) = refl
 
-  -- .. and each comes by the rule.
+  -- Each of the first n jobs has the due time of the rules.
   pub all-at-zero-by-rule : (n : ℕ) → ByRule x y d c (firstJobs n)
   unfolding ByRule allAtZero
   all-at-zero-by-rule zero = tt
@@ -65,7 +65,7 @@ module _ (x y d c source first : ℕ) where
       (record { in-order = omega (arith, latest-at-zero n); due-by-rule = refl; cost-at-most = le-refl c }, all-at-zero-by-rule n)
 
   module _ (px : 1 ≤ x) where
-    -- Job number n is due at d + floor(n/x) · y if the job x before it, where there is one, is due so.
+    -- Job number n is due at d + floor(n/x) · y, if the x-th job before it, where there is one, is due at d + floor((n − x)/x) · y.
     due-one-batch-later : (n : ℕ) → (x ≤ n → getD (dues (firstJobs n)) (x - 1) 0 ≡ d + (n - x) / x * y) → number n .due ≡ d + n / x * y
     due-one-batch-later n before =
         let many : length (dues (firstJobs n)) ≡ n = simp length-map (length-of-the-first n) in
@@ -73,7 +73,7 @@ module _ (x y d c source first : ℕ) where
         (λ h. rw (due-of-the-first x y d (dues (firstJobs n)) 0 (omega arith), div-eq-of-lt h) (omega arith))
         (λ h. rw (due-of-the-further x y d (dues (firstJobs n)) 0 (omega arith), before h, div-eq-sub-div px h) (omega arith))
 
-    -- So are all of them: k places behind the newest of the first n stands job number n - (k + 1).
+    -- Each of the first n jobs is due as its number says: k places behind the newest stands job number n − (k + 1).
     due-behind : (n k : ℕ) → k < n → getD (dues (firstJobs n)) k 0 ≡ d + (n - suc k) / x * y
     unfolding allAtZero
     due-behind zero k h = absurd (omega arith)
@@ -88,19 +88,19 @@ module _ (x y d c source first : ℕ) where
     due-by-batch n = rw (suc-sub-suc, sub-zero) at (due-behind (suc n) zero (omega arith))
 
     module _ (py : 1 ≤ y) (L : ℕ) where
-      -- The numbers below `rowJobs` are due within L ..
+      -- The jobs with numbers below `rowJobs` are due within L.
       number-due-within : (n : ℕ) → n < rowJobs x y d L → number n .due ≤ L
       number-due-within n h =
           let t = batches x y d L py in
           rw (due-by-batch n) (t .due-within (n / x) (div-lt-iff-lt-mul px .1 (rw (t .all-their-jobs) at h)))
 
-      -- .. and the others after L.
+      -- The jobs with numbers from `rowJobs` on are due after L.
       number-due-after : (n : ℕ) → rowJobs x y d L ≤ n → L < number n .due
       number-due-after n h =
           let t = batches x y d L py in
           omega (arith, due-by-batch n, mul-le-mul-right y (le-div-iff-mul-le px .1 (rw (t .all-their-jobs) at h)))
 
-      -- Of the first n jobs, `rowJobs` are due within L, or all n if they are fewer.
+      -- Of the first n jobs, the smaller of n and `rowJobs` are due within L.
       jobs-due-within : (n : ℕ) → jobsIn 0 L (firstJobs n) ≡ min n (rowJobs x y d L)
       unfolding allAtZero weighed total
       jobs-due-within zero = omega arith
@@ -108,22 +108,22 @@ module _ (x y d c source first : ℕ) where
           (λ h. omega (arith, weight-inside (λ _. 1) 0 L (number n) (le-refl 0) (number-due-within n h), jobs-due-within n))
           (λ h. omega (arith, weight-late (λ _. 1) 0 L (number n) (number-due-after n h), jobs-due-within n))
 
--- They come by the rule, and exactly `rowJobs` of them are due within L, if so many come.
+-- The first n jobs have the due times of the rules, and exactly `rowJobs` of them are due within L, where n is at least `rowJobs`.
 pub bound-is-reached : BoundIsReached
 bound-is-reached x y d c source first L n px py h =
     (all-at-zero-by-rule x y d c source first n, omega (arith, jobs-due-within x y d c source first px py L n))
 
--- The first `rowJobs` are due within L ..
+-- The first `rowJobs` jobs are due within L.
 pub first-are-due-within : FirstAreDueWithin
 first-are-due-within x y d c source first L n px py h =
     all-of-the-first x y d c source first (λ j. j .due ≤ L) n (λ i k. number-due-within x y d c source first px py L i (omega arith))
 
--- .. and cost the row's demand in L.
+-- The first `rowJobs` jobs together cost the row's demand in L.
 pub first-cost-the-demand : FirstCostTheDemand
 unfolding rowDemand
 first-cost-the-demand x y d c source first L = cost-of-the-first x y d c source first (rowJobs x y d L)
 
--- They are numbered from the first name on.
+-- The first n jobs are named from the first name on.
 pub all-at-zero-are-numbered : AllAtZeroAreNumbered
 all-at-zero-are-numbered x y d c source first n = record {
   distinct = distinct-names x y d c source first n;

@@ -1,4 +1,4 @@
--- The two cases of an order, of an equation and of a test, each handed to its continuation as a typed hypothesis that `omega` reads.
+-- Proofs by two cases: for an order, an equation or a test. Each case hands its hypothesis on with a type that `omega` can read.
 use Prim.Native.Nat.{ℕ, _≤_, _<_}
 use mathlib.Core.Path.{_≡_, refl}
 use mathlib.Core.Logic.{_≢_}
@@ -6,7 +6,7 @@ use mathlib.Core.Bool.{Bool, true, false}
 use native.Mathlib.Decide.{decLt, ℕ-discrete}
 use native.Mathlib.Omega.{arith}
 
--- a is below b, or it is not.
+-- What follows both where a is below b and where it is not holds in any case.
 pub by-lt {ℓ} : {G : Type ℓ} (a b : ℕ) → (a < b → G) → (b ≤ a → G) → G
 by-lt {G = G} a b f g = go (decLt a b)
   where
@@ -14,7 +14,7 @@ by-lt {G = G} a b f g = go (decLt a b)
     go (yes h) = f h
     go (no h) = g (omega arith)
 
--- a is b, or it is not.
+-- What follows both where a equals b and where it does not holds in any case.
 pub by-eq {ℓ} : {G : Type ℓ} (a b : ℕ) → (a ≡ b → G) → (a ≢ b → G) → G
 by-eq {G = G} a b f g = go (ℕ-discrete a b)
   where
@@ -22,7 +22,7 @@ by-eq {G = G} a b f g = go (ℕ-discrete a b)
     go (yes h) = f h
     go (no h) = g h
 
--- A test says yes, or no.
+-- What follows both where a test is true and where it is false holds in any case.
 pub by-test {ℓ} : {G : Type ℓ} (test : Bool) → (test ≡ true → G) → (test ≡ false → G) → G
 by-test true f g = f refl
 by-test false f g = g refl

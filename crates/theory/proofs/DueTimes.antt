@@ -1,5 +1,5 @@
--- What the rule for due times gives by itself. A due time is the least number that is d after the release and, after x jobs, y after the due time of the x-th
--- job before it. From these three facts follow the paper's recurrence, the spacing by y, the order of the due times, and that the newest x of them are enough.
+-- The proofs about due times. A due time is the least time that is at least d after the release and, from x earlier jobs on, at least y after the due time of
+-- the x-th job before it. From these three facts follow the paper's recurrence, the spacing by y, the order of the due times, and that the newest x are enough.
 use Prim.Native.Nat.{ℕ, zero, suc, _+_, _-_, _≤_, _<_, max}
 use mathlib.Core.Path.{_≡_}
 use mathlib.Core.List.{List, [], _∷_}
@@ -17,36 +17,37 @@ use Rattle.theory.proofs.Cases.{by-lt}
 -- ---- one due time
 
 module _ (x y d : ℕ) (earlier : List ℕ) (t : ℕ) where
-  -- No job is due sooner than d after its release ..
+  -- No job is due sooner than d ticks after its release.
   pub due-time-at-least-d : t + d ≤ dueTime x y d earlier t
   unfolding dueTime
   due-time-at-least-d = by-lt (length earlier) x
       (λ h. rw (lt-ltb (length earlier) x h) (omega arith))
       (λ h. rw (le-ltb (length earlier) x h) (omega arith))
 
-  -- .. nor, after x jobs, sooner than y after the due time of the x-th job before it ..
+  -- A job with x earlier jobs or more is not due sooner than y ticks after the due time of the x-th job before it.
   pub due-time-spaced-by-y : x ≤ length earlier → getD earlier (x - 1) 0 + y ≤ dueTime x y d earlier t
   unfolding dueTime
   due-time-spaced-by-y h = rw (le-ltb (length earlier) x h) (omega arith)
 
-  -- .. nor later than these two ask for.
+  -- No job is due later than at the first time that is d ticks after its release and, with x earlier jobs or more, y ticks after the due time of the x-th job
+  -- before it.
   pub due-time-is-least : (b : ℕ) → t + d ≤ b → (x ≤ length earlier → getD earlier (x - 1) 0 + y ≤ b) → dueTime x y d earlier t ≤ b
   unfolding dueTime
   due-time-is-least b after-release after-earlier = by-lt (length earlier) x
       (λ h. rw (lt-ltb (length earlier) x h) after-release)
       (λ h. rw (le-ltb (length earlier) x h) (omega (arith, after-earlier h)))
 
-  -- So the first x jobs are due d after their release ..
+  -- The first x jobs are due d ticks after their release.
   pub due-of-the-first : length earlier < x → dueTime x y d earlier t ≡ t + d
   due-of-the-first h = omega (arith, due-time-at-least-d, due-time-is-least (t + d) (le-refl _) (λ k. absurd (omega arith)))
 
-  -- .. and each further one then, or y after the due time of the x-th job before it, whichever is later.
+  -- Each job after the first x is due d ticks after its release, or y ticks after the due time of the x-th job before it, whichever is later.
   pub due-of-the-further : x ≤ length earlier → dueTime x y d earlier t ≡ max (t + d) (getD earlier (x - 1) 0 + y)
   due-of-the-further h =
       let least = due-time-is-least (max (t + d) (getD earlier (x - 1) 0 + y)) (omega arith) (λ k. omega arith) in
       omega (arith, due-time-at-least-d, due-time-spaced-by-y h, least)
 
--- The newest x due times are enough.
+-- The due time of the next job depends only on the newest x due times.
 pub newest-are-enough : NewestAreEnough
 newest-are-enough x y d earlier t px = by-lt (length earlier) x
     (λ h. rw (due-of-the-first x y d earlier t h, due-of-the-first x y d (take x earlier) t (omega (arith, length-take x earlier))))
@@ -56,19 +57,19 @@ newest-are-enough x y d earlier t px = by-lt (length earlier) x
 
 -- ---- each due time of a row
 
--- The due times that stand behind place i.
+-- The due times that stand behind place i: those of the jobs that came before the job at place i.
 abbrev behind : List Job → (i : ℕ) → List ℕ
 behind js i = drop (suc i) (dues js)
 
--- These are all but i + 1 ..
+-- Behind place i stand all due times but i + 1.
 length-behind : (js : List Job) (i : ℕ) → length (behind js i) ≡ length js - suc i
 length-behind js i = simp (length-drop, length-map)
 
--- .. and the x-th of them stands at place i + x.
+-- The x-th due time behind place i stands at place i + x.
 xth-behind : (js : List Job) (i x : ℕ) → 1 ≤ x → getD (behind js i) (x - 1) 0 ≡ getD (dues js) (i + x) 0
 xth-behind js i x px = let e : suc i + (x - 1) ≡ i + x = omega arith in rw (getD-drop, e)
 
--- The due time at place i is by the rule, after those behind it.
+-- The due time at place i is that of the rules after the due times behind it.
 pub due-by-rule-at : (x y d c : ℕ) (js : List Job) → ByRule x y d c js → (i : ℕ) → i < length js
     → getD (dues js) i 0 ≡ dueTime x y d (behind js i) (getD (releases js) i 0)
 unfolding ByRule
@@ -76,7 +77,8 @@ due-by-rule-at x y d c [] r i h = absurd (omega arith)
 due-by-rule-at x y d c (j ∷ js) r zero h = r .0 .due-by-rule
 due-by-rule-at x y d c (j ∷ js) r (suc i) h = due-by-rule-at x y d c js (r .1) i (omega arith)
 
--- The j-th job stands at place length − j, with j − 1 behind it of which the job j − x is the x-th: so the rule is the paper's recurrence.
+-- The due times of the rules satisfy the paper's recurrence. The j-th job stands at place length − j, with j − 1 jobs behind it, and the x-th of these is job
+-- j − x.
 pub due-by-recurrence-one : DueByRecurrenceOne
 due-by-recurrence-one x y d c js px r = record {
   up-to-x = λ j p h l.
@@ -96,7 +98,8 @@ due-by-recurrence-one x y d c js px r = record {
     many-releases : length (releases js) ≡ length js
     many-releases = length-map js (λ j. j .release)
 
--- Two sequences that satisfy the recurrence agree on the first m jobs: past x each due time rests on that of the x-th job before.
+-- Two sequences of due times that satisfy the recurrence agree on the first m jobs. After the first x jobs, each due time depends on that of the x-th job
+-- before.
 agree-up-to : (x y d n : ℕ) (t D E : ℕ → ℕ) → 1 ≤ x → RecurrenceOne x y d n t D → RecurrenceOne x y d n t E
     → (m j : ℕ) → 1 ≤ j → j ≤ n → j ≤ m → D j ≡ E j
 agree-up-to x y d n t D E px p q zero j some few up = absurd (omega arith)
@@ -109,24 +112,24 @@ agree-up-to x y d n t D E px p q (suc m) j some few up = by-lt x j
 pub recurrence-settles : RecurrenceSettles
 recurrence-settles x y d n t D E px p q j some few = agree-up-to x y d n t D E px p q n j some few few
 
--- The due time at place i is at least d after the release ..
+-- The due time at place i is at least d ticks after the release of its job.
 pub due-at-least-d-at : (x y d c : ℕ) (js : List Job) → ByRule x y d c js → (i : ℕ) → i < length js → getD (releases js) i 0 + d ≤ getD (dues js) i 0
 due-at-least-d-at x y d c js r i h =
     omega (arith, due-by-rule-at x y d c js r i h, due-time-at-least-d x y d (behind js i) (getD (releases js) i 0))
 
--- .. and at least y after the one x places behind it.
+-- The due time at place i is at least y ticks after the due time x places behind it.
 pub due-spaced-by-y : DueSpacedByY
 due-spaced-by-y x y d c js px r i h =
     let spaced = due-time-spaced-by-y x y d (behind js i) (getD (releases js) i 0) (omega (arith, length-behind js i)) in
     omega (arith, spaced, due-by-rule-at x y d c js r i (omega arith), xth-behind js i x px)
 
--- Each job is due at least d after its release.
+-- Each job is due at least d ticks after its release.
 pub due-at-least-d : DueAtLeastD
 unfolding ByRule
 due-at-least-d x y d c [] r = tt
 due-at-least-d x y d c (j ∷ js) r = (omega (arith, due-time-at-least-d x y d (dues js) (j .release)), due-at-least-d x y d c js (r .1))
 
--- The due time one place behind another is no later.
+-- The due time at place i + 1 is no later than the due time at place i.
 no-later-behind : (x y d c : ℕ) (js : List Job) → ByRule x y d c js → (i : ℕ) → getD (dues js) (suc i) 0 ≤ getD (dues js) i 0
 unfolding ByRule
 no-later-behind x y d c [] r i = omega arith

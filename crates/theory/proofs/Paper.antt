@@ -1,5 +1,5 @@
--- The paper's Lemma 4.1 is a row's demand. Where L is at or above d, L − d + y is L − d and one y more, so its floor is one more. Where L is below d, L − d + y
--- is below y: its floor is 0 or negative, and the paper's f makes both 0.
+-- The proof that the expression of the paper's Lemma 4.1 equals a row's demand. Where L ≥ d, floor((L − d + y)/y) is floor((L − d)/y) + 1. Where L < d,
+-- L − d + y is below y, so that the floor is 0 or negative, and the paper's f makes both 0.
 use Prim.Native.Nat.{ℕ, zero, suc, _+_, _-_, _*_, _/_, _%_, _≤_, _<_}
 use mathlib.Core.Path.{_≡_, ap}
 use native.Mathlib.Omega.{arith}
@@ -10,17 +10,17 @@ use Rattle.theory.specs.Paper.{paperDemand, FloorIsFloor, DemandIsLemma4
 use Rattle.theory.proofs.Cases.{by-lt}
 use Rattle.theory.proofs.Demand.{no-demand-below-d, demand-from-d}
 
--- A difference that is not negative.
+-- Where b is at most a, the integer a − b is the natural number a − b.
 not-negative : (a b : ℕ) → b ≤ a → pos a -ℤ pos b ≡ pos (a - b)
 not-negative a zero h = ap pos (omega arith)
 not-negative a (suc b) h = rw (le-ltb a (suc b) h)
 
--- A negative difference.
+-- Where a is below b, the integer a − b is negative: it is −((b − (a + 1)) + 1).
 negative : (a b : ℕ) → a < b → pos a -ℤ pos b ≡ negsuc (b - suc a)
 negative a zero h = absurd (omega arith)
 negative a (suc b) h = rw (lt-ltb a (suc b) h)
 
--- `floorDiv` is the floor: of a negative number the rest is what is missing to the next multiple of y.
+-- `floorDiv` is the floor. For a negative number, the rest is its distance from the multiple of y at or below it.
 pub floor-is-floor : FloorIsFloor
 floor-is-floor (pos n) y p = (n % y, mod-lt n p, ap pos (omega (arith, div-add-mod' n y)))
 floor-is-floor (negsuc n) y p =
@@ -30,12 +30,12 @@ floor-is-floor (negsuc n) y p =
     let whole = suc (n / y) * y in
     (rest, omega arith, rw (+ℤ-comm (negℤ (pos whole)) (pos rest), negative rest whole (omega arith)) (ap negsuc (omega arith)))
 
--- From d on the paper's floor is one more than the floor of (L − d)/y.
+-- Where L ≥ d, the floor in the paper's expression is floor((L − d)/y) + 1.
 paper-from-d : (x y d c L : ℕ) → 1 ≤ y → d ≤ L → paperDemand x y d c L ≡ ((L - d) / y + 1) * (x * c)
 unfolding paperDemand
 paper-from-d x y d c L p h = rw (not-negative L d h, add-div-right (L - d) p)
 
--- Below d the paper's expression is 0.
+-- Where L < d, the paper's expression is 0.
 paper-below-d : (x y d c L : ℕ) → L < d → paperDemand x y d c L ≡ 0
 unfolding paperDemand
 paper-below-d x y d c L h =
@@ -44,7 +44,7 @@ paper-below-d x y d c L h =
     (λ k. rw (negative L d h, negative y missing k) (omega arith))
     (λ k. rw (negative L d h, not-negative y missing k, div-eq-of-lt {n = y - missing} {m = y} (omega arith)) (omega arith))
 
--- A row's demand is the paper's expression.
+-- A row's demand equals the paper's expression.
 pub demand-is-lemma41 : DemandIsLemma41
 demand-is-lemma41 x y d c L p = by-lt L d
     (λ h. rw (no-demand-below-d x y d c L h, paper-below-d x y d c L h))

@@ -1,7 +1,7 @@
--- No assignment gives more units in a window than the window has free ticks. A tick goes to one name at most, so of jobs of distinct names at most one has a
--- unit of it, and none if it is taken; summed over the ticks of a window, the jobs' units are at most its free ticks. A job that is released and due inside
--- the window, and is given its cost in time, has had its cost there. So where every due time is met no window asks for more than its free ticks; and jobs that
--- are due by L and cost more than the free ticks before L ask for too much in the window from zero to L.
+-- The proofs about schedules of any kind. A tick goes to at most one name, so of jobs with distinct names at most one gets a unit from it, and none if it is
+-- taken. Added up over a window, the jobs get at most as many units as it has free ticks. A job that is released and due inside the window, and is given its
+-- cost in time, gets its cost there. So where every due time is met, no window asks for more than its free ticks. Jobs that are due by L and cost more than the
+-- free ticks before L ask for too much in the window from zero to L.
 use Prim.Native.Nat.{ℕ, _+_, _-_, _≤_}
 use mathlib.Core.Path.{_≡_, refl}
 use mathlib.Core.Bool.{Bool, true, false, cond}
@@ -21,11 +21,11 @@ use Rattle.theory.proofs.Ticks.{had-either-way, had-by-its-own}
 
 -- ---- one tick
 
--- A tick that goes to nobody is had by no job.
+-- A tick that goes to nobody gives no job a unit.
 nobody-has-it : (js : List Job) → total (λ j. had (j .name) none) js ≡ 0
 nobody-has-it js = total-zero (λ j. had (j .name) none) js (all-of (λ j. refl) js)
 
--- Of jobs of distinct names at most one has a tick.
+-- Of jobs with distinct names at most one has a given tick.
 one-has-it : (tick : Option ℕ) (js : List Job) → DistinctNames js → total (λ j. had (j .name) tick) js ≤ 1
 unfolding weighed
 one-has-it none js distinct = omega (arith, nobody-has-it js)
@@ -35,20 +35,20 @@ one-has-it (some n) js distinct =
 
 -- ---- the ticks of a window
 
--- What a job asks for in a window.
+-- What a job asks for in a window: its cost if it is released and due inside, and otherwise 0.
 abbrev cost-in : (a b : ℕ) → Job → ℕ
 cost-in a b = weightIf (within a b) (λ j. j .cost)
 
 module _ (taken : ℕ → Bool) (who : ℕ → Option ℕ) where
-  -- What a job has of the tick t.
+  -- How many units a job gets from the tick that starts at t.
   abbrev has-at : (t : ℕ) → Job → ℕ
   has-at t j = cond (taken t) 0 (had (j .name) (who t))
 
-  -- What a job has of the ticks before t.
+  -- How many units a job gets from the ticks before t.
   abbrev has-before : (t : ℕ) → Job → ℕ
   has-before t j = unitsBefore taken who (j .name) t
 
-  -- Jobs of distinct names have together one unit of a tick at most, and none if it is taken.
+  -- Jobs with distinct names together get at most one unit from a tick, and none if it is taken.
   one-unit-a-free-tick : (t : ℕ) (js : List Job) → DistinctNames js → total (has-at t) js ≤ cond (taken t) 0 1
   one-unit-a-free-tick t js distinct = go (taken t)
     where
@@ -56,7 +56,7 @@ module _ (taken : ℕ → Bool) (who : ℕ → Option ℕ) where
       go true = omega (arith, nobody-has-it js)
       go false = one-has-it (who t) js distinct
 
-  -- In a window jobs of distinct names have together no more units than it has free ticks.
+  -- Jobs with distinct names together get no more units in a window than it has free ticks.
   units-fit : (a b : ℕ) (js : List Job) → DistinctNames js → a ≤ b
       → total (has-before b) js + freeBefore taken a ≤ total (has-before a) js + freeBefore taken b
   unfolding freeBefore unitsBefore
@@ -67,12 +67,12 @@ module _ (taken : ℕ → Bool) (who : ℕ → Option ℕ) where
       b
       h
 
-  -- A job's units never fall.
+  -- A job has had no fewer units at a later time.
   units-grow : (a b : ℕ) (j : Job) → a ≤ b → has-before a j ≤ has-before b j
   unfolding unitsBefore
   units-grow a b j h = le-ind (λ t. has-before a j ≤ has-before t j) (le-refl _) (λ t l k. omega arith) b h
 
-  -- What a job asks for in a window it has had there, where its due time is met.
+  -- A job whose due time is met gets in a window what it asks for there.
   had-what-it-asked : (a b : ℕ) → a ≤ b → (j : Job) → j .cost ≤ unitsIn taken who (j .name) (j .release) (j .due)
       → cost-in a b j + has-before a j ≤ has-before b j
   unfolding unitsIn
@@ -82,37 +82,37 @@ module _ (taken : ℕ → Bool) (who : ℕ → Option ℕ) where
       by-lt b (j .due) (λ l. omega (arith, weight-late (λ i. i .cost) a b j l)) λ l.
       omega (arith, weight-inside (λ i. i .cost) a b j k l, units-grow a (j .release) j k, units-grow (j .due) b j l)
 
-  -- What jobs ask for together in a window they have had there, where their due times are met.
+  -- Jobs whose due times are met together get in a window what they ask for there.
   had-what-they-asked : (a b : ℕ) (js : List Job) → a ≤ b → Meets taken who js → asked a b js + total (has-before a) js ≤ total (has-before b) js
   unfolding weighed
   had-what-they-asked a b js h met = rw (← total-plus (cost-in a b) (has-before a) js)
       (total-monotone (λ j. cost-in a b j + has-before a j) (has-before b) js (all-imply (λ j m. had-what-it-asked a b h j (omega (arith, m))) js met))
 
--- So where every due time is met, no window asks for more than its free ticks.
+-- Where every due time is met, no window asks for more than its free ticks.
 pub windows-fit : WindowsFit
 unfolding free
 windows-fit taken who js distinct met a b h = omega (arith, units-fit taken who a b js distinct h, had-what-they-asked taken who a b js h met)
 
 -- ---- the window from zero to L
 
--- There jobs that are due by L ask for all that they cost.
+-- Jobs that are due by L ask in the window from zero to L for all that they cost.
 all-asked-by : (L : ℕ) (js : List Job) → All (λ j. j .due ≤ L) js → total (λ j. j .cost) js ≤ asked 0 L js
 unfolding weighed
 all-asked-by L js due =
     total-monotone (λ j. j .cost) (cost-in 0 L) js (all-imply (λ j k. omega (arith, weight-inside (λ i. i .cost) 0 L j (omega arith) k)) js due)
 
--- So they can't all be met where they cost more than the free ticks before L.
+-- No assignment meets all due times of jobs that are due by L and cost more than the free ticks before L.
 pub overload : Overload
 overload taken L js distinct due more who met = omega (arith, all-asked-by L js due, windows-fit taken who js distinct met 0 L (omega arith))
 
--- The same of the jobs of several sources.
+-- No assignment meets all due times of the jobs of several sources, where these are due by L and together cost more than the free ticks before L.
 pub overload-of-sources : OverloadOfSources
 overload-of-sources taken L lists distinct due more =
     overload taken L (flatten lists) distinct (all-flatten (λ j. j .due ≤ L) lists due) (rw (total-flatten (λ j. j .cost) lists) more)
 
--- ---- ticks on end
+-- ---- consecutive ticks
 
--- Over a stretch that is all free and all given to it, a job has a unit more with each tick.
+-- Where every tick from a on and before b is free and given to a job, the job has b − a more units at b than at a.
 units-of-a-stretch-before : (taken : ℕ → Bool) (who : ℕ → Option ℕ) (n a b : ℕ) → a ≤ b → GivesAll taken who n a b
     → unitsBefore taken who n b ≡ unitsBefore taken who n a + (b - a)
 unfolding unitsBefore

@@ -1,6 +1,6 @@
--- A trace is a schedule. Its ticks, read as an assignment, give each name as many units before a time as the trace gave by then: a later tick changes nothing
--- before it. Where no window asks for more than its free ticks, a job that is due at the clock has had its cost there, by the law of earliest due first at that
--- clock; so it is at every due time that has come, by induction on the trace.
+-- The proofs about traces as schedules. The ticks of a trace, read as an assignment, give each name as many units before a time as the trace gave by then,
+-- since a later tick changes nothing before it. Where no window asks for more than its free ticks, a job that is due at the clock has had its cost by then. By
+-- induction on the trace the same is proved for every due time up to the clock.
 use Prim.Native.Nat.{ℕ, zero, suc, _+_, _≤_, _<_}
 use mathlib.Core.Path.{_≡_, refl, sym, ap, _∙_}
 use mathlib.Core.Bool.{Bool, cond}
@@ -12,7 +12,7 @@ use borrow.Author.Tests.{eq-eqb, ne-eqb}
 use Rattle.theory.specs.Lists.{All, total}
 use Rattle.theory.specs.Jobs.{Job, DistinctNames, weighed, asked}
 use Rattle.theory.specs.Ticks.{free, had}
-use Rattle.theory.specs.Trace.{Waiting, units, Trace, begin, accept, lost, idle, serve, leave, EarliestDueFirst, NeverIdlesInVain}
+use Rattle.theory.specs.Trace.{Waiting, units, Trace, begin, accept, lost, idle, serve, leave, ServesEarliestDue, NeverIdlesInVain}
 use Rattle.theory.specs.Trace.{ServedOrEnded, served, ended}
 use Rattle.theory.specs.Schedules.{unitsBefore, unitsIn, whoHad, TraceIsASchedule, NothingBeforeRelease, EarliestDueMeets, EarliestDueIsOptimal}
 use Rattle.theory.proofs.Cases.{by-lt}
@@ -25,13 +25,13 @@ use Rattle.theory.proofs.Schedules.{windows-fit}
 -- ---- one tick more
 
 module _ (taken : ℕ → Bool) (tick : Option ℕ) (earlier : List (Option ℕ)) (n : ℕ) where
-  -- A tick changes nothing before it.
+  -- A new tick does not change the units given before it.
   units-earlier : (t : ℕ) → t ≤ length earlier → unitsBefore taken (whoHad (tick ∷ earlier)) n t ≡ unitsBefore taken (whoHad earlier) n t
   unfolding unitsBefore whoHad
   units-earlier zero h = refl
   units-earlier (suc t) h = rw (ne-eqb t (length earlier) (λ e. omega arith), units-earlier t (omega arith))
 
-  -- A tick gives its unit to whoever has it, unless it is taken.
+  -- A new tick gives one unit to the job that has it, unless the tick is taken.
   units-newest : (t : ℕ) → length earlier ≡ t
       → unitsBefore taken (whoHad (tick ∷ earlier)) n (suc t) ≡ cond (taken t) 0 (had n tick) + unitsBefore taken (whoHad earlier) n t
   unfolding unitsBefore whoHad
@@ -57,7 +57,7 @@ trace-is-a-schedule {taken = taken} (serve {t = t} {ticks = ticks} r k j left fr
     omega (arith, rw k at (units-newest taken (some (j .name)) ticks n t (one-entry-a-tick r)), trace-is-a-schedule r n)
 trace-is-a-schedule (leave r w from) n = trace-is-a-schedule r n
 
--- What holds of the units before the releases of accepted jobs holds after one tick more.
+-- Where no accepted job was given a unit before its release, this is still so after one more tick.
 still-nothing : (taken : ℕ → Bool) (t : ℕ) (tick : Option ℕ) (ticks : List (Option ℕ)) (accepted : List Job) → length ticks ≡ t
     → All (λ j. j .release ≤ t) accepted → All (λ j. unitsBefore taken (whoHad ticks) (j .name) (j .release) ≡ 0) accepted
     → All (λ j. unitsBefore taken (whoHad (tick ∷ ticks)) (j .name) (j .release) ≡ 0) accepted
@@ -78,7 +78,7 @@ nothing-before-release {taken = taken} (serve {t = t} {accepted = js} {ticks = t
     still-nothing taken t (some (j .name)) ticks js (one-entry-a-tick r) (released-by-the-clock r) (nothing-before-release r distinct)
 nothing-before-release (leave r w from) distinct = nothing-before-release r distinct
 
--- ---- every due time that has come
+-- ---- every due time up to the clock
 
 -- No window asks for more than its free ticks.
 abbrev Fits : (taken : ℕ → Bool) → List Job → Type 0
@@ -88,18 +88,19 @@ Fits taken js = (a b : ℕ) → a ≤ b → asked a b js ≤ free taken a b
 abbrev HadByDue : (taken : ℕ → Bool) (t : ℕ) → List Job → List (Option ℕ) → Type 0
 HadByDue taken t js ticks = All (λ j. j .due ≤ t → j .cost ≤ unitsBefore taken (whoHad ticks) (j .name) (j .due)) js
 
--- With a job less, no window asks for more.
+-- Where no window asks for more than its free ticks, this is still so with one job less.
 fits-the-others : (taken : ℕ → Bool) (j : Job) (js : List Job) → Fits taken (j ∷ js) → Fits taken js
 unfolding weighed total
 fits-the-others taken j js fits a b h = omega (arith, fits a b h)
 
--- A job of some cost is due after its release.
+-- Where no window asks for more than its free ticks, a job of cost 1 or more is due after its release.
 due-later : (taken : ℕ → Bool) (t : ℕ) (j : Job) (js : List Job) → Fits taken (j ∷ js) → j .release ≡ t → 1 ≤ j .cost → t < j .due
 unfolding weighed total free
 due-later taken t j js fits at some-cost = by-lt t (j .due) (λ later. later) λ by.
     absurd (omega (arith, fits t t (omega arith), weight-inside (λ i. i .cost) t t j (omega arith) by))
 
--- Where jobs due by t had their costs by their due times, and a tick later each job that is due has had its cost, jobs due by then had theirs in time.
+-- Let each job due by t have had its cost by its due time, and let each job due by t + 1 have had its cost one tick later. Then each job due by t + 1 has had
+-- its cost by its due time.
 a-tick-later : (taken : ℕ → Bool) (t : ℕ) (tick : Option ℕ) (ticks : List (Option ℕ)) (accepted : List Job) {waiting left-early : List Waiting}
     → Trace taken (suc t) waiting accepted (tick ∷ ticks) left-early → left-early ≡ [] → HadByDue taken t accepted ticks
     → All (λ j. j .due ≤ suc t → ServedOrEnded j (tick ∷ ticks) left-early) accepted → HadByDue taken (suc t) accepted (tick ∷ ticks)
@@ -120,9 +121,9 @@ a-tick-later taken t tick ticks accepted {left-early = left-early} r nobody-left
 
 -- Each accepted job that is due by the clock had its cost before its due time.
 had-by-due : {taken : ℕ → Bool} {t : ℕ} {waiting : List Waiting} {accepted : List Job} {ticks : List (Option ℕ)} {left-early : List Waiting}
-    → (r : Trace taken t waiting accepted ticks left-early) → left-early ≡ [] → EarliestDueFirst r → NeverIdlesInVain r → DistinctNames accepted
+    → (r : Trace taken t waiting accepted ticks left-early) → left-early ≡ [] → ServesEarliestDue r → NeverIdlesInVain r → DistinctNames accepted
     → Fits taken accepted → HadByDue taken t accepted ticks
-unfolding EarliestDueFirst NeverIdlesInVain
+unfolding ServesEarliestDue NeverIdlesInVain
 had-by-due begin e first never-idle distinct fits = tt
 had-by-due {taken = taken} (accept {t = t} {accepted = js} r j at some-cost put) e first never-idle distinct fits = (
   λ by. absurd (omega (arith, due-later taken t j js fits at some-cost)),

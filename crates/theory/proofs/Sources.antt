@@ -1,6 +1,6 @@
--- Jobs of several sources. Each job is of one source, so what all jobs weigh is the sum, source by source, of what each one's own jobs weigh, and bounds on
--- these add up. The sum goes down the list of sources: the jobs of the source i and of later ones are i's own and those of later ones. And jobs that are
--- numbered from where others end share no name with them, so that lists numbered one after another are numbered through.
+-- The proofs about jobs of several sources. Each job is of one source, so the weight of all jobs is the sum, over the sources, of the weights of their own
+-- jobs, and the bounds add up. The sum goes down the list of sources: the jobs from source i on are those of source i and those from the next source on. The
+-- last part is about names. Jobs that are named from the end of other jobs' names on share no name with them.
 use Prim.Native.Nat.{ℕ, suc, _+_, _-_, _≤_, _<_}
 use mathlib.Core.Path.{_≡_, refl}
 use mathlib.Core.Logic.{_≢_}
@@ -20,12 +20,12 @@ use Rattle.theory.proofs.Jobs.{distinct-append}
 
 -- ---- sums, source by source
 
--- A job of the source i is one of its own ..
+-- A job of the source i is among the source's own jobs.
 pub own-of-it : (i : ℕ) (j : Job) (js : List Job) → j .source ≡ i → own i (j ∷ js) ≡ j ∷ own i js
 unfolding own
 own-of-it i j js q = rw eq-eqb
 
--- .. and a job of another source is not.
+-- A job of another source than i is not among the own jobs of the source i.
 pub own-of-another : (i : ℕ) (j : Job) (js : List Job) → j .source ≢ i → own i (j ∷ js) ≡ own i js
 unfolding own
 own-of-another i j js q = rw ne-eqb
@@ -35,21 +35,21 @@ abbrev fromSource : (i : ℕ) → Job → Bool
 fromSource i j = leb i (j .source)
 
 module _ (w : Job → ℕ) where
-  -- From its own source or an earlier one on a job has its weight ..
+  -- A job of the source i or a later one counts with its weight among the jobs from source i on.
   weighs-from : (i : ℕ) (j : Job) → i ≤ j .source → weightIf (fromSource i) w j ≡ w j
   weighs-from i j h = weight-if (fromSource i) w j (le-leb i (j .source) h)
 
-  -- .. and from a later one on none.
+  -- A job of a source before i does not count among the jobs from source i on.
   weighs-no-more-from : (i : ℕ) (j : Job) → j .source < i → weightIf (fromSource i) w j ≡ 0
   weighs-no-more-from i j h = weight-unless (fromSource i) w j (lt-leb i (j .source) h)
 
-  -- From i on and from the next source on a job of another source than i weighs the same.
+  -- A job of another source than i counts the same among the jobs from source i on and among those from the next source on.
   weighs-the-same-from-the-next : (i : ℕ) (j : Job) → j .source ≢ i → weightIf (fromSource (suc i)) w j ≡ weightIf (fromSource i) w j
   weighs-the-same-from-the-next i j q = by-lt (j .source) i
       (λ h. omega (arith, weighs-no-more-from i j h, weighs-no-more-from (suc i) j (omega arith)))
       (λ h. omega (arith, weighs-from i j h, weighs-from (suc i) j (omega arith)))
 
-  -- The jobs of the source i and of later ones are i's own and those of later ones.
+  -- The weight of the jobs from source i on is the weight of the source's own jobs plus the weight of the jobs from the next source on.
   own-and-later : (i : ℕ) (js : List Job) → weighed w (fromSource i) js ≡ total w (own i js) + weighed w (fromSource (suc i)) js
   unfolding weighed total own
   own-and-later i [] = refl
@@ -57,7 +57,7 @@ module _ (w : Job → ℕ) where
       (λ q. rw (own-of-it i j js q) (omega (arith, own-and-later i js, weighs-from i j (omega arith), weighs-no-more-from (suc i) j (omega arith))))
       (λ q. rw (own-of-another i j js q) (omega (arith, own-and-later i js, weighs-the-same-from-the-next i j q)))
 
-  -- Where the own jobs of each source from i on weigh at most its bound, the jobs of all of them weigh at most the sum of the bounds.
+  -- Where the own jobs of each source from i on weigh at most its bound, the jobs of all these sources weigh at most the sum of the bounds.
   bounds-add-up : {A : Type 0} (bound : A → ℕ) (other : A) (sources : List A) (i : ℕ) (js : List Job) → All (λ j. j .source < i + length sources) js
       → ((k : ℕ) → k < length sources → total w (own (i + k) js) ≤ bound (getD sources k other)) → weighed w (fromSource i) js ≤ total bound sources
   unfolding weighed total
@@ -69,12 +69,12 @@ module _ (w : Job → ℕ) where
       λ k h. (let q : i + suc k ≡ suc i + k = omega arith in rw q at (bounded (suc k) (omega arith))) in
       omega (arith, own-and-later i js, bounds-add-up bound other sources (suc i) js (all-imply (λ j h. omega arith) js known) later)
 
-  -- Every job is of the source 0 or a later one.
+  -- The weight of all jobs is at most that of the jobs from source 0 on, since every job is of the source 0 or a later one.
   all-from-zero : (js : List Job) → total w js ≤ weighed w (fromSource 0) js
   unfolding weighed
   all-from-zero js = total-monotone w (weightIf (fromSource 0) w) js (all-of (λ j. omega (arith, weighs-from 0 j (omega arith))) js)
 
--- What several sources ask for in a window is at most the sum of their bounds.
+-- Jobs of several sources ask in every window for at most the sum of the sources' bounds.
 pub sum-of-sources : SumOfSources
 unfolding weighed
 sum-of-sources A bound other sources js known bounded a b h =
@@ -84,7 +84,7 @@ sum-of-sources A bound other sources js known bounded a b h =
 
 -- ---- names, list by list
 
--- Jobs, and behind them jobs that are numbered from where they end, are numbered through.
+-- Where a list of jobs is named from `first` on, and another from the end of its names on, the joined list is named from `first` on.
 pub numbered-append : (first : ℕ) (s t : List Job) → NumberedFrom first s → NumberedFrom (first + length s) t → NumberedFrom first (s ++ t)
 numbered-append first s t h k = record {
   distinct = distinct-append s t (h .distinct) (k .distinct) (all-imply (λ j m. all-imply (λ i n q. omega arith) t (k .names)) s (h .names));
@@ -93,7 +93,7 @@ numbered-append first s t h k = record {
       (all-imply (λ j m. (omega arith, omega arith)) t (k .names)));
 }
 
--- Lists that are each numbered from where the last ended are numbered through.
+-- Where each list of jobs is named from the end of the last list's names on, the joined list is named from `first` on.
 pub numbered-through : NumberedThrough
 unfolding inTurn flatten
 numbered-through A jobs numbered i first [] = record { distinct = tt; names = tt }

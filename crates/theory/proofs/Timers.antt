@@ -1,5 +1,5 @@
--- A timer that takes the first s ticks of every p. Before the time t it takes floor(t/p) · s + min(s, t mod p) ticks, by induction on t. That count never gains
--- more over a window than it has over the window's length from zero on, so that it bounds every window.
+-- The proofs about a timer that takes the first s ticks of every p. Before the time t it takes floor(t/p) · s + min(s, t mod p) ticks, by induction on t. Over
+-- any window this count grows by at most its value for the window's length, so that it bounds every window.
 use Prim.Native.Nat.{ℕ, zero, suc, _+_, _-_, _*_, _/_, _%_, _≤_, _<_, min}
 use mathlib.Core.Path.{_≡_, refl}
 use native.Mathlib.Omega.{arith}
@@ -10,15 +10,15 @@ use Rattle.theory.proofs.Cases.{by-lt}
 use Rattle.theory.proofs.Ticks.{after-a-taken-tick, after-a-free-tick}
 
 module _ (s p : ℕ) (some : 1 ≤ p) (most : s ≤ p) where
-  -- The count of q whole periods and r ticks more.
+  -- In q whole periods and r more ticks a timer takes q · s + min(s, r) ticks.
   count-at : (q r : ℕ) → r < p → timerTakes s p (r + q * p) ≡ q * s + min s r
   count-at q r h = rw (add-mul-div-right r q some, add-mul-mod-self-right r q p, div-eq-of-lt h, mod-eq-of-lt h) (omega arith)
 
-  -- Every time is so many whole periods and a rest.
+  -- Every time is a number of whole periods plus a rest.
   parts : (t : ℕ) → t % p + t / p * p ≡ t
   parts t = omega (arith, div-add-mod' t p)
 
-  -- A tick that the timer takes is counted, and no other.
+  -- With each tick, the count of free ticks and the timer's count together grow by one.
   count-grows : (t : ℕ) → freeBefore (timer s p) (suc t) + timerTakes s p (suc t) ≡ suc (freeBefore (timer s p) t + timerTakes s p t)
   count-grows t =
       let q = t / p in
@@ -36,13 +36,13 @@ module _ (s p : ℕ) (some : 1 ≤ p) (most : s ≤ p) where
       let here : 0 + suc q * p ≡ suc t = omega (arith, parts t) in
       omega (arith, next, rw here at (count-at (suc q) 0 (omega arith)), rw (parts t) at (count-at q r below)))
 
-  -- Before a time the free ticks and the count come to the time.
+  -- The free ticks before a time and the timer's count for it add up to the time.
   counted : (t : ℕ) → freeBefore (timer s p) t + timerTakes s p t ≡ t
   unfolding freeBefore
   counted zero = let here : 0 + 0 * p ≡ 0 = omega arith in omega (arith, rw here at (count-at 0 0 (omega arith)))
   counted (suc t) = omega (arith, count-grows t, counted t)
 
-  -- Over a window the count gains at most what it has over the window's length.
+  -- Over a window the timer's count grows by at most its value for the window's length.
   gains-at-most : (a L : ℕ) → timerTakes s p (a + L) ≤ timerTakes s p a + timerTakes s p L
   gains-at-most a L =
       let ra = a % p in

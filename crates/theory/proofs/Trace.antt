@@ -1,6 +1,6 @@
--- The bookkeeping of traces. One law of conservation carries it: of each name, the units that were given, what the waiting have left and what those that left
--- early had left come together to the costs that were accepted. It is one step for each event, and asks nothing of the names. Where the accepted names are
--- distinct, at most one job of a name waits or has left early, so that the law's sums are one job's own numbers, and each job's fate can be read off.
+-- The proofs about every trace. They rest on one law of conservation: for each name, the units given, the units left of the jobs that wait, and the units left
+-- of the jobs that left early add up to the costs accepted. Its proof has one step for each event, and holds for any names. Where the accepted names are
+-- distinct, at most one job of a name waits or has left early. Then the law's sums are the numbers of one job, and the law tells what has become of it.
 use Prim.Native.Nat.{ℕ, suc, _+_, _≤_}
 use mathlib.Core.Path.{_≡_, refl, ap}
 use mathlib.Core.Logic.{⊎-elim}
@@ -23,7 +23,7 @@ use Rattle.theory.proofs.Jobs.{none-named, at-most-one-named, own-cost,
 
 -- ---- the clock
 
--- Each tick of the clock has one entry.
+-- The list of ticks has one entry for each tick of the clock.
 pub one-entry-a-tick : {taken : ℕ → Bool} {t : ℕ} {waiting : List Waiting} {accepted : List Job} {ticks : List (Option ℕ)} {left-early : List Waiting}
     → OneEntryATick taken t waiting accepted ticks left-early
 one-entry-a-tick begin = refl
@@ -38,11 +38,11 @@ pub any-tick-may-pass : {taken : ℕ → Bool} {t : ℕ} {waiting : List Waiting
     → AnyTickMayPass taken t waiting accepted ticks left-early
 any-tick-may-pass {taken = taken} {t = t} r = by-test (taken t) (λ is-taken. lost r is-taken) (λ is-free. idle r is-free)
 
--- What was released by t was released by t + 1.
+-- Jobs that were released by t were released by t + 1.
 a-tick-later : (t : ℕ) (js : List Job) → All (λ j. j .release ≤ t) js → All (λ j. j .release ≤ suc t) js
 a-tick-later t = all-imply (λ j h. omega arith)
 
--- Every accepted job was released by the clock.
+-- Every accepted job was released at the clock or before.
 pub released-by-the-clock : {taken : ℕ → Bool} {t : ℕ} {waiting : List Waiting} {accepted : List Job} {ticks : List (Option ℕ)} {left-early : List Waiting}
     → ReleasedByTheClock taken t waiting accepted ticks left-early
 released-by-the-clock begin = tt
@@ -54,25 +54,25 @@ released-by-the-clock (leave r w from) = released-by-the-clock r
 
 -- ---- what waits after a unit was given
 
--- What waits after a unit was given all has P, if the rest has P, and the served job where it waits on.
+-- All jobs that wait after a unit was given have P, where the rest have P, and the served job has P if it still waits.
 pub all-onward : (P : Waiting → Type 0) {j : Job} {left : ℕ} {rest after : List Waiting}
     → Onward j left rest after → (1 ≤ left → P (record { job = j; left = left })) → All P rest → All P after
 all-onward P done p h = h
 all-onward P (on put) p h = all-put-in P put (p (omega arith)) h
 
--- It weighs no more than the rest and the served job, with the units that this has left, do.
+-- The jobs that wait after a unit was given weigh at most as much as the rest and the served job, with its new units left, together.
 pub total-onward : (w : Waiting → ℕ) {j : Job} {left : ℕ} {rest after : List Waiting}
     → Onward j left rest after → total w after ≤ w (record { job = j; left = left }) + total w rest
 total-onward w done = omega arith
 total-onward w (on put) = omega (arith, total-put-in w put)
 
 module _ (kind : Job → Bool) where
-  -- The units left of a kind, with a job put in, are what that has left, if it is of the kind, and those without it.
+  -- Putting a job into a list adds its units left to those of a kind, if the job is of that kind, and otherwise nothing.
   pub units-left-put-in : {w : Waiting} {l m : List Waiting} → Insert w l m → unitsLeft kind m ≡ cond (kind (w .job)) (w .left) 0 + unitsLeft kind l
   unfolding unitsLeft
   units-left-put-in put = total-put-in (weightIf (λ w. kind (w .job)) (λ w. w .left)) put
 
-  -- A unit given takes one off the units left of a kind, if the served job is of that kind, and else nothing.
+  -- Giving a unit takes one off the units left of a kind, if the served job is of that kind, and otherwise nothing.
   pub unit-taken-off : {j : Job} {left : ℕ} {rest waiting after : List Waiting} → Insert (record { job = j; left = suc left }) rest waiting
       → Onward j left rest after → unitsLeft kind waiting ≡ cond (kind j) 1 0 + unitsLeft kind after
   unit-taken-off from done = units-left-put-in from
@@ -82,9 +82,9 @@ module _ (kind : Job → Bool) where
       one-more true = omega arith
       one-more false = omega arith
 
--- ---- what holds of every trace
+-- ---- what holds for every trace
 
--- Of each name, the units given, what the waiting have left and what those that left early had left are the costs accepted.
+-- For each name, the units given, the units left of the jobs that wait, and the units left of the jobs that left early add up to the costs accepted.
 pub conserved : {taken : ℕ → Bool} {t : ℕ} {waiting : List Waiting} {accepted : List Job} {ticks : List (Option ℕ)} {left-early : List Waiting}
     → Conserved taken t waiting accepted ticks left-early
 unfolding units unitsLeft weighed total
@@ -95,11 +95,11 @@ conserved (idle r k) n = omega (arith, conserved r n)
 conserved (serve r k j left from goes) n = omega (arith, conserved r n, unit-taken-off (named n) from goes)
 conserved (leave r w from) n = omega (arith, conserved r n, units-left-put-in (named n) from)
 
--- 1 for what waits, or left early, under the name n, and 0 for any other.
+-- 1 for a job named n that waits or left early, and 0 for any other.
 abbrev oneIfNamed : (n : ℕ) → Waiting → ℕ
 oneIfNamed n = weightIf (λ w. named n (w .job)) (λ _. 1)
 
--- Of each name, no more jobs wait or have left early than were accepted.
+-- For each name, no more jobs wait or have left early than were accepted.
 no-more-than-accepted : {taken : ℕ → Bool} {t : ℕ} {waiting : List Waiting} {accepted : List Job} {ticks : List (Option ℕ)} {left-early : List Waiting}
     → Trace taken t waiting accepted ticks left-early
     → (n : ℕ) → total (oneIfNamed n) waiting + total (oneIfNamed n) left-early ≤ weighed (λ _. 1) (named n) accepted
@@ -112,15 +112,15 @@ no-more-than-accepted (serve r k j left from goes) n =
     omega (arith, no-more-than-accepted r n, total-put-in (oneIfNamed n) from, total-onward (oneIfNamed n) goes)
 no-more-than-accepted (leave r w from) n = omega (arith, no-more-than-accepted r n, total-put-in (oneIfNamed n) from)
 
--- The job was accepted, and some units are left.
+-- The job was accepted, and has at least 1 unit left.
 abbrev pub Owed : List Job → Waiting → Type 0
 Owed accepted w = List·Memᴰ (w .job) accepted × (1 ≤ w .left)
 
--- It is so still when another job is accepted.
+-- Jobs that are `Owed` are still so when another job is accepted.
 still-owed : (j : Job) (accepted : List Job) (ws : List Waiting) → All (Owed accepted) ws → All (Owed (j ∷ accepted)) ws
 still-owed j accepted = all-imply (λ w h. (List·Memᴰ·tail (h .0), h .1))
 
--- It is so of what waits, and of what left early.
+-- Each job that waits or left early was accepted, and has at least 1 unit left.
 pub all-owed : {taken : ℕ → Bool} {t : ℕ} {waiting : List Waiting} {accepted : List Job} {ticks : List (Option ℕ)} {left-early : List Waiting}
     → Trace taken t waiting accepted ticks left-early → All (Owed accepted) waiting × All (Owed accepted) left-early
 all-owed begin = (tt, tt)
@@ -138,20 +138,20 @@ all-owed (leave {accepted = js} r w from) =
     let out = all-taken-out (Owed js) from (h .0) in
     (out .1, (out .0, h .1))
 
--- ---- what follows of each job
+-- ---- what follows about each job
 
 module _ {taken : ℕ → Bool} {t : ℕ} {waiting : List Waiting} {accepted : List Job} {ticks : List (Option ℕ)} {left-early : List Waiting} where
-  -- A name that no accepted job has had no tick.
+  -- A name that no accepted job has was given no tick.
   pub only-accepted-have-ticks : OnlyAcceptedHaveTicks taken t waiting accepted ticks left-early
   unfolding weighed
   only-accepted-have-ticks r n h = omega (arith, conserved r n, none-passes (named n) (λ j. j .cost) accepted (none-named n accepted h))
 
   module _ (r : Trace taken t waiting accepted ticks left-early) (distinct : DistinctNames accepted) where
-    -- What waits, and what left early.
+    -- The jobs that wait and the jobs that left early, in one list.
     abbrev unfinished : List Waiting
     unfinished = waiting ++ left-early
 
-    -- An accepted job's cost is the units that it was given and what is left under its name.
+    -- The cost of an accepted job is the units that it was given plus the units left under its name.
     own-share : {j : Job} → List·Memᴰ j accepted → units (j .name) ticks + unitsLeft (named (j .name)) unfinished ≡ j .cost
     unfolding unitsLeft
     own-share {j} m = omega (
@@ -161,12 +161,12 @@ module _ {taken : ℕ → Bool} {t : ℕ} {waiting : List Waiting} {accepted : L
       total-append (weightIf (λ w. named (j .name) (w .job)) (λ w. w .left)) waiting left-early,
     )
 
-    -- Of each name at most one job waits or left early.
+    -- For each name at most one job waits or left early.
     at-most-one-unfinished : (n : ℕ) → total (oneIfNamed n) unfinished ≤ 1
     at-most-one-unfinished n =
         omega (arith, total-append (oneIfNamed n) waiting left-early, no-more-than-accepted r n, at-most-one-named n accepted distinct)
 
-    -- What waits or left early is accounted for.
+    -- Each job that waits or left early was accepted, has at least 1 unit left, and has been given the rest of its cost.
     pub accounted : (w : Waiting) → List·Memᴰ w unfinished → Accounted accepted ticks w
     unfolding unitsLeft
     accounted w m =
@@ -176,7 +176,7 @@ module _ {taken : ℕ → Bool} {t : ℕ} {waiting : List Waiting} {accepted : L
         let its-own = the-only-one (λ v. named n (v .job)) (λ v. v .left) (at-most-one-unfinished n) m (eq-eqb n n refl) in
         record { was-accepted = owed .0; some-left = owed .1; had-the-rest = omega (arith, own-share (owed .0), its-own) }
 
-    -- A job that waits or left early has the fate of what is left of it.
+    -- What has become of a job that stands in the list of those that wait or left early.
     fate-of-unfinished : (w : Waiting) → List·Memᴰ w unfinished → Fate (w .job) waiting ticks left-early
     fate-of-unfinished w m = ⊎-elim (λ k. waits (in-list waiting k)) (λ k. over (ended (in-list left-early k))) (List·Memᴰ·append-cases waiting m)
       where
@@ -185,13 +185,13 @@ module _ {taken : ℕ → Bool} {t : ℕ} {waiting : List Waiting} {accepted : L
             let a = accounted w m in
             record { left = w .left; some-left = a .some-left; among = k; had-the-rest = a .had-the-rest }
 
-    -- A job under whose name nothing waits or left early has had its cost.
+    -- An accepted job whose name no job has that waits or left early has had its cost.
     fate-of-finished : (j : Job) → List·Memᴰ j accepted → All (λ w. named (j .name) (w .job) ≡ false) unfinished → Fate j waiting ticks left-early
     unfolding unitsLeft
     fate-of-finished j m none =
         over (served (omega (arith, own-share m, none-passes (λ w. named (j .name) (w .job)) (λ w. w .left) unfinished none)))
 
-    -- The fate of an accepted job.
+    -- What has become of each accepted job.
     fate-of : (j : Job) → List·Memᴰ j accepted → Fate j waiting ticks left-early
     fate-of j m = ⊎-elim
         (λ found.
@@ -205,21 +205,21 @@ module _ {taken : ℕ → Bool} {t : ℕ} {waiting : List Waiting} {accepted : L
   pub every-job-has-its-fate : EveryJobHasItsFate taken t waiting accepted ticks left-early
   every-job-has-its-fate r distinct = all-of-members accepted (fate-of r distinct)
 
-  -- What waits was accepted, and has had all but what is left.
+  -- Each job that waits was accepted, and has had its cost less its units left.
   pub waiting-are-accounted : WaitingAreAccounted taken t waiting accepted ticks left-early
   waiting-are-accounted r distinct = all-of-members waiting (λ w m. accounted r distinct w (Memᴰ·append-left left-early m))
 
-  -- What left early was accepted, and has had all but what was left then.
+  -- Each job that left early was accepted, and has had its cost less the units that it had left then.
   pub left-early-are-accounted : LeftEarlyAreAccounted taken t waiting accepted ticks left-early
   left-early-are-accounted r distinct = all-of-members left-early (λ w m. accounted r distinct w (Memᴰ·append-right waiting m))
 
-  -- No accepted job has had more than its cost.
+  -- No accepted job has had more units than its cost.
   pub never-more-than-its-cost : NeverMoreThanItsCost taken t waiting accepted ticks left-early
   never-more-than-its-cost r distinct = all-of-members accepted (λ j m. omega (arith, own-share r distinct m))
 
--- ---- a job that leaves
+-- ---- a job that leaves early
 
--- A job that waits may leave, and is then among those that left early.
+-- A job that waits may leave early, and is then among those that left early.
 pub any-may-leave : {taken : ℕ → Bool} {t : ℕ} {waiting : List Waiting} {accepted : List Job} {ticks : List (Option ℕ)} {left-early : List Waiting}
     → AnyMayLeave taken t waiting accepted ticks left-early
 any-may-leave r distinct w rest from =

@@ -1,10 +1,10 @@
-// A call in words, as `release of row 0, cost 1` or `number [AC 02] at 0`. Its first letter says which call it is, its numbers are decimal, and a list of bytes stands
-// in brackets, in hexadecimal. Other letters and signs are for the reader alone.
+// A call in words, such as `release of row 0, cost 1` or `number [AC 02] at 0`. Its first letter says which call it is, its numbers are decimal, and a list of
+// bytes stands in brackets, in hexadecimal. Other letters and signs are there for the human reader only.
 ghost use Prim.Native.Nat.{_≤_, _<_};
 ghost use lib.ListN.{length};
 
-// What was read of a call so far. The letter of a change, which has a `=`, stands in `change`, and `=` is its call. The bytes of all lists stand one after the
-// other, and the last list begins at `last`. `digits` says that the last byte of the text was a digit.
+// What has been read of a call so far. A change of the run, such as `clock = 5`, has `=` in `call` and its first letter in `change`. The bytes of all lists
+// stand one after another in `bytes`, and the last list begins at `last`. `digits` is true while the digits of a number or a byte are being read.
 pub struct Case {
     pub call: u8,
     pub change: u8,
@@ -17,7 +17,8 @@ pub struct Case {
     digits: bool,
 }
 
-// The room that a call has: the next number or byte would take the place of the first, and one more digit that of the number's first.
+// The room for one call: its numbers, the bytes of its lists, and the value that a number may have before its last digit. No case has more, so nothing of a
+// case is lost when these limits are kept by taking remainders.
 impl Case {
     pub const NUMBERS: usize = 8;
 
@@ -26,7 +27,7 @@ impl Case {
     const MOST: u64 = 0x100_0000_0000_0000;
 }
 
-// Nothing was read.
+// A call of which nothing has been read yet.
 fn nothing() -> Case {
     Case {
         call: 0,
@@ -48,7 +49,7 @@ pub fn least(a: usize, b: usize) -> usize
     if a < b { a } else { b }
 }
 
-// Where the call that begins at a place ends: at the next line's end or `;`, or with the text.
+// The place where the call that begins at a place ends: the next end of a line or `;` after it, or the end of the text.
 pub fn end_of(text: &[u8], at: usize) -> usize
     requires { ⌜ at < length (now text) ⌝ }
     ensures { λ r. ⌜ at < r ⌝ }
@@ -75,7 +76,7 @@ pub fn read(part: &[u8]) -> Case {
     case
 }
 
-// One byte more.
+// What has been read of a call after one more byte of its text.
 fn after(case: Case, b: u8) -> Case {
     match b {
         b'0'..=b'9' => with_digit(case, b - b'0'),
@@ -84,7 +85,7 @@ fn after(case: Case, b: u8) -> Case {
     }
 }
 
-// A digit of a byte or of a number.
+// Adds a digit: inside a list to the byte that is being read, and elsewhere to the number that is being read.
 fn with_digit(mut case: Case, digit: u8) -> Case {
     case.digits = true;
     if case.in_list {
@@ -99,7 +100,8 @@ fn with_digit(mut case: Case, digit: u8) -> Case {
     case
 }
 
-// Any other byte ends a number or a byte. A colon ends the name that stands before the call, of which nothing is kept. What begins with a `#` is a heading, and no call.
+// Takes a byte of the text that is no digit. It ends the number or the byte that was being read. A colon ends the name that stands before the call, and nothing
+// of that name is kept. A text that begins with `#` is a heading, and no call.
 fn with_sign(case: Case, b: u8) -> Case {
     if case.call == b'#' {
         return case;
@@ -126,6 +128,7 @@ fn with_sign(case: Case, b: u8) -> Case {
     more
 }
 
+// Ends the number or the byte whose digits were being read, if there is one.
 fn ended(mut case: Case) -> Case {
     if case.digits {
         case.digits = false;

@@ -1,4 +1,5 @@
-// Changes of a run in one thing, as no call would make them: `clock = 1099511627777`. A letter says what is changed. (docs/RULES.md, 6.20 to 6.24.)
+// Changes of one thing in a run that no call would make, such as `clock = 1099511627777`. They try the conditions of soundness one by one. The first letter
+// says what is changed. (docs/RULES.md, 6.20 to 6.24.)
 use crate::case::Case;
 use crate::words;
 use jobs::Job;
@@ -9,7 +10,7 @@ use kinds::Tick;
 use run::Run;
 use table::Table;
 
-// One change.
+// The run after one change. `what` is the first letter of the change.
 pub fn changed(what: u8, numbers: [u64; Case::NUMBERS], run: Run) -> Run {
     let a = numbers[0];
     let b = numbers[1];
@@ -26,21 +27,21 @@ pub fn changed(what: u8, numbers: [u64; Case::NUMBERS], run: Run) -> Run {
     }
 }
 
-// `clock = 5`
+// Sets the clock: `clock = 5`.
 fn with_clock(mut run: Run, clock: u64) -> Run {
     let moved = Tick(clock);
     run.clock = moved;
     run
 }
 
-// `next serial = 1`
+// Sets the next serial: `next serial = 1`.
 fn with_next(mut run: Run, next: u64) -> Run {
     let serial = Serial(next);
     run.next = serial;
     run
 }
 
-// `rows = 17`, all of them as row 0 is.
+// Sets the number of rows and makes every row a copy of row 0: `rows = 17`.
 fn with_rows(mut run: Run, count: usize) -> Run {
     let mut table = run.table;
     let row = table.rows[0];
@@ -51,7 +52,7 @@ fn with_rows(mut run: Run, count: usize) -> Run {
     run
 }
 
-// `y of row 1 = 919`
+// Sets the y of one row: `y of row 1 = 919`.
 fn with_y(mut run: Run, row: usize, y: u64) -> Run {
     let at = row % Table::MAX_ROWS;
     let mut table = run.table;
@@ -62,7 +63,7 @@ fn with_y(mut run: Run, row: usize, y: u64) -> Run {
     run
 }
 
-// `pending = 65`: so many jobs are counted.
+// Sets the number of pending jobs: `pending = 65`.
 fn with_pending(mut run: Run, count: usize) -> Run {
     let mut pending = run.pending;
     pending.count = count;
@@ -70,7 +71,7 @@ fn with_pending(mut run: Run, count: usize) -> Run {
     run
 }
 
-// `job 0 = 1, 0, 0, 4, 2, 2`: another job in a place, by its serial, row, release, due time, cost and units left.
+// Puts another job into a place, by its serial, row, release, due time, cost and units left: `job 0 = 1, 0, 0, 4, 2, 2`.
 fn with_job(mut run: Run, numbers: [u64; Case::NUMBERS]) -> Run {
     let mut pending = run.pending;
     let at = numbers[0] as usize % Pending::PLACES;
@@ -87,7 +88,7 @@ fn with_job(mut run: Run, numbers: [u64; Case::NUMBERS]) -> Run {
     run
 }
 
-// `kept 0 = 2, 4`: so many due times are kept of the row, the first of them this one.
+// Sets how many due times are kept for a row, and the first of them: `kept 0 = 2, 4`.
 fn with_kept(mut run: Run, row: usize, count: usize, due: u64) -> Run {
     let at = row % Table::MAX_ROWS;
     let mut kept = run.kept[at];

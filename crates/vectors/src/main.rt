@@ -1,6 +1,7 @@
-// The examples and edges of docs/RULES.md, worked out by the proved calls (11.67, which is the host's, in the C tests). The cases stand in the file `stdin`, a line each
-// or several calls to a line with a `;` between them. The program writes each call as it stands, and behind it what the call answers; all that it writes is held to the
-// file `stdout`. A call is known by its first letter, and a change of the run by its `=`: the modules `plain`, `runs` and `changes` have them all.
+// A program that works out the examples and edges of docs/RULES.md by the proved calls. The examples are D1 to D3, V1 to V8 and R1 (4.8, 5.13, 8.18), and the
+// edges are those of section 11 but 11.67, which the C tests have. The cases stand in the file `stdin`, one or more calls to a line, with a `;` between two
+// calls. The program writes each call as it stands, and behind it what the call answers. All that it writes must equal the file `stdout`. A call is known by
+// its first letter, and a change of the run by its `=`. The modules `plain`, `runs` and `changes` have them all.
 mod case;
 mod changes;
 mod plain;
@@ -18,7 +19,7 @@ fn main() {
     cases(&space[..n]);
 }
 
-// All calls of the text, one after the other, from the fresh run of the empty table on.
+// Answers all calls of the text, one after another. They begin with the fresh run of the empty table.
 fn cases(text: &[u8]) {
     let mut run = Run::fresh(Table::empty());
     let mut at: usize = 0;
@@ -29,7 +30,7 @@ fn cases(text: &[u8]) {
     }
 }
 
-// One call: as it stands, and after it what it answers.
+// Writes one call as it stands, and after it what it answers. The run is kept for the next call.
 fn answer(part: &[u8], run: Run) -> Run {
     print::text(part);
     let case = case::read(part);

@@ -1,4 +1,5 @@
-// The calls that keep nothing: each answer is printed behind its call. (docs/RULES.md, sections 2, 3, 5, 7 and 8.)
+// The calls that need no run: the number reader and writer, the verdict, the record readers, the chooser and the replay. Each answer is written behind its
+// call. (docs/RULES.md, sections 2, 3, 5, 7 and 8.)
 use crate::case::Case;
 use crate::case::least;
 use crate::print;
@@ -12,10 +13,10 @@ use script::RecordRead;
 use script::Which;
 use verdict::Verdict;
 
-// The room that a buffer or a log may have.
+// The most bytes that a buffer or a log of a case may have.
 const ROOM: usize = 64;
 
-// One call, on the bytes of its lists.
+// Answers one call, on the bytes of its lists.
 pub fn answer(case: Case) {
     let numbers = case.numbers;
     let bytes = case.bytes;
@@ -31,7 +32,7 @@ pub fn answer(case: Case) {
     );
 }
 
-// A call with one list has it in the second.
+// Answers one call. A call with two lists has them in `first` and `list`, and a call with one list has it in `list`.
 fn on_lists<'a>(call: u8, a: u64, b: u64, first: &'a [u8], list: &'a [u8]) {
     match call {
         b'n' => number(numbers::read(list, a as usize)),
@@ -44,7 +45,7 @@ fn on_lists<'a>(call: u8, a: u64, b: u64, first: &'a [u8], list: &'a [u8]) {
     }
 }
 
-// `: 300, next 2`
+// Writes what the number reader answers, such as `: 300, next 2`.
 fn number(answer: NumberRead) {
     match answer {
         NumberRead::Number(number) => {
@@ -55,7 +56,7 @@ fn number(answer: NumberRead) {
     }
 }
 
-// A number is written into a buffer of so many bytes, and read from there: `: length 2, buffer: AC 02 EE EE, back: 300, next 2`
+// Writes a number into a buffer of `room` bytes, and reads it back from there: `: length 2, buffer: AC 02 EE EE, back: 300, next 2`.
 fn write(value: u64, room: usize) {
     let mut space = [0xEE; ROOM];
     let buffer = &mut space[0..least(room, ROOM)];
@@ -72,7 +73,7 @@ fn told_write(answer: Written) {
     }
 }
 
-// `: overloaded, length 11, demand 12`
+// Writes the verdict on a table, such as `: overloaded, length 11, demand 12`.
 fn judge(table: &[u8]) {
     match verdict::judge(table) {
         Verdict::Feasible => words::say(words::FEASIBLE),
@@ -84,7 +85,8 @@ fn judge(table: &[u8]) {
     }
 }
 
-// A record by its place, and through the reader that holds the script: `: gap 0, row 0, cost 2, next 3, held: gap 0, row 0, cost 2, next 3, read to 3`
+// Writes the record at a place as the record reader answers it, and then as the script reader does:
+// `: gap 0, row 0, cost 2, next 3, held: gap 0, row 0, cost 2, next 3, read to 3`.
 fn find(script: &[u8], at: usize) {
     found(script::record_at(script, at));
     let yielded = reader::read_through(script, at);
@@ -94,6 +96,7 @@ fn find(script: &[u8], at: usize) {
     print::count(words::READ_TO, yielded.at as u64);
 }
 
+// Writes what a record reader answers, such as `: gap 0, row 0, cost 2, next 3`.
 fn found(record: RecordRead) {
     match record {
         RecordRead::Record(found) => {
@@ -109,7 +112,7 @@ fn found(record: RecordRead) {
     }
 }
 
-// `: first, part: 01 00 02`
+// Writes which script the chooser takes the next record from, and that record's bytes, such as `: first, part: 01 00 02`.
 fn choose<'a>(first: &'a [u8], second: &'a [u8], one: Tick, other: Tick) {
     told_choice(script::choose(first, second, one, other));
     print::bytes(words::PART, script::chosen_part(first, second, one, other));
@@ -138,7 +141,7 @@ fn which(script: Which) {
     }
 }
 
-// A script is replayed into a log of so many bytes: `: in time, log length 0, log: EE EE`
+// Replays a script into a log of `room` bytes, and writes the outcome and the log, such as `: in time, log length 0, log: EE EE`.
 fn play(table: &[u8], script: &[u8], room: usize) {
     let mut space = [0xEE; ROOM];
     let log = &mut space[0..least(room, ROOM)];

@@ -1,4 +1,4 @@
-// What an answer is made of: words, numbers, bytes and refusals, each written to standard output as it comes.
+// The parts of an answer: words, numbers, bytes and refusals. Each is written to standard output at once.
 use crate::words;
 use kinds::Refusal;
 use kinds::RefusedAt;
@@ -8,7 +8,7 @@ pub fn text(words: &[u8]) {
     io::write_all(STDOUT_FILENO, words);
 }
 
-// A word of the list, and after it a number in decimal: `, next 2`.
+// Writes a word of the list, and after it a number in decimal: `, next 2`.
 pub fn count(word: u64, value: u64) {
     words::say(word);
     io::print_decimal(STDOUT_FILENO, value);
@@ -20,7 +20,7 @@ fn digit(b: u8) -> u8 {
     if n < 10 { b'0' + n } else { b'A' + (n - 10) }
 }
 
-// A word of the list, and after it bytes in hexadecimal: `, buffer: AC 02`.
+// Writes a word of the list, and after it bytes in hexadecimal: `, buffer: AC 02`.
 pub fn bytes(word: u64, bytes: &[u8]) {
     words::say(word);
     let mut i: usize = 0;
@@ -31,12 +31,12 @@ pub fn bytes(word: u64, bytes: &[u8]) {
     }
 }
 
-// A refusal by its number: `: refused 25`.
+// Writes a refusal by its number: `: refused 25`.
 pub fn refused(refusal: Refusal) {
     count(words::REFUSED, refusal.number() as u64);
 }
 
-// A refusal by its number, with its place: `: refused 1 at 0`.
+// Writes a refusal by its number, with its place: `: refused 1 at 0`.
 pub fn refused_at(refused_at: RefusedAt) {
     let refusal = refused_at.refusal;
     refused(refusal);

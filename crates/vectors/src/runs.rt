@@ -1,5 +1,5 @@
-// The calls on a run: the run is kept from one call to the next, and behind each call its answer is printed, and how the run stands. `Release` and `Tick` lend
-// the run by exclusive reference, and the other calls hand it over by value. (docs/RULES.md, sections 4 and 6.)
+// The calls on a run. The run is kept from one call to the next. Behind each call stand its answer and then the run's clock, its number of pending jobs and
+// whether it is sound. `Release` and `Tick` lend the run by exclusive reference, and the other calls take it by value. (docs/RULES.md, sections 4 and 6.)
 use crate::case::Case;
 use crate::case::least;
 use crate::changes::changed;
@@ -14,7 +14,7 @@ use run::StartAnswer;
 use run::TickStep;
 use run::Ticked;
 
-// One call, or one change of the run.
+// Answers one call on the run, or one change of it, and hands back the run after it.
 pub fn answer(case: Case, run: Run) -> Run {
     let numbers = case.numbers;
     let call = case.call;
@@ -29,7 +29,7 @@ pub fn answer(case: Case, run: Run) -> Run {
     }
 }
 
-// The run that starts on the bytes of a call: `: ready, clock 0, pending 0, sound`
+// Starts a run on the table that a call has as bytes: `: ready, clock 0, pending 0, sound`.
 fn start(case: Case) -> Run {
     let bytes = case.bytes;
     let whole = &bytes[..];
@@ -47,7 +47,7 @@ fn told_start(answer: StartAnswer) {
     }
 }
 
-// `: serial 3, due 12, clock 3, pending 3, sound`
+// Releases a job, and writes the answer and the run, such as `: serial 3, due 12, clock 3, pending 3, sound`.
 fn release(lent: bool, run: Run, row: RowNumber, cost: u64) -> Run {
     let step = released(lent, run, row, cost);
     let answer = step.answer;
@@ -55,6 +55,7 @@ fn release(lent: bool, run: Run, row: RowNumber, cost: u64) -> Run {
     shown(step.run)
 }
 
+// Releases a job on a run that is lent by exclusive reference, or on one that is handed over by value. (6.19)
 fn released(lent: bool, run: Run, row: RowNumber, cost: u64) -> ReleaseStep {
     if lent {
         return lent::release_lent(run, row, cost);
@@ -74,7 +75,7 @@ fn told_release(answer: Released) {
     }
 }
 
-// `: ran 1, unfinished, late 0, clock 1, pending 2, sound`
+// Gives one tick, and writes the answer and the run, such as `: ran 1, unfinished, late 0, clock 1, pending 2, sound`.
 fn tick(lent: bool, run: Run) -> Run {
     let step = ticked(lent, run);
     let answer = step.answer;
@@ -83,6 +84,7 @@ fn tick(lent: bool, run: Run) -> Run {
     shown(step.run)
 }
 
+// Gives one tick on a run that is lent by exclusive reference, or on one that is handed over by value. (6.19)
 fn ticked(lent: bool, run: Run) -> TickStep {
     if lent {
         return lent::tick_lent(run);
@@ -106,7 +108,7 @@ fn told_tick(answer: Ticked) {
     }
 }
 
-// `, clock 3, pending 1, sound`
+// Writes the run's clock, its number of pending jobs and whether it is sound, such as `, clock 3, pending 1, sound`.
 fn shown(run: Run) -> Run {
     let clock = run.clock;
     let pending = run.pending;

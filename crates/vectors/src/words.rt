@@ -1,4 +1,5 @@
-// The words of the answers, each by its number in one list: a text for each use would take most of the check's time.
+// The words of the answers. They stand in one list, each ends with `@`, and each is known by its number there. One text for each use would take most of the
+// check's time.
 use libc::STDOUT_FILENO;
 
 const ALL: [u8; 369] =
@@ -78,11 +79,12 @@ pub const NOT_SOUND: u64 = 35;
 
 pub const CHANGED: u64 = 36;
 
-// Writes the word of a number.
+// Writes the word with this number.
 pub fn say(word: u64) {
     find(&ALL, word);
 }
 
+// Writes the word with a number of a list in which each word ends with `@`.
 fn find(all: &[u8], word: u64) {
     let mut count: u64 = 0;
     let mut from: usize = 0;

@@ -1,27 +1,27 @@
--- What is known of a table that was accepted: it is in range, its period is from 1 to its limit, and its demand is a curve of that period.
+-- What is known about a table that was accepted: it is in range, its H is from 1 to its limit, and its demand is a curve with the period H.
 use Prim.Native.Nat.{ℕ, _≤_}
 use mathlib.Core.Path.{_≡_}
 use mathlib.Core.List.{List, Memᴰ·map}
-use Rattle.numbers.specs.Laws.{Bytes}
+use Rattle.numbers.specs.SpelledNumbers.{Bytes}
 use Rattle.theory.specs.Curves.{Curve}
 use Rattle.table.specs.declared.Row.{Row}
 use Rattle.table.specs.declared.Table.{Table}
 use Rattle.table.specs.declared.TableAnswer.the-variants as answer
 use Rattle.table.specs.Limits.{maxPeriod}
 use Rattle.table.specs.Tables.{tableRead, InRange}
-use Rattle.table.proofs.Laws.{accepted-is-usable}
+use Rattle.table.proofs.SpelledTables.{accepted-is-usable}
 use Rattle.table.proofs.Tables.{read-in-range}
 use Rattle.verdict.specs.Demand.{tableDemand, tableGrowth, largestD}
-use Rattle.verdict.proofs.Laws.{table-is-a-curve}
+use Rattle.verdict.proofs.TableCurve.{table-is-a-curve}
 
--- What a verdict needs to know of a table.
+-- This is what a verdict needs to know about a table.
 pub record Known (t : Table) (period : ℕ) : Type 0 where
   pub in-range : InRange t
   pub some-period : 1 ≤ period
   pub most-period : period ≤ maxPeriod
   pub curve : Curve (tableDemand t) (largestD t) period (tableGrowth t period)
 
--- It is known of a table that was accepted.
+-- All that a verdict needs is known about every accepted table.
 pub accepted-is-known : (s : List ℕ) (period : ℕ) → Bytes s → tableRead s .answer ≡ answer.Accepted period → Known (tableRead s .table) period
 accepted-is-known s period bytes accepted =
     let u = accepted-is-usable s period bytes accepted in

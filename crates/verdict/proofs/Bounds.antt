@@ -1,5 +1,5 @@
--- Nothing overflows. What one row can ask for is bounded by the limits alone, and a sum over the rows by their number times that. Of the limits no more is used
--- than their names and `room`: 64 bits hold the most that a table can ask for.
+-- Nothing overflows. The demand of one row is bounded by the limits of the rules alone, and a sum over the rows by their number times that bound. The only fact
+-- about the values of the limits that is used is `room`: 64 bits hold the most that a table can ask for.
 use Prim.Native.Nat.{ℕ, zero, suc, _+_, _-_, _*_, _/_, _^_, _≤_, _<_, suc-le-suc}
 use native.Mathlib.Omega.{arith}
 use native.Mathlib.Nat.{div-le-self, mul-le-mul, mul-le-mul-right}
@@ -11,13 +11,13 @@ use Rattle.theory.proofs.Cases.{by-lt}
 use Rattle.theory.proofs.Demand.{no-demand-below-d, demand-from-d}
 use Rattle.table.specs.declared.Row.{Row}
 use Rattle.table.specs.declared.Table.{Table}
-use Rattle.table.specs.Laws.{WithinLimits}
+use Rattle.table.specs.SpelledTables.{WithinLimits}
 use Rattle.table.specs.Limits.{maxRows, maxX, maxD, maxC, maxPeriod}
 use Rattle.table.specs.Tables.{InRange}
 use Rattle.verdict.specs.Demand.{largestOf, largestD, maxLength}
 use Rattle.verdict.proofs.Rows.{rowAt, firstRows, demandIn, growthIn, Summed, row-within, total-more, largest-more}
 
--- The most that one row can ask for in a length that is looked at.
+-- In a length that is looked at, one row can ask for at most this.
 abbrev pub most : ℕ
 most = (maxLength + 1) * maxX * maxC
 
@@ -29,19 +29,19 @@ room = lit< tt
 
 module _ (r : Row) (limits : WithinLimits r) where
   module _ (L : ℕ) (looked-at : L ≤ maxLength) where
-    -- The spaces of y ticks from d on, with the one that begins at d, are within a bound.
+    -- The number floor((L − d)/y) + 1 of 5.1 is within a bound.
     pub spaces-at-most : (L - r .d) / r .y + 1 ≤ maxLength + 1
     spaces-at-most = omega (arith, div-le-self (L - r .d) (r .y))
 
-    -- The jobs in these spaces are within a bound.
+    -- The number of the row's jobs in the length L is within a bound.
     pub jobs-at-most : ((L - r .d) / r .y + 1) * r .x ≤ (maxLength + 1) * maxX
     jobs-at-most = mul-le-mul spaces-at-most (limits .most-x)
 
-    -- What these jobs cost is within a bound.
+    -- What the row's jobs in the length L cost is within the bound `most`.
     pub cost-at-most : ((L - r .d) / r .y + 1) * r .x * r .c ≤ most
     cost-at-most = mul-le-mul jobs-at-most (limits .most-c)
 
-    -- So the row's demand.
+    -- The row's demand is within the bound `most`.
     pub demand-at-most : demandIn L r ≤ most
     demand-at-most = by-lt L (r .d)
         (λ low. omega (arith, no-demand-below-d (r .x) (r .y) (r .d) (r .c) L low))
@@ -51,7 +51,7 @@ module _ (r : Row) (limits : WithinLimits r) where
   pub cost-of-x-at-most : r .x * r .c ≤ maxX * maxC
   cost-of-x-at-most = mul-le-mul (limits .most-x) (limits .most-c)
 
-  -- How much the row's demand grows in a period is within a bound.
+  -- The growth of the row's demand in a period is within the bound `most`.
   pub growth-at-most : (period : ℕ) → period ≤ maxPeriod → growthIn period r ≤ most
   unfolding rowGrowth
   growth-at-most period h =
@@ -61,7 +61,7 @@ module _ (r : Row) (limits : WithinLimits r) where
 
 module _ {t : Table} (in-range : InRange t) where
   module _ (w : Row → ℕ) (small : (r : Row) → WithinLimits r → w r ≤ most) where
-    -- The rows before i weigh at most i times as much as one.
+    -- The sum over the rows before i is at most i times the bound for one row.
     total-at-most : (i : ℕ) → i ≤ t .count → total w (firstRows t i) ≤ i * most
     unfolding total
     total-at-most zero h = omega arith
@@ -69,7 +69,7 @@ module _ {t : Table} (in-range : InRange t) where
         rw (← add-one i)
         (omega (arith, total-more in-range w i h, small (rowAt t i) (row-within in-range i h), total-at-most i (omega arith)))
 
-    -- So there is room for one row more.
+    -- The sum over the rows before row i, together with row i, fits into 64 bits.
     pub sum-fits : {sum i : ℕ} → Summed w t sum i → i < t .count → sum + w (rowAt t i) < 2 ^ 64
     sum-fits {sum} {i} summed h =
         omega (arith, total-at-most i (summed .counted), small (rowAt t i) (row-within in-range i h), mul-le-mul-right most (in-range .few-rows), room)
@@ -82,7 +82,7 @@ module _ {t : Table} (in-range : InRange t) where
       rw (← add-one i)
       (omega (arith, largest-more in-range i h, row-within in-range i h .most-d, largest-at-most i (omega arith)))
 
-  -- No length above maxLength is ever looked at.
+  -- The largest length that a verdict looks at is at most `maxLength`.
   pub last-at-most : (period : ℕ) → period ≤ maxPeriod → (largestD t + 1) * period + largestD t ≤ maxLength
   last-at-most period h =
       let d : largestD t ≤ maxD = largest-at-most (t .count) (omega arith) in

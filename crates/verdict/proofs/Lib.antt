@@ -1,6 +1,6 @@
 pub mod Rows
 pub mod Bounds
-pub mod Laws
+pub mod TableCurve
 pub mod Accepted
 pub mod Verdicts
 pub mod Scans

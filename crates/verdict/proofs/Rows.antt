@@ -1,5 +1,5 @@
--- The rows of a table in range, one after another: each is within its limits, and what holds of the first i + 1 rows follows from what holds of the first i and
--- of the next row.
+-- The rows of a table in range, one after another. Each is within its limits, and what holds for the first i + 1 rows follows from what holds for the first i
+-- and for row i.
 use Prim.Native.Nat.{ℕ, zero, suc, _+_, _≤_, _<_, max}
 use mathlib.Core.Path.{_≡_, refl}
 use mathlib.Core.List.{List, [], _∷_, _++_}
@@ -12,43 +12,44 @@ use Rattle.theory.specs.Demand.{rowGrowth}
 use Rattle.theory.proofs.Lists.{all-append, total-append}
 use Rattle.table.specs.declared.Row.{Row}
 use Rattle.table.specs.declared.Table.{Table}
-use Rattle.table.specs.Laws.{WithinLimits}
+use Rattle.table.specs.SpelledTables.{WithinLimits}
 use Rattle.table.specs.Tables.{noRow, rowsOf, InRange}
-use Rattle.table.proofs.Laws.{in-range-means}
+use Rattle.table.proofs.SpelledTables.{in-range-means}
 use Rattle.verdict.specs.Demand.{rowDemandOf, largestOf}
 
--- The row at a row number.
+-- `rowAt` is the row at a row number.
 abbrev pub rowAt : Table → (i : ℕ) → Row
 rowAt t i = getD (t .rows) i noRow
 
--- The rows before a row number.
+-- `firstRows` are the rows before a row number.
 abbrev pub firstRows : Table → (i : ℕ) → List Row
 firstRows t i = take i (t .rows)
 
--- The two weights of a row that are summed: its demand in a length, and its growth in a period.
+-- One weight of a row is its demand in a length. Such weights are summed over the rows.
 abbrev pub demandIn : (L : ℕ) → Row → ℕ
 demandIn L r = rowDemandOf r L
 
+-- Another weight of a row is the growth of its demand in a period.
 abbrev pub growthIn : (period : ℕ) → Row → ℕ
 growthIn period r = rowGrowth (r .x) (r .y) (r .c) period
 
--- The sum has come to row i: it is the weight of the rows before i.
+-- The loop has come to row i, and `sum` is the sum of the weights of the rows before i.
 pub record Summed (w : Row → ℕ) (t : Table) (sum i : ℕ) : Type 0 where
   pub counted : i ≤ t .count
   pub so-far : sum ≡ total w (firstRows t i)
 
--- A sum begins with nothing.
+-- Before the first row the sum is 0.
 pub none-summed : (w : Row → ℕ) (t : Table) → Summed w t 0 0
 unfolding total
 none-summed w t = record { counted = omega arith; so-far = refl }
 
--- A sum that has come to the end is the weight of the rows in use.
+-- After the last row in use, the sum is that of the weights of all rows in use.
 pub all-summed : {w : Row → ℕ} {t : Table} {sum i : ℕ} → Summed w t sum i → t .count ≤ i → sum ≡ total w (rowsOf t)
 all-summed {t = t} {i = i} summed end =
     let all : i ≡ t .count = omega arith in
     rw all at (summed .so-far)
 
--- The largest d of two lists in a row is the larger of theirs.
+-- The largest d of two lists of rows together is the larger of their two.
 largest-append : (l m : List Row) → largestOf (l ++ m) ≡ max (largestOf l) (largestOf m)
 unfolding largestOf
 largest-append [] m = omega arith
@@ -65,14 +66,14 @@ module _ {t : Table} (in-range : InRange t) where
       let has-place : i < length (t .rows) = omega arith in
       rw add-one (take-suc (t .rows) i noRow has-place)
 
-  -- All of them are within their limits.
+  -- All rows before i are within their limits.
   pub rows-within : (i : ℕ) → i ≤ t .count → All WithinLimits (firstRows t i)
   rows-within zero h = tt
   rows-within (suc i) h =
       rw (← add-one i, one-more i h)
       (all-append WithinLimits (firstRows t i) (rowAt t i ∷ []) (rows-within i (omega arith)) (row-within i h, tt))
 
-  -- A sum over the rows before i goes on with the weight of row i.
+  -- The sum over the rows before i + 1 is the sum over those before i, and the weight of row i.
   pub total-more : (w : Row → ℕ) (i : ℕ) → i < t .count → total w (firstRows t (i + 1)) ≡ total w (firstRows t i) + w (rowAt t i)
   unfolding total
   total-more w i h = rw (one-more i h, total-append) (omega arith)
@@ -80,7 +81,7 @@ module _ {t : Table} (in-range : InRange t) where
   pub summed-more : {w : Row → ℕ} {sum i : ℕ} → Summed w t sum i → i < t .count → Summed w t (sum + w (rowAt t i)) (i + 1)
   summed-more {w} {sum} {i} summed h = record { counted = omega arith; so-far = omega (arith, total-more w i h) }
 
-  -- The largest d of the rows before i goes on with the d of row i.
+  -- The largest d of the rows before i + 1 is the larger of that of the rows before i, and the d of row i.
   pub largest-more : (i : ℕ) → i < t .count → largestOf (firstRows t (i + 1)) ≡ max (largestOf (firstRows t i)) (rowAt t i .d)
   unfolding largestOf
   largest-more i h = rw (one-more i h, largest-append) (omega arith)

@@ -1,11 +1,11 @@
--- How far the lengths have to be scanned to settle the verdict, which depends on whether the growth is above the period; and how a verdict on a table that was
--- read is one on its bytes.
+-- How far the lengths have to be scanned to settle the verdict, which depends on whether the growth is above the period. Also, a verdict that is right for the
+-- table that was read is right for its bytes. (docs/RULES.md, 5.7 to 5.9.)
 use Prim.Native.Nat.{ℕ, _+_, _*_, _≤_, _<_}
 use mathlib.Core.Path.{_≡_, refl}
 use mathlib.Core.List.{List}
 use native.Mathlib.Omega.{arith}
 use Rattle.kinds.specs.declared.RefusedAt.{RefusedAt}
-use Rattle.numbers.specs.Laws.{Bytes}
+use Rattle.numbers.specs.SpelledNumbers.{Bytes}
 use Rattle.theory.specs.Curves.{EveryLengthFits, FitsUpTo}
 use Rattle.theory.proofs.Curves.{settled-within-a-period, smallest-within-a-period, fails-when-growth-is-above, has-smallest-failing}
 use Rattle.table.specs.declared.Table.{Table}
@@ -16,10 +16,10 @@ use Rattle.verdict.specs.declared.Verdict.{Verdict}
 use Rattle.verdict.specs.declared.Verdict.the-variants as verdict
 use Rattle.verdict.specs.Demand.{tableDemand, tableGrowth, largestD}
 use Rattle.verdict.specs.Verdict.{RightOf, Judged}
-use Rattle.verdict.specs.Laws as laws
+use Rattle.verdict.specs.ScanLaws.{LengthsThatSettle, OverloadedAboveOne, SmallestIsAmongThem}
 use Rattle.verdict.proofs.Accepted.{Known, accepted-is-known}
 
--- The lengths up to the last settle every length.
+-- If the demand fits in every length up to `last`, it fits in every length.
 abbrev pub Settles : Table → (last : ℕ) → Type 0
 Settles t last = FitsUpTo (tableDemand t) last → EveryLengthFits (tableDemand t)
 
@@ -41,30 +41,30 @@ module _ (t : Table) (period : ℕ) (known : Known t period) {d growth : ℕ} (l
       let last = (d + 1) * period + d in
       absurd (omega (arith, last-fails above, fits last (omega (arith, known .some-period)) (omega arith)))
 
--- ---- of an accepted table
+-- ---- an accepted table
 
-pub lengths-that-settle : laws.LengthsThatSettle
+pub lengths-that-settle : LengthsThatSettle
 lengths-that-settle s period bytes accepted slow =
     settled-by-one-period (tableRead s .table) period (accepted-is-known s period bytes accepted) refl refl slow
 
-pub smallest-is-among-them : laws.SmallestIsAmongThem
+pub smallest-is-among-them : SmallestIsAmongThem
 smallest-is-among-them s period bytes accepted slow L smallest =
     let t = tableRead s .table in
     let known = accepted-is-known s period bytes accepted in
     smallest-within-a-period (tableDemand t) (largestD t) period (tableGrowth t period) (known .curve) (known .some-period) slow L smallest
 
-pub overloaded-above-one : laws.OverloadedAboveOne
+pub overloaded-above-one : OverloadedAboveOne
 overloaded-above-one s period bytes accepted above =
     let t = tableRead s .table in
     let known = accepted-is-known s period bytes accepted in
     let last = (largestD t + 1) * period + largestD t in
     has-smallest-failing (tableDemand t) last (omega (arith, known .some-period)) (last-fails t period known refl refl above)
 
--- ---- of the bytes that were read
+-- ---- the bytes that were read
 
 module _ (s : List ℕ) (read : TableRead) (reads-as : read ≡ tableRead s) where
   module _ (period : ℕ) (accepted : read .answer ≡ answer.Accepted period) where
-    -- A table that was accepted is known.
+    -- All that a verdict needs is known about the accepted table.
     pub read-is-known : Bytes s → Known (read .table) period
     read-is-known bytes = rw reads-as (accepted-is-known s period bytes (rw reads-as at accepted))
 

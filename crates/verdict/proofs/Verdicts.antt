@@ -1,4 +1,4 @@
--- One verdict at most is right for any bytes, and some verdict is. Outside, different verdicts say different things, and none says 0.
+-- At most one verdict is right for any bytes, and some verdict is. Different verdicts say different things, and none has the number 0. (docs/RULES.md, 5.6.)
 use Prim.Native.Nat.{ℕ}
 use mathlib.Core.Path.{_≡_, refl, sym, ap, ap₂, _∙_}
 use mathlib.Core.Logic.{⊎-elim}
@@ -15,23 +15,23 @@ use Rattle.verdict.specs.declared.Verdict.{Verdict}
 use Rattle.verdict.specs.declared.Verdict.the-variants as verdict
 use Rattle.verdict.specs.declared.Scan.the-variants as scan
 use Rattle.verdict.specs.Demand.{tableDemand, tableGrowth, largestD}
-use Rattle.verdict.specs.Verdict.{RightOf, RightOfRead, verdictSays, Scanned, OneVerdict, SomeVerdict, NeverSaysZero, SaidApart}
+use Rattle.verdict.specs.Verdict.{RightOf, RightOfRead, verdictSays, Scanned, OneVerdict, SomeVerdict, VerdictNeverSaysZero, VerdictsSaidApart}
 use Rattle.verdict.specs.Verdict.{FeasibleSays, OverloadedSays, RefusedVerdictSays}
 use Rattle.verdict.proofs.Accepted.{Known, accepted-is-known}
 
--- A witness is its length and its demand.
+-- Two witnesses with the same length and the same demand are the same.
 same-witness : (v w : Witness) → v .length ≡ w .length → v .demand ≡ w .demand → v ≡ w
 same-witness v w = ap₂ (λ l d. record { length = l; demand = d })
 
 -- ---- one verdict
 
--- A table has one witness at most.
+-- A table has at most one witness.
 one-witness : (t : Table) (v w : Witness) → RightOf t (verdict.Overloaded v) → RightOf t (verdict.Overloaded w) → v ≡ w
 one-witness t v w p q =
     let length : v .length ≡ w .length = one-smallest-failing (tableDemand t) (v .length) (w .length) (p .0) (q .0) in
     same-witness v w length (p .1 ∙ rw length (sym (q .1)))
 
--- One verdict at most is right for a table.
+-- At most one verdict is right for a table.
 one-right : (t : Table) (v w : Verdict) → RightOf t v → RightOf t w → v ≡ w
 one-right t verdict.Feasible verdict.Feasible p q = refl
 one-right t verdict.Feasible (verdict.Overloaded w) p q = absurd (none-where-every-length-fits (tableDemand t) (w .length) p (q .0))
@@ -41,7 +41,7 @@ one-right t (verdict.Overloaded v) (verdict.Overloaded w) p q = ap verdict.Overl
 one-right t (verdict.Overloaded v) (verdict.Refused r) p q = absurd q
 one-right t (verdict.Refused r) w p q = absurd p
 
--- One verdict at most is right for what was read.
+-- At most one verdict is right for what was read.
 one-right-of-read : (t : Table) (a : TableAnswer) (v w : Verdict) → RightOfRead t a v → RightOfRead t a w → v ≡ w
 one-right-of-read t (answer.Accepted period) v w p q = one-right t v w p q
 one-right-of-read t (answer.Refused r) v w p q = p ∙ sym q
@@ -71,12 +71,12 @@ smallest-found t last w found = (record { some-length = found .0; fails = found 
 
 -- ---- what a verdict says
 
-pub never-says-zero : NeverSaysZero
-never-says-zero verdict.Feasible = omega arith
-never-says-zero (verdict.Overloaded w) = omega arith
-never-says-zero (verdict.Refused r) = never-zero (r .refusal)
+pub verdict-never-says-zero : VerdictNeverSaysZero
+verdict-never-says-zero verdict.Feasible = omega arith
+verdict-never-says-zero (verdict.Overloaded w) = omega arith
+verdict-never-says-zero (verdict.Refused r) = never-zero (r .refusal)
 
--- Verdicts that agree in the three numbers that are said are one.
+-- Two verdicts that say the same three numbers are the same.
 same-said : (v w : Verdict) → verdictSays v .number ≡ verdictSays w .number → verdictSays v .first ≡ verdictSays w .first
     → verdictSays v .second ≡ verdictSays w .second → v ≡ w
 same-said verdict.Feasible verdict.Feasible n f s = refl
@@ -90,8 +90,8 @@ same-said (verdict.Refused q) (verdict.Overloaded w) n f s = absurd (no-answer (
 same-said (verdict.Refused q) (verdict.Refused r) n f s =
     ap₂ (λ kind place. verdict.Refused (record { refusal = kind; place = place })) (numbers-differ (q .refusal) (r .refusal) n) f
 
-pub said-apart : SaidApart
-said-apart v w e = same-said v w (ap (λ (s : Said). s .number) e) (ap (λ (s : Said). s .first) e) (ap (λ (s : Said). s .second) e)
+pub verdicts-said-apart : VerdictsSaidApart
+verdicts-said-apart v w e = same-said v w (ap (λ (s : Said). s .number) e) (ap (λ (s : Said). s .first) e) (ap (λ (s : Said). s .second) e)
 
 pub feasible-says : FeasibleSays
 feasible-says = refl

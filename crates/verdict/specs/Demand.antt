@@ -10,35 +10,35 @@ use Rattle.table.specs.Limits.{maxD, maxPeriod}
 use Rattle.table.specs.Content.{Content}
 use Rattle.table.specs.Tables.{contentOf}
 
--- A row's demand in a length of time.
+-- A row's demand in a length L is 0 if L < d, and otherwise (floor((L − d)/y) + 1) · x · c. (5.1)
 abbrev pub rowDemandOf : Row → (L : ℕ) → ℕ
 rowDemandOf r L = rowDemand (r .x) (r .y) (r .d) (r .c) L
 
--- The demand of a content in a length of time: the sum over its rows. (5.3)
+-- The demand of a table's content in a length of time is the sum of its rows' demands. (5.3)
 abbrev pub demandOf : Content → (L : ℕ) → ℕ
 demandOf content L = sumOver rowDemandOf (content .rows) L
 
--- How much a content's demand grows in a period that every y divides: the sum of x · c · (period / y).
+-- In a period that every y divides, the demand of a content grows by the sum of x · c · (period/y) over its rows. (5.7)
 abbrev pub growthOf : Content → (period : ℕ) → ℕ
 growthOf content period = total (λ (r : Row). rowGrowth (r .x) (r .y) (r .c) period) (content .rows)
 
--- The largest d of some rows; 0 where there is none.
+-- `largestOf` is the largest d of some rows. The largest d of no rows is 0. (5.8)
 unfoldable pub largestOf : List Row → ℕ
 largestOf [] = 0
 largestOf (r ∷ rs) = max (r .d) (largestOf rs)
 
--- The table's demand in a length of time is that of its content. (5.3)
+-- A table's demand in a length of time is that of its content. (5.3)
 unfoldable pub tableDemand : Table → (L : ℕ) → ℕ
 tableDemand t L = demandOf (contentOf t) L
 
--- How much the table's demand grows in a period.
+-- A table's demand grows in a period as much as that of its content does. (5.7)
 unfoldable pub tableGrowth : Table → (period : ℕ) → ℕ
 tableGrowth t period = growthOf (contentOf t) period
 
--- The largest d of a table.
+-- The largest d of a table is that of its rows in use. (5.8)
 abbrev pub largestD : Table → ℕ
 largestD t = largestOf (contentOf t .rows)
 
--- No length above this is ever looked at.
+-- No length above this is ever looked at: it is the bound of 5.9 with the largest d and the largest H that a table may have. (5.9)
 abbrev pub maxLength : ℕ
 maxLength = (maxD + 1) * maxPeriod + maxD

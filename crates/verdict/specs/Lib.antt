@@ -1,3 +1,3 @@
 pub mod Demand
 pub mod Verdict
-pub mod Laws
+pub mod ScanLaws

@@ -1,36 +1,37 @@
-// The verdict on a table: feasible where no length of time, however long, has more demand than length; else the smallest length that has, with its demand.
-// (docs/RULES.md, section 5.)
+// The verdict on a table. It is feasible if no length of time, however long, has more demand than length. Otherwise it is overloaded, and the answer is the
+// smallest length that has, with its demand. (docs/RULES.md, section 5.)
 use kinds::RefusedAt;
 use table::Row;
 use table::Table;
 use table::TableAnswer;
 ghost use mathlib.Core.Path.{_≡_};
 ghost use Prim.Native.Nat.{_≤_};
-ghost use Rattle.table.specs.Laws.{WithinLimits};
+ghost use Rattle.table.specs.SpelledTables.{WithinLimits};
 ghost use Rattle.table.specs.Limits.{maxPeriod};
 ghost use Rattle.table.specs.Tables.{InRange};
 ghost use Rattle.verdict.specs.Demand.{rowDemandOf, tableDemand, tableGrowth, largestD, maxLength};
 ghost use Rattle.verdict.specs.Verdict.{Scanned, Judged};
 
-// A length of time with more demand than length, and that demand.
+// The witness of an overloaded table is the smallest length whose demand is above it, with that demand. (1.11)
 pub struct Witness {
     pub length: u64,
     pub demand: u64,
 }
 
+// A table is feasible, overloaded with a witness, or refused. (5.4, 5.5)
 pub enum Verdict {
     Feasible,
     Overloaded(Witness),
     Refused(RefusedAt),
 }
 
-// What a look at a range of lengths finds.
+// A scan of some lengths finds that the demand in each is at most the length, or finds the smallest that fails.
 enum Scan {
     Fits,
     Fails(Witness),
 }
 
-// One division, as in the rule. Below d there is no demand.
+// Below d there is no demand. Testing this first keeps the subtraction from wrapping. (5.1)
 fn row_demand(row: Row, length: u64) -> u64
     requires { ⌜ (WithinLimits row) × (length ≤ maxLength) ⌝ }
     ensures { λ r. ⌜ r ≡ rowDemandOf row length ⌝ }
@@ -41,7 +42,7 @@ fn row_demand(row: Row, length: u64) -> u64
     ((length - row.d) / row.y + 1) * row.x * row.c
 }
 
-// The plain engine: the demand at each length from the first to the last, and the smallest that fails.
+// The demand in each length from `first` to `last` is worked out, and the first length whose demand is above it ends the scan. (5.3, 5.5)
 fn scan_range(table: Table, first: u64, last: u64) -> Scan
     requires { ⌜ (InRange table) × (last ≤ maxLength) ⌝ }
     ensures { λ r. ⌜ Scanned (tableDemand table) first last r ⌝ }
@@ -64,7 +65,7 @@ fn scan_range(table: Table, first: u64, last: u64) -> Scan
     Scan::Fits
 }
 
-// How much the demand grows in a period.
+// The sum of x · c · (period/y) over the rows is how much the demand grows in a period. (5.7)
 fn growth(table: Table, period: u64) -> u64
     requires { ⌜ (InRange table) × (period ≤ maxPeriod) ⌝ }
     ensures { λ r. ⌜ r ≡ tableGrowth table period ⌝ }
@@ -80,6 +81,7 @@ fn growth(table: Table, period: u64) -> u64
     sum
 }
 
+// The largest d of no rows is 0. (5.8)
 fn largest_d(table: Table) -> u64
     requires { ⌜ InRange table ⌝ }
     ensures { λ r. ⌜ r ≡ largestD table ⌝ }
@@ -97,8 +99,8 @@ fn largest_d(table: Table) -> u64
     largest
 }
 
-// The verdict on the table that the bytes spell, or its refusal. Where the growth in a period is at most the period, the lengths up to period + largest d settle
-// it; else a length up to (largest d + 1) · period + largest d fails.
+// The answer is the verdict on the table that the bytes spell, or its refusal. Where the demand grows in H ticks by at most H, the lengths up to H + the
+// largest d settle the verdict. Otherwise a length up to (the largest d + 1) · H + the largest d fails. (5.4 to 5.9)
 pub fn judge(bytes: &[u8]) -> Verdict
     ensures { λ r. ⌜ Judged (now (bytes .entry)) r ⌝ }
 {

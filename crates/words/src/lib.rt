@@ -1,4 +1,4 @@
-// Words: numbers in eight bytes, lowest first, as they stand in the host's answer buffer. This is not the spelling of tables and scripts. (docs/RULES.md, 9.4.)
+// Words: numbers in eight bytes, the lowest byte first, as they stand in the host's answer buffer. This is not the spelling of tables and scripts. (9.4)
 use kinds::Refusal;
 use kinds::RefusedAt;
 use numbers::Number;
@@ -9,10 +9,11 @@ ghost use lib.ListN.{length};
 ghost use Rattle.numbers.specs.Reading.{misspelledAt};
 ghost use Rattle.words.specs.Words.{putWord, restWith, wordAt};
 
-// How many bytes a word has.
+// The length of a word in bytes. (9.4)
 pub const WORD: usize = 8;
 
-// Writes a number into the first eight bytes of the rest of a buffer, and keeps what comes after: 12 where it has no room, with the rest as it was.
+// Writes a number into the first eight bytes of `rest` and keeps the bytes after them. Where `rest` has fewer than eight bytes, the answer is refusal 12, and
+// `rest` is unchanged. (9.4, 10.7)
 pub fn put(rest: &mut [u8], value: u64) -> Written
     ensures { λ r. ⌜ (r ≡ putWord (length (now (rest .entry)))) × (now (rest .exit) ≡ restWith r value (now (rest .entry))) ⌝ }
 {
@@ -29,7 +30,7 @@ pub fn put(rest: &mut [u8], value: u64) -> Written
     Written::Length(WORD)
 }
 
-// The number in the eight bytes at a place: refusal 1 at the place where they are cut off.
+// Reads the number in the eight bytes at a place. Where fewer than eight stand there, the answer is refusal 1 at that place. (9.4, 10.7)
 pub fn get(bytes: &[u8], at: usize) -> NumberRead
     ensures { λ r. ⌜ r ≡ wordAt (now (bytes .entry)) at ⌝ }
 {
@@ -51,6 +52,7 @@ pub fn get(bytes: &[u8], at: usize) -> NumberRead
     })
 }
 
+// Refusal 1 at a place, for a word that is cut off. (10.7)
 fn cut_off(place: usize) -> NumberRead
     ensures { λ r. ⌜ r ≡ misspelledAt place ⌝ }
 {

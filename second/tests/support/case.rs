@@ -38,7 +38,7 @@ pub struct Case {
     pub answer: Vec<u8>,
 }
 
-/// Everything that a caller can see afterwards.
+/// An outcome is everything that a caller can see afterwards.
 #[derive(PartialEq, Eq)]
 pub struct Outcome {
     pub status: u32,
@@ -74,7 +74,7 @@ impl Case {
         let mut log = fenced(&self.log);
         let mut answer = fenced(&self.answer);
         let before = [table.clone(), script.clone(), log.clone(), answer.clone()];
-        // SAFETY: each pointer and length is of a buffer of its own, or null and 0.
+        // SAFETY: each pointer and length belong to a buffer of its own, or are null and 0.
         let status = unsafe {
             match self.call {
                 Call::Verdict => library::verdict(table.pointer(), table.len(), answer.pointer(), answer.len()),

@@ -3,7 +3,7 @@
 use super::random::Random;
 use second::numbers;
 
-/// The spelling of a list of numbers, of which one is wrong.
+/// Spells a list of numbers, and misspells one of them.
 pub fn misspell_one(list: &[u64], random: &mut Random) -> Vec<u8> {
     let bad = random.index(list.len().max(1));
     let mut bytes = vec![];
@@ -37,7 +37,7 @@ fn misspelled(good: &[u8], random: &mut Random) -> Vec<u8> {
     }
 }
 
-/// One to three changes to the bytes, wherever they fall.
+/// Makes one to three changes to the bytes, wherever they fall.
 pub fn mutate(good: &[u8], random: &mut Random) -> Vec<u8> {
     let mut bytes = good.to_vec();
     for _ in 0..random.within(1, 3) {

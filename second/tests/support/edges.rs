@@ -28,7 +28,7 @@ pub fn all() -> Vec<Case> {
     cases
 }
 
-/// One replay with each size of log that matters.
+/// Makes one replay with each size of log buffer that matters.
 fn replays(table: &[u8], script: &[u8]) -> Vec<Case> {
     let length =
         table::read(table).and_then(|table| replay::replay(&table, script)).map_or(10, |done| done.log().len());
@@ -67,19 +67,19 @@ fn edge_rows() -> Vec<Vec<Row>> {
         vec![[1, 64, 64, 4]; 16],
         vec![[1, 64, 64, 4]; 17],
         vec![[64, 1, 16_384, 4_096]; 16],
-        // The longest period that is allowed and the shortest that isn't.
+        // These have the longest period that is accepted, and the shortest that is refused.
         vec![[1, 1_023, 1_023, 500], [1, 1_025, 1_025, 500]],
         vec![[1, 1_023, 1_023, 512], [1, 1_025, 1_025, 512]],
         vec![[1, 1_141, 1, 1], [1, 919, 1, 1]],
         vec![[1, 919, 1, 1], [1, 1_141, 1, 1]],
         vec![[1, 4_093, 1, 1]; 16],
         [4_093, 4_091, 4_079, 4_073, 4_057, 4_051, 4_049, 4_027].map(|y| [1, y, 1, 1]).to_vec(),
-        // Witnesses far past H and the largest d.
+        // These have witnesses far past H + the largest d.
         vec![[1, 2, 1_000, 3]],
         vec![[1, 100, 16_384, 101]],
         vec![[1, 30, 1_000, 30], [1, 64, 1_000, 1]],
         vec![[1, 255, 4_000, 255], [1, 256, 4_000, 1]],
-        // Just in use: exactly 1, where one unit less of d is too little.
+        // The sum of x * c / y is exactly 1. Each d is y, or one tick less.
         vec![[1, 2, 2, 1], [1, 4, 4, 2]],
         vec![[1, 2, 2, 1], [1, 4, 3, 2]],
         vec![[1, 2, 1, 1], [1, 4, 4, 2]],
@@ -104,7 +104,7 @@ fn misspellings() -> [Vec<u8>; 8] {
         vec![0x81, 0x80, 0x80, 0x80, 0x80, 0x80, 0x00],
         vec![0x81, 0x80, 0x80, 0x80, 0x80, 0x80, 0x01],
         vec![0xff, 0xff, 0xff, 0xff, 0xff, 0xff],
-        // Rightly spelled, but far out of range.
+        // These are rightly spelled, but far out of range.
         vec![0xff, 0xff, 0xff, 0xff, 0xff, 0x7f],
         vec![0x80, 0x80, 0x80, 0x80, 0x80, 0x01],
     ]
@@ -152,7 +152,7 @@ fn edge_records() -> Vec<(Vec<Row>, Vec<Record>)> {
         (d1.clone(), as_in_the_paper.clone()),
         (d2, as_in_the_paper),
         (d1, vec![[0, 0, 1], [20, 0, 1]]),
-        // Rows and costs past their limits, and far enough to look right in fewer bits.
+        // These have row numbers and costs past their limits, some of them far enough to look right in fewer bits.
         (v2.clone(), vec![[0, 1, 1]]),
         (v2.clone(), vec![[0, 1 << 8, 1]]),
         (v2.clone(), vec![[0, 1 << 32, 1]]),
@@ -160,7 +160,7 @@ fn edge_records() -> Vec<(Vec<Row>, Vec<Record>)> {
         (v2.clone(), vec![[0, 0, 2]]),
         (v2.clone(), vec![[0, 0, 257]]),
         (v2.clone(), vec![[0, 0, (1 << 32) + 1]]),
-        // The last place, the one after it, and the one that a finished job makes free.
+        // These take the last place, one place more, and the place that a finished job frees.
         (wide.clone(), burst(64, 0)),
         (wide.clone(), burst(65, 0)),
         (wide.clone(), then(burst(64, 0), [1, 0, 1])),
@@ -169,7 +169,7 @@ fn edge_records() -> Vec<(Vec<Row>, Vec<Record>)> {
         (wide.clone(), then(burst(64, LAST_TICK - 7), [0, 0, 1])),
         (vec![[64, 1, 8, 9], [1, 1, 9, 9]], then(burst(64, LAST_TICK - 8), [0, 1, 1])),
         (vec![[64, 1, 8, 9], [1, 1, 9, 9]], then(burst(63, LAST_TICK - 8), [0, 1, 1])),
-        // Time and due time at the last tick and past it.
+        // These have script times and due times at 2^40 and above.
         (v2.clone(), vec![[LAST_TICK, 0, 1]]),
         (v2.clone(), vec![[LAST_TICK, 1, 1]]),
         (v2.clone(), vec![[LAST_TICK, 0, 2]]),
@@ -182,18 +182,18 @@ fn edge_records() -> Vec<(Vec<Row>, Vec<Record>)> {
         (v2.clone(), vec![[LAST_TICK - 8, 0, 1], [0, 0, 1]]),
         (v2.clone(), vec![[LAST_TICK - 7, 0, 1], [0, 0, 1]]),
         (v2, vec![[LAST_TICK - 8, 0, 1], [0, 0, 1], [0, 0, 1]]),
-        // The clock stops the final ticks, or just doesn't.
+        // The clock comes to 2^40 in the final ticks, with a job pending or just without one.
         (hopeless.clone(), vec![[LAST_TICK - 2, 0, 2]]),
         (hopeless.clone(), vec![[LAST_TICK - 2, 0, 3]]),
         (hopeless, vec![[0, 0, 3], [LAST_TICK - 2, 0, 3]]),
-        // On time to the tick, and one tick late.
+        // One job finishes exactly at its due time, and another one tick later.
         (vec![[2, 1, 1, 1]], vec![[0, 0, 1]]),
         (vec![[2, 1, 1, 1]], vec![[0, 0, 1], [0, 0, 1]]),
-        // The last record is shorter than those before it: nine bytes less of log and it still fits, but they don't.
+        // The last log record is shorter than those before it. With nine bytes less of buffer it fits, and they don't.
         (vec![[1, 1, 16_000, 1], [64, 1, 1, 1]], [&[[0, 0, 1], [0, 1, 1]][..], &[[1, 1, 1]; 139]].concat()),
-        // Serials and times of three groups, and due times far past their releases.
+        // The serials and times have three groups, and the due times are far past their releases.
         (vec![[64, 80, 8, 1]], vec![[1, 0, 1]; 20_000]),
-        // Equal due times go by serial.
+        // Among equal due times the lowest serial goes first.
         (vec![[9, 9, 9, 9], [9, 9, 5, 9]], vec![[0, 0, 2], [4, 1, 3], [0, 0, 1], [0, 1, 2]]),
     ]
 }

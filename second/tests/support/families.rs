@@ -72,7 +72,7 @@ pub const ALL: [Family; 11] = [
     }),
 ];
 
-/// A verdict, where a program that looks at every length can be waited for; otherwise a replay on the same table.
+/// Makes a verdict where a program that looks at every length ends soon, and otherwise a replay on the same table.
 fn judge(table: Vec<u8>, random: &mut Random) -> Case {
     let patience = if random.one_in(200) { 1_100_000 } else { 20_000 };
     if tables::lengths_to_look_at(&table) <= patience {
@@ -87,7 +87,7 @@ fn play(table: Vec<u8>, script: Vec<u8>, random: &mut Random) -> Case {
     Case::replay(table, script, log, answer(random))
 }
 
-/// A log that is just right, too short by a little or by a lot, or longer than it need be.
+/// Makes a log buffer that is just long enough, too short by a little or by a lot, or longer than it need be.
 fn log(table: &[u8], script: &[u8], random: &mut Random) -> Vec<u8> {
     let outcome = table::read(table).and_then(|table| replay::replay(&table, script));
     let length = outcome.map_or_else(|_| random.index(60), |replayed| replayed.log().len());

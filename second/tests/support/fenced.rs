@@ -13,8 +13,8 @@ pub struct Fenced {
 }
 
 impl Fenced {
-    /// The fence has bytes of two kinds by turns: any, or small numbers, which would carry on a table or a script
-    /// for a program that reads too far. An empty buffer may be lent as a null pointer.
+    /// Puts a fence around a buffer. By turns its bytes are any bytes, or small numbers, with which a table or a script
+    /// would go on for a program that reads too far. An empty buffer may be lent as a null pointer.
     pub fn around(content: &[u8], random: &mut Random) -> Fenced {
         let most = random.pick(&[4, 256]);
         let mut fence = |length| (0..length).map(|_| random.below(most) as u8).collect::<Vec<u8>>();
@@ -25,8 +25,8 @@ impl Fenced {
         Fenced { bytes: [&before[..start], content, &after].concat(), start, length: content.len(), null }
     }
 
-    /// Mutable for the buffers too that the library may only read: that it doesn't write there is to be seen, not
-    /// assumed.
+    /// The pointer is mutable even where the library may only read, since the comparison checks that it doesn't write
+    /// there.
     pub fn pointer(&mut self) -> *mut u8 {
         if self.null {
             std::ptr::null_mut()

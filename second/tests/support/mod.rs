@@ -1,7 +1,7 @@
-//! What the comparisons share: random numbers, fenced buffers, inputs good and bad, and the two programs behind one
-//! face.
+//! The parts that the comparisons share: random numbers, fenced buffers, good and bad inputs, and the two programs
+//! behind one interface.
 
-// Each comparison is a program of its own and uses a part of this.
+// Each comparison is a program of its own and uses only some of these parts.
 #![allow(dead_code)]
 
 pub mod case;

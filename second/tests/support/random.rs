@@ -3,7 +3,7 @@
 pub struct Random(u64);
 
 impl Random {
-    /// The numbers of one comparison: each has its own, so that it can be repeated without those before it.
+    /// Starts the numbers of one comparison. Each has its own, so that it can be repeated without those before it.
     pub fn of(seed: u64, comparison: u64) -> Random {
         let mut of_seed = Random(seed);
         let start = of_seed.next();
@@ -22,7 +22,7 @@ impl Random {
         self.next() % bound
     }
 
-    /// From low to high, both included.
+    /// Returns a number from low to high, both included.
     pub fn within(&mut self, low: u64, high: u64) -> u64 {
         low + self.below(high - low + 1)
     }

@@ -5,7 +5,7 @@ use super::tables::{spell_numbers, Row};
 use second::run::LAST_TICK;
 use second::table::MOST_C;
 
-/// Gap, row, cost.
+/// A record is a gap, a row number and a cost.
 pub type Record = [u64; 3];
 
 pub fn spell(records: &[Record]) -> Vec<u8> {
@@ -55,7 +55,7 @@ fn crowded(rows: &[Row], random: &mut Random) -> Vec<Record> {
     jobs(rows, count, most_gap, 5, random)
 }
 
-/// Up to the last free place and just past it, once or with a few finished in between.
+/// Fills the places to the last one or just past it, once or with a few jobs finished in between.
 pub fn burst(rows: &[Row], random: &mut Random) -> Vec<Record> {
     let count = random.within(62, 66);
     let mut records = jobs(rows, count, 0, random.pick(&[1, 2, 9]), random);
@@ -68,7 +68,7 @@ pub fn burst(rows: &[Row], random: &mut Random) -> Vec<Record> {
     records
 }
 
-/// Due times, script times or final ticks that reach the last tick or just miss it.
+/// Makes due times, script times or final ticks that reach 2^40 or just miss it.
 pub fn near_the_end(rows: &[Row], random: &mut Random) -> Vec<Record> {
     let d = if rows.is_empty() { 1 } else { random.pick(rows)[2] };
     let from_the_end = match random.below(4) {
@@ -98,7 +98,7 @@ pub fn near_the_end(rows: &[Row], random: &mut Random) -> Vec<Record> {
     records
 }
 
-/// Long idle times, which have to be crossed in one go.
+/// Makes long idle times, which have to be crossed in one go.
 fn far_apart(rows: &[Row], random: &mut Random) -> Vec<Record> {
     let count = random.within(1, 20);
     (0..count)
@@ -110,7 +110,7 @@ fn far_apart(rows: &[Row], random: &mut Random) -> Vec<Record> {
         .collect()
 }
 
-/// No such row, a cost that is not allowed, or a time past the last tick.
+/// Gives a record a row number that is not in use, a cost that is 0 or above the row's c, or a time above 2^40.
 pub fn spoil_a_value(rows: &[Row], records: &mut [Record], random: &mut Random) {
     if records.is_empty() {
         return;
@@ -126,8 +126,8 @@ pub fn spoil_a_value(rows: &[Row], records: &mut [Record], random: &mut Random) 
     }
 }
 
-/// A job of a row that is never in a hurry waits for many short ones. Its record comes last and is the shortest for a
-/// long time: it would still fit where theirs no longer did.
+/// Makes a job with a late due time that waits for many short jobs. Its log record comes last and is shorter than many
+/// before it, so it would still fit where theirs did not.
 pub fn waiting_job(random: &mut Random) -> (Vec<Row>, Vec<Record>) {
     let rows = vec![[1, 1, 16_000, 4], [64, 1, random.within(1, 3), 1]];
     let mut records = vec![[0, 0, random.within(1, 4)], [0, 1, 1]];

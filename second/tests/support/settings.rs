@@ -1,4 +1,4 @@
-//! Settings from the environment.
+//! Settings are read from the environment.
 
 pub fn number(variable: &str, otherwise: u64) -> u64 {
     match std::env::var(variable) {

@@ -5,7 +5,7 @@ use second::numbers;
 use second::table::{self, Table};
 use second::verdict::{verdict, Verdict};
 
-/// x, y, d, c.
+/// A row is x, y, d and c.
 pub type Row = [u64; 4];
 
 pub fn spell(rows: &[Row]) -> Vec<u8> {
@@ -20,8 +20,8 @@ pub fn numbers_of(rows: &[Row]) -> Vec<u64> {
     [rows.len() as u64].into_iter().chain(rows.iter().flatten().copied()).collect()
 }
 
-/// How many lengths a program looks at that goes through them from 1 up. Above 1 in use there is no telling but by
-/// the witness.
+/// Returns how many lengths a program looks at that goes through them from 1 up. Where the sum of x * c / y is above 1,
+/// only the witness tells.
 pub fn lengths_to_look_at(bytes: &[u8]) -> u64 {
     match table::read(bytes) {
         Err(_) => 0,
@@ -36,13 +36,13 @@ pub fn last_of_first_period(table: &Table) -> u64 {
     table.period + table.largest_d()
 }
 
-/// Rows of any kind below.
+/// Makes rows of any of the kinds below.
 pub fn any(random: &mut Random) -> Vec<Row> {
     let kinds = [small, balanced, balanced, balanced, many, late_witness, long_period, at_limits];
     random.pick(&kinds)(random)
 }
 
-/// A table to replay on: accepted, with room for many jobs.
+/// Makes a table to replay on: it is accepted, and has room for many jobs.
 pub fn to_replay(random: &mut Random) -> Vec<Row> {
     random.pick(&[small, small, hasty, hasty, balanced, many, wide])(random)
 }
@@ -52,7 +52,7 @@ pub fn small(random: &mut Random) -> Vec<Row> {
     (0..count).map(|_| [random.within(1, 3), random.within(1, 12), random.within(1, 24), random.within(1, 4)]).collect()
 }
 
-/// Rows that take just about the whole processor: the last one fills it up, but for a unit or so.
+/// Makes rows that take about the whole processor: the last row fills it up, to a unit or so.
 pub fn balanced(random: &mut Random) -> Vec<Row> {
     let period: u64 = random.pick(&[6, 12, 24, 60, 120, 210, 1_024]);
     let divisors: Vec<u64> = (1..=period).filter(|divisor| period.is_multiple_of(*divisor)).collect();
@@ -96,7 +96,7 @@ fn many(random: &mut Random) -> Vec<Row> {
         .collect()
 }
 
-/// Rows that ask for a little more than there is, but are due so late that it takes long to show.
+/// Makes rows that ask for a little more than there is, but are due so late that the witness is long.
 pub fn late_witness(random: &mut Random) -> Vec<Row> {
     let y = random.within(1, 40);
     let d = random.pick(&[20, 100, 400, 2_000]) + random.below(50);
@@ -109,7 +109,7 @@ pub fn late_witness(random: &mut Random) -> Vec<Row> {
     rows
 }
 
-/// Around the longest period: 1023 with 1025 is just allowed, 1141 with 919 just not.
+/// Makes periods near the limit: 1023 with 1025 is just accepted, and 1141 with 919 is just refused.
 pub fn long_period(random: &mut Random) -> Vec<Row> {
     let (one, other) = random.pick(&[
         (1_023, 1_025),
@@ -133,7 +133,7 @@ pub fn long_period(random: &mut Random) -> Vec<Row> {
     rows
 }
 
-/// Each value at one of its limits, and now and then past it.
+/// Makes rows with each value at one of its limits, and now and then past it.
 pub fn at_limits(random: &mut Random) -> Vec<Row> {
     let count = random.pick(&[1, 1, 2, 3, 15, 16, 17]);
     (0..count)
@@ -152,13 +152,13 @@ pub fn at_limits(random: &mut Random) -> Vec<Row> {
         .collect()
 }
 
-/// Rows that are due sooner than they can all be served.
+/// Makes rows that are due sooner than they can all be served.
 fn hasty(random: &mut Random) -> Vec<Row> {
     let count = random.within(1, 3);
     (0..count).map(|_| [random.within(1, 4), random.within(1, 3), random.within(1, 6), random.within(1, 4)]).collect()
 }
 
-/// Few rows with many places before the spacing by y sets in.
+/// Makes few rows with a large x, so that many jobs come before the spacing by y sets in.
 fn wide(random: &mut Random) -> Vec<Row> {
     let count = random.within(1, 3);
     (0..count)

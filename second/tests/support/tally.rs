@@ -1,4 +1,4 @@
-//! What the comparisons came across.
+//! A tally of what the comparisons came across.
 
 use super::case::{Call, Case};
 use super::tables::last_of_first_period;
@@ -10,7 +10,7 @@ use std::collections::BTreeMap;
 #[derive(Default)]
 pub struct Tally {
     statuses: BTreeMap<(Call, u32), u64>,
-    /// Overloaded tables whose witness lies past H and the largest d together.
+    /// This many overloaded tables had a witness past H + the largest d.
     pub late_witnesses: u64,
 }
 
@@ -33,14 +33,14 @@ impl Tally {
         self.statuses.values().sum()
     }
 
-    /// Each status of a call, and how often it was met.
+    /// Says each status of a call, and how often it was met.
     pub fn histogram(&self, call: Call) -> String {
         let of_call = self.statuses.iter().filter(|((of, _), _)| *of == call);
         let parts: Vec<String> = of_call.map(|((_, status), count)| format!("{status}: {count}")).collect();
         parts.join(", ")
     }
 
-    /// Those of a call's possible statuses that were never met.
+    /// Returns those of a call's possible statuses that were never met.
     pub fn missing(&self, call: Call, possible: &[u32]) -> Vec<u32> {
         possible.iter().copied().filter(|&status| !self.statuses.contains_key(&(call, status))).collect()
     }

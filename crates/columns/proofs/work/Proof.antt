@@ -1,4 +1,5 @@
--- `columns::work` meets its contract: nothing is pending, no time is left, the job that goes first needs more units, or it finishes.
+-- `columns::work` meets its contract. There are four cases: nothing is pending, no time is left, the chosen job needs more units than there are ticks, or it
+-- finishes.
 use Prim.Native.Nat.{_-_, _≤_, _<_}
 use native.Mathlib.Omega.{arith}
 use borrow.Author.Needs.{needs}
@@ -7,28 +8,28 @@ use Rattle.columns.proofs.Working.{works-nothing, works-no-time, works-
 use Rattle.columns.proofs.work.Statement.{statement}
 use Rattle.columns.proofs.work.Tie as tie
 
--- Where the time left was tested, seen from where the job was chosen.
+-- The point where the time left was tested, seen from the point where the job was chosen.
 abbrev tested : tie.After-first-due → tie.Else2
 tested c = c .before .before .before .before .before
 
--- Where the jobs were counted.
+-- The point where the used places were counted, seen from the point where the time left was tested.
 abbrev counted : tie.Else2 → tie.After-in-use
 counted c = c .before .before .before .before
 
--- Some are pending.
+-- Past the first test at least one job is pending.
 some : (c : tie.Else2) → 1 ≤ counted c .in-use .result
 some c = omega (arith, c .before .before .before .if1 .left)
 
--- The place of the job that goes first is below 64, and none after the last in use.
+-- The place of the chosen job is below 64.
 inside : (c : tie.After-first-due) → c .first-due .result < 64
 inside c = omega (arith, c .first-due .ensures .inside, counted (tested c) .in-use .ensures)
 
--- What closing up asks.
+-- The place of the chosen job and the last used place meet what `close_up` requires.
 closes : (c : tie.After-first-due)
     → (let n = counted (tested c) .in-use .result in (c .first-due .result ≤ n - 1) × (n - 1 < maxPlaces))
 closes c = (omega (arith, c .first-due .ensures .inside, some (tested c)), omega (arith, counted (tested c) .in-use .ensures, some (tested c)))
 
--- Where the job was chosen, seen from where there are ticks enough.
+-- The point where the job was chosen, seen from the point where there are ticks enough.
 abbrev chosen : tie.Else3 → tie.After-first-due
 chosen c = c .before .before .before
 

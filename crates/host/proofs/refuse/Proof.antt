@@ -1,4 +1,4 @@
--- `host::refuse` meets its contract: the refusal's number is said, and its place and 0 are written.
+-- `host::refuse` meets its contract: the refusal's number is returned, and its place and 0 are written.
 use borrow.Author.Needs.{needs}
 use Rattle.host.proofs.refuse.Statement.{statement}
 use Rattle.host.proofs.refuse.Tie as tie

@@ -1,4 +1,4 @@
--- `host::replay` meets its contract: each outcome is answered by what it says.
+-- `host::replay` meets its contract: it returns and writes what the outcome of the replay says.
 use Prim.Native.Nat.{ℕ}
 use mathlib.Core.Path.{_≡_, sym, _∙_}
 use mathlib.Core.List.{List}
@@ -12,7 +12,7 @@ use Rattle.host.specs.Answer.{answerLength, answerBytes, replayStatus, r
 use Rattle.host.proofs.replay.Statement.{statement}
 use Rattle.host.proofs.replay.Tie as tie
 
--- The answer buffer's length is right, and what came of the replay is answered by what it says.
+-- Where the answer buffer is 16 bytes long, the call returns and writes what the outcome of the replay says.
 answered : (c : tie.After-slice-known3) (v : Replayed) (status : ℕ) (after : List ℕ) → c .before .before .replay .result ≡ v
     → (status ≡ replaySays v .number) × (after ≡ answerBytes (replaySays v))
     → (let a = c .before .before .before .before .before .before .before .before .before .args in

@@ -1,9 +1,9 @@
--- `host::say` meets its contract: the two numbers fill the buffer.
+-- `host::say` meets its contract: the two numbers fill the answer buffer.
 use mathlib.Core.Path.{refl, _∙_}
 use native.Mathlib.Omega.{arith}
 use borrow.Author.Needs.{needs}
 use Rattle.words.specs.Words.{wordLength}
-use Rattle.words.proofs.Laws.{put-stores-first, put-stores}
+use Rattle.words.proofs.Storing.{put-stores-first, put-stores}
 use Rattle.host.proofs.Bytes.{both-numbers}
 use Rattle.host.proofs.say.Statement.{statement}
 use Rattle.host.proofs.say.Tie as tie

@@ -1,4 +1,4 @@
--- `host::verdict` meets its contract: each verdict is answered by what it says.
+-- `host::verdict` meets its contract: it returns and writes what the verdict says.
 use Prim.Native.Nat.{ℕ}
 use mathlib.Core.Path.{_≡_, refl}
 use mathlib.Core.List.{List}
@@ -10,7 +10,7 @@ use Rattle.host.specs.Answer.{answerBytes, VerdictAnswered, wrong-size, 
 use Rattle.host.proofs.verdict.Statement.{statement}
 use Rattle.host.proofs.verdict.Tie as tie
 
--- The buffer's length is right, and the judge's verdict is answered by what it says.
+-- Where the answer buffer is 16 bytes long, the call returns and writes what the verdict says.
 answered : (c : tie.After-judge) (v : Verdict) (status : ℕ) (after : List ℕ) → c .judge .result ≡ v
     → (status ≡ verdictSays v .number) × (after ≡ answerBytes (verdictSays v))
     → (let a = c .before .before .before .before .args in VerdictAnswered (a .table .now) (a .answer .now) status after)

@@ -1,5 +1,6 @@
--- `lent::release` meets its contract: a walk of its MIR, by hand. The borrow is opened, the run is copied out and passed to `run::Run::release`,
--- the run that this returns is stored whole, and the borrow is closed at it. All that is known of `run::Run::release` is that it meets its contract.
+-- `lent::release` meets its contract. The proof goes by hand through the function's MIR, the compiler's code, one step after another. The borrow is opened, the
+-- run is copied out and passed to `run::Run::release`, the run that this returns is stored whole, and the borrow is closed at it. The proof uses only the
+-- contract of `run::Run::release`. A comment in square brackets lists what is held at that point, where _0, _1 and so on are the locals of the MIR.
 use mathlib.Core.Path.{_≡_, refl, ap}
 use Prim.Native.Nat.{ℕ}
 use mathlib.Core.List.{[], _∷_, List}
@@ -63,14 +64,14 @@ use Rattle.lent.proofs.release as fn
 use Rattle.lent.proofs.release.Statement as stated
 use Rattle.lent.proofs.release.Code as code
 
--- The walk, for any state T, any step S of the state and the answer, and any two further arguments.
+-- The proof is for any state T, any step S that consists of the state and the answer, and any two further arguments.
 module _ {M : Type 1} (𝓤 : URA M) (H : Heap 𝓤) (A : Atoms 𝓤) (W : Given 𝓤 H A)
     (T : RattleType) (τ : Ty) (state : T .Denot → Val) (T-is : Stored 𝓤 H A T τ state)
     (S : RattleType) (ν : Sym) (α ω χ π : Ty) (run : S .Denot → T .Denot) (answer : S .Denot → Val) (f : Name) where
   abbrev σ : Ty
   σ = tyStruct ν (tcons τ (tcons α tnil))
 
-  -- the machine value of a step
+  -- The machine value of a step.
   abbrev stepped : S .Denot → Val
   stepped s = vstruct (ofList (state (run s) ∷ answer s ∷ []))
 
@@ -139,14 +140,15 @@ row-val = LL.val N.the-type N′.the-laws
 abbrev answer-val : ReleaseStep → Val
 answer-val s = EL.val E.the-type E′.the-laws (s .answer)
 
--- the contract that the proof cites
+-- The contract of `run::Run::release`.
 abbrev Core : {M : Type 1} (𝓤 : URA M) (H : Heap 𝓤) (A : Atoms 𝓤) (at-mem : Memory → SProp 𝓤) (runs : Routine → Fun 𝓤) → Contract 𝓤
 Core 𝓤 H A at-mem runs = tripleOf 𝓤 H A core.signature (core.spec 𝓤 H A at-mem runs)
 
--- what is known of the fields of a step: its run, and its answer
+-- The run in a step that was returned is a value of its type.
 run-is : (s : ReleaseStep) (v : Val) → Is S.the-row s (v ∷ []) → Is T.the-row (s .run) (run-val (s .run) ∷ [])
 run-is s v is = LL.owed S.the-type S′.the-laws s (v ∷ []) is .0
 
+-- The answer in a step that was returned is a value of its type.
 answer-is : (s : ReleaseStep) (v : Val) → Is S.the-row s (v ∷ []) → Is E.the-row (s .answer) (answer-val s ∷ [])
 answer-is s v is = LL.owed S.the-type S′.the-laws s (v ∷ []) is .1 .0
 
@@ -165,10 +167,11 @@ module _ {M : Type 1} (𝓤 : URA M) (H : Heap 𝓤) (A : Atoms 𝓤) (W : Given
   abbrev step : ReleaseStep
   step = released h (row .0) cost
 
-  -- the call: what it is passed, what it asks, and what is known of its result
+  -- What `run::Run::release` is passed.
   abbrev to-core : Core 𝓤 H A at-mem runs .Ghost
   to-core = ((tt, tt, tt, (h, (row, (cost, tt))), (run-val h ∷ [], (row-val row ∷ [], (uint-vals w64 cost, tt)))), tt)
 
+  -- What the run and the arguments own is what `run::Run::release` asks for.
   asked : ent 𝓤 (sem 𝓤 H A (T.the-row .own h (run-val h ∷ []))) (Core 𝓤 H A at-mem runs .pre to-core)
   asked =
       qed W (‵ (T.the-row .own h (run-val h ∷ [])) ∷ []) ∵ nothing ! $ owned ! u64 (Is u64) (uint-makes 𝓤 H A W w64) cost _ cost-is $ join ! $
@@ -178,9 +181,11 @@ module _ {M : Type 1} (𝓤 : URA M) (H : Heap 𝓤) (A : Atoms 𝓤) (W : Given
   abbrev Ensured : ReleaseStep → SProp 𝓤
   Ensured s = ensured 𝓤 H A core.ended (core.clauses 𝓤 H A at-mem runs) tt (h, (row, (cost, tt))) tt s
 
+  -- The contract of `run::Run::release` says which step it returns.
   said : (s : ReleaseStep) → ent 𝓤 (Ensured s) (fact 𝓤 (s ≡ step))
   said s = exE 𝓤 _ (λ ws. snd∗ 𝓤 (sem 𝓤 H A (lasts core.ended tt (h, (row, (cost, tt))) ws)) (fact 𝓤 (s ≡ step)))
 
+  -- After the call of `run::Run::release` its result is held, and it is the step that the definition gives.
   told : (v : Val) → ent 𝓤 (Core 𝓤 H A at-mem runs .post to-core v) (Gives 𝓤 H A S.the-row step v)
   told v =
       qed W (later (some (λ (s : ReleaseStep). (‵ ftrue ⊛ ‵ (S.the-row .own s (v ∷ []))) ⊛ raw (Ensured s))) ∷ []) ∵

@@ -1,5 +1,6 @@
--- `lent::release_lent` meets its contract: a walk of its MIR, by hand. The run is copied into a local, which is lent to `release` for a lifetime made for the
--- call, and is back, at its last value, once that lifetime is ended. All that is known of `release` is that it meets its contract.
+-- `lent::release_lent` meets its contract. The proof goes by hand through the function's MIR, the compiler's code, one step after another. The run is copied
+-- into a local, which is lent to `release` for a lifetime made for the call. Once that lifetime is ended, the local is back with its last value. The proof uses
+-- only the contract of `release`. A comment in square brackets lists what is held at that point, where _0, _1 and so on are the locals of the MIR.
 use mathlib.Core.Path.{_≡_, refl, ap, subst}
 use Prim.Native.Nat.{ℕ}
 use mathlib.Core.List.{[], _∷_, List}
@@ -67,11 +68,11 @@ use Rattle.lent.proofs.release_lent as fn
 use Rattle.lent.proofs.release_lent.Statement as stated
 use Rattle.lent.proofs.release_lent.Code as code
 
--- The walk, for any state T, any answer R and any two further arguments.
+-- The proof is for any state T, any answer R and any two further arguments.
 module _ {M : Type 1} (𝓤 : URA M) (H : Heap 𝓤) (A : Atoms 𝓤) (W : Given 𝓤 H A)
     (T : RattleType) (τ : Ty) (state : T .Denot → Val) (T-is : Stored 𝓤 H A T τ state)
     (R : RattleType) (α : Ty) (answer : R .Denot → Val) (R-is : Stored 𝓤 H A R α answer) (σ ω χ π : Ty) (f : Name) where
-  -- the machine value of the step that is made of a state and an answer
+  -- The machine value of the step that consists of a state and an answer.
   abbrev stepped : T .Denot → R .Denot → Val
   stepped g a = vstruct (ofList (state g ∷ answer a ∷ []))
 
@@ -104,7 +105,7 @@ module _ {M : Type 1} (𝓤 : URA M) (H : Heap 𝓤) (A : Atoms 𝓤) (W : Given
         -- [room for _7; …; _6; …; _5; …; _4; …; _3; …; _2; …; _1; …; _0; …]
         assigns ! (of-opd ! (load ! (from ! (stop !)) (look ! 12 refl))) (from ! (stop !)) (init ! 6 refl (T-is .typed h (state h) h-is)) $
         assigns ! (addr ! (from ! (stop !))) (from ! (stop !)) (init ! 2 refl (tt, tt)) $
-        -- the local is lent for a lifetime κ of the call
+        -- The local is lent for a lifetime κ that is made for the call.
         move ! (6 ∷ []) $ use1 W (‵ (cellAt fullShare (T .mir) (state h ∷ []) l₄ 0)) (T-is .shut h l₄ 0) $
         owned ! T (Is T) (T-is .makes) h _ h-is $ move ! (1 ∷ 0 ∷ []) $ use2 W (‵ (partAt T fullShare h l₄ 0)) (lies 𝓤 H A W T h l₄ 0 (state h ∷ [])) $
         lft-new ! tt (λ κ. move ! (1 ∷ []) $
@@ -121,7 +122,7 @@ module _ {M : Type 1} (𝓤 : URA M) (H : Heap 𝓤) (A : Atoms 𝓤) (W : Given
         -- [what the answer owns; the last value; the token; the lender's part; _7; …; _6; …; room for _5; …; _4's …; _3; …; _2; …; _1; …; _0; …]
         peeks ! R (Is R) (shows 𝓤 H A R) a (v ∷ []) (λ is. land ! (from ! (stop !)) (init ! 8 refl (R-is .typed a v is)) $
         rewrite ! 8 (λ (u : Val). ‵ (fat fullShare α l₅ 0 u)) (ap only (R-is .tells a (v ∷ []) is)) refl $
-        -- the lifetime is ended, and the local is back
+        -- The lifetime is ended, and the local is back.
         move ! (2 ∷ []) $ lft-end ! tt $ move ! (0 ∷ 3 ∷ 2 ∷ []) $
         use3 W (later (‵ (partAt T fullShare g l₄ 0))) (ref-back 𝓤 H A W T (κ ∷ []) δ g l₄ 0) $ await ! tt $
         use1 W (some (λ (us : List Val). ‵ (cellAt fullShare (T .mir) us l₄ 0) ⊛ ‵ (T .own g us))) (lay 𝓤 H A W T g l₄ 0) $ pick ! (λ us. split ! $
@@ -147,17 +148,19 @@ run-val = LL.val T.the-type T′.the-laws
 abbrev row-val : RowNumber → Val
 row-val = LL.val N.the-type N′.the-laws
 
--- the contract that the proof cites
+-- The contract of `lent::release`.
 abbrev Core : {M : Type 1} (𝓤 : URA M) (H : Heap 𝓤) (A : Atoms 𝓤) (at-mem : Memory → SProp 𝓤) (runs : Routine → Fun 𝓤) → Contract 𝓤
 Core 𝓤 H A at-mem runs = tripleOf 𝓤 H A core.signature (core.spec 𝓤 H A at-mem runs)
 
--- the step of a run and an answer, and what is known of it
+-- The step that consists of a run and an answer.
 abbrev made : Run → Released → ReleaseStep
 made g a = record { run = g; answer = a }
 
+-- The machine value of the step that consists of a run and an answer.
 abbrev made-val : Run → Released → Val
 made-val g a = LL.val S.the-type S′.the-laws (made g a)
 
+-- The step that consists of a run and an answer is a value of its type.
 made-is : (g : Run) (a : Released) (v : Val) → Is T.the-row g (run-val g ∷ []) → Is E.the-row a (v ∷ []) → Is S.the-row (made g a) (made-val g a ∷ [])
 made-is g a v was is = LL.owes S.the-type S′.the-laws (made g a) (was, (subst (Is E.the-row a) (EL.tells E.the-type E′.the-laws a (v ∷ []) is) is, tt))
 
@@ -169,7 +172,7 @@ module _ {M : Type 1} (𝓤 : URA M) (H : Heap 𝓤) (A : Atoms 𝓤) (W : Given
   abbrev Post : Val → SProp 𝓤
   Post = walkOf 𝓤 H A fn.ended stayed (fn.clauses 𝓤 H A at-mem runs) .post ((tt, tt, tt, (h, (row, (cost, tt))), at), tt)
 
-  -- the call, of a local in the block b under the name δ, for a lifetime κ: what it is passed, what it asks, and what is known after it
+  -- The call lends a local in the block b under the name δ for a lifetime κ. This is what it is passed.
   abbrev x : ℕ → GName → RefT Run × (RowNumber × (ℕ × Unit {0}))
   x b δ = (record { ptr = (b, 0); name = δ; now = h }, (row, (cost, tt)))
 

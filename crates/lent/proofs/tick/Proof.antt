@@ -1,5 +1,6 @@
--- `lent::tick` meets its contract: a walk of its MIR, by hand. The borrow is opened, the run is copied out and passed to `run::Run::tick`,
--- the run that this returns is stored whole, and the borrow is closed at it. All that is known of `run::Run::tick` is that it meets its contract.
+-- `lent::tick` meets its contract. The proof goes by hand through the function's MIR, the compiler's code, one step after another. The borrow is opened, the
+-- run is copied out and passed to `run::Run::tick`, the run that this returns is stored whole, and the borrow is closed at it. The proof uses only the contract
+-- of `run::Run::tick`. A comment in square brackets lists what is held at that point, where _0, _1 and so on are the locals of the MIR.
 use mathlib.Core.Path.{_≡_, refl, ap}
 use Prim.Native.Nat.{ℕ}
 use mathlib.Core.List.{[], _∷_, List}
@@ -51,7 +52,7 @@ use Rattle.run.proofs.Run.tick as core
 use Rattle.run.proofs.Run.tick.Symbol as core-def
 use Rattle.run.proofs.Run.tick.Symbol.{name as #run·tick}
 use Rattle.run.proofs.Run.tick.Met as core-thm
-use Rattle.lent.specs.Lent.{answerOf}
+use Rattle.lent.specs.Lent.{tickAnswerOf}
 use Rattle.lent.proofs.TickAnswer as R
 use Rattle.lent.proofs.TickAnswer.Laws as R′
 use Rattle.lent.proofs.Stored.{Fits, Stored, stored, held, Gives}
@@ -60,17 +61,18 @@ use Rattle.lent.proofs.tick as fn
 use Rattle.lent.proofs.tick.Statement as stated
 use Rattle.lent.proofs.tick.Code as code
 
--- The walk, for any state T and any step S of the state, the answer and the late count.
+-- The proof is for any state T, and any step S that consists of the state, the answer and the late count.
 module _ {M : Type 1} (𝓤 : URA M) (H : Heap 𝓤) (A : Atoms 𝓤) (W : Given 𝓤 H A)
     (T : RattleType) (τ : Ty) (state : T .Denot → Val) (T-is : Stored 𝓤 H A T τ state)
     (S : RattleType) (ν : Sym) (α β ρ π : Ty) (run : S .Denot → T .Denot) (answer late : S .Denot → Val) (f : Name) where
   abbrev σ : Ty
   σ = tyStruct ν (tcons τ (tcons α (tcons β tnil)))
 
-  -- the machine values of a step, and of the answer that is made of it
+  -- The machine value of a step.
   abbrev stepped : S .Denot → Val
   stepped s = vstruct (ofList (state (run s) ∷ answer s ∷ late s ∷ []))
 
+  -- The machine value of the answer that is made from a step.
   abbrev answered : S .Denot → Val
   answered s = vstruct (ofList (answer s ∷ late s ∷ []))
 
@@ -129,18 +131,19 @@ abbrev run-val : Run → Val
 run-val = LL.val T.the-type T′.the-laws
 
 abbrev answer-val : TickStep → Val
-answer-val s = LL.val R.the-type R′.the-laws (answerOf s)
+answer-val s = LL.val R.the-type R′.the-laws (tickAnswerOf s)
 
--- the contract that the proof cites
+-- The contract of `run::Run::tick`.
 abbrev Core : {M : Type 1} (𝓤 : URA M) (H : Heap 𝓤) (A : Atoms 𝓤) (at-mem : Memory → SProp 𝓤) (runs : Routine → Fun 𝓤) → Contract 𝓤
 Core 𝓤 H A at-mem runs = tripleOf 𝓤 H A core.signature (core.spec 𝓤 H A at-mem runs)
 
--- what is known of the fields of a step: its run, and the answer that is made of the others
+-- The run in a step that was returned is a value of its type.
 run-is : (s : TickStep) (v : Val) → Is S.the-row s (v ∷ []) → Is T.the-row (s .run) (run-val (s .run) ∷ [])
 run-is s v is = LL.owed S.the-type S′.the-laws s (v ∷ []) is .0
 
-answer-is : (s : TickStep) (v : Val) → Is S.the-row s (v ∷ []) → Is R.the-row (answerOf s) (answer-val s ∷ [])
-answer-is s v is = LL.owes R.the-type R′.the-laws (answerOf s) (LL.owed S.the-type S′.the-laws s (v ∷ []) is .1)
+-- The answer that is made from a step that was returned is a value of its type.
+answer-is : (s : TickStep) (v : Val) → Is S.the-row s (v ∷ []) → Is R.the-row (tickAnswerOf s) (answer-val s ∷ [])
+answer-is s v is = LL.owes R.the-type R′.the-laws (tickAnswerOf s) (LL.owed S.the-type S′.the-laws s (v ∷ []) is .1)
 
 module _ {M : Type 1} (𝓤 : URA M) (H : Heap 𝓤) (A : Atoms 𝓤) (W : Given 𝓤 H A) (at-mem : Memory → SProp 𝓤) (runs : Routine → Fun 𝓤)
     (κ : Lft) (q : Share) (b o : ℕ) (γ : GName) (h : Run) where
@@ -153,19 +156,22 @@ module _ {M : Type 1} (𝓤 : URA M) (H : Heap 𝓤) (A : Atoms 𝓤) (W : Given
   abbrev Post : Val → SProp 𝓤
   Post = walkOf 𝓤 H A fn.ended stayed (fn.clauses 𝓤 H A at-mem runs) .post (((κ, tt), (q, tt), tt, x, at), tt)
 
-  -- the call: what it is passed, what it asks, and what is known of its result
+  -- What `run::Run::tick` is passed.
   abbrev to-core : Core 𝓤 H A at-mem runs .Ghost
   to-core = ((tt, tt, tt, (h, tt), (run-val h ∷ [], tt)), tt)
 
+  -- What the run owns is what `run::Run::tick` asks for.
   asked : ent 𝓤 (sem 𝓤 H A (T.the-row .own h (run-val h ∷ []))) (Core 𝓤 H A at-mem runs .pre to-core)
   asked = qed W (‵ (T.the-row .own h (run-val h ∷ [])) ∷ []) ∵ nothing ! $ move ! (1 ∷ 0 ∷ []) $ join ! $ nothing ! $ join ! $ frame ! $ done !
 
   abbrev Ensured : TickStep → SProp 𝓤
   Ensured s = ensured 𝓤 H A core.ended (core.clauses 𝓤 H A at-mem runs) tt (h, tt) tt s
 
+  -- The contract of `run::Run::tick` says which step it returns.
   said : (s : TickStep) → ent 𝓤 (Ensured s) (fact 𝓤 (s ≡ ticked h))
   said s = exE 𝓤 _ (λ ws. snd∗ 𝓤 (sem 𝓤 H A (lasts core.ended tt (h, tt) ws)) (fact 𝓤 (s ≡ ticked h)))
 
+  -- After the call of `run::Run::tick` its result is held, and it is the step that the definition gives.
   told : (v : Val) → ent 𝓤 (Core 𝓤 H A at-mem runs .post to-core v) (Gives 𝓤 H A S.the-row (ticked h) v)
   told v =
       qed W (later (some (λ (s : TickStep). (‵ ftrue ⊛ ‵ (S.the-row .own s (v ∷ []))) ⊛ raw (Ensured s))) ∷ []) ∵
@@ -177,10 +183,10 @@ module _ {M : Type 1} (𝓤 : URA M) (H : Heap 𝓤) (A : Atoms 𝓤) (W : Given
   exits s v e is =
       qed W (held 𝓤 H A T.the-row κ q b o γ (s .run)) ∵
       suffices ! _ (ends-at 𝓤 H A fn.ended stayed (fn.clauses 𝓤 H A at-mem runs) W (((κ, tt), (q, tt), tt, x, at), tt) (answer-val s)
-      (answerOf s) (s .run, tt) (tt, tt)) $
-      says ! (ap answerOf e, ap (λ (z : TickStep). z .run) e) $ nothing ! $ move ! (3 ∷ 0 ∷ []) $ join ! $ frame ! $
+      (tickAnswerOf s) (s .run, tt) (tt, tt)) $
+      says ! (ap tickAnswerOf e, ap (λ (z : TickStep). z .run) e) $ nothing ! $ move ! (3 ∷ 0 ∷ []) $ join ! $ frame ! $
       feqI ! (List Val) (vptr b o ∷ []) (vptr b o ∷ []) refl $ fjoin3 ! $ nothing ! $ move ! (1 ∷ 0 ∷ []) $ fjoin ! $
-      owned ! R.the-row (Is R.the-row) (LL.makes R.the-type R′.the-plain 𝓤 H A) (answerOf s) _ (answer-is s v is) $ move ! (1 ∷ 0 ∷ []) $ done !
+      owned ! R.the-row (Is R.the-row) (LL.makes R.the-type R′.the-plain 𝓤 H A) (tickAnswerOf s) _ (answer-is s v is) $ move ! (1 ∷ 0 ∷ []) $ done !
 
   module _ (C : Calls 𝓤 H) (Λ : Loops 𝓤 H) (fm : FmC 𝓤 H (W .laws) C) (known : Triple 𝓤 (C #run·tick) (Core 𝓤 H A at-mem runs)) where
     walks-at : ent 𝓤 (onEntry 𝓤 H A fn.signature (κ, tt) (q, tt) x at) (WpFn 𝓤 H C Λ code.function (vptr b o ∷ []) Post)
@@ -192,7 +198,7 @@ module _ {M : Type 1} (𝓤 : URA M) (H : Heap 𝓤) (A : Atoms 𝓤) (W : Given
         S.the-row (S.the-type .name) (lone (E.the-row .mir)) (tyInt w64) (lone (R.the-row .mir)) (pointee (T.the-row .written))
         (λ s. s .run) (λ s. EL.val E.the-type E′.the-laws (s .answer)) (λ s. vint w64 (s .late)) #run·tick
         (stored 𝓤 H A W S.the-type S′.the-laws S′.the-plain) run-is
-        (λ s v is. LL.lawful R.the-type R′.the-laws 𝓤 H A W .typed (answerOf s) _ (answer-is s v is) .0)
+        (λ s v is. LL.lawful R.the-type R′.the-laws 𝓤 H A W .typed (tickAnswerOf s) _ (answer-is s v is) .0)
         C Λ fm h (ticked h) (Core 𝓤 H A at-mem runs .post to-core) (via 𝓤 _ asked (known to-core)) told κ q b o γ Post exits)
 
 module _ {M : Type 1} (𝓤 : URA M) (H : Heap 𝓤) (A : Atoms 𝓤) (W : Given 𝓤 H A) (at-mem : Memory → SProp 𝓤) (runs : Routine → Fun 𝓤) where

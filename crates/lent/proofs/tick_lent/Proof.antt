@@ -1,5 +1,6 @@
--- `lent::tick_lent` meets its contract: a walk of its MIR, by hand. The run is copied into a local, which is lent to `tick` for a lifetime made for the
--- call, and is back, at its last value, once that lifetime is ended. All that is known of `tick` is that it meets its contract.
+-- `lent::tick_lent` meets its contract. The proof goes by hand through the function's MIR, the compiler's code, one step after another. The run is copied into
+-- a local, which is lent to `tick` for a lifetime made for the call. Once that lifetime is ended, the local is back with its last value. The proof uses only
+-- the contract of `tick`. A comment in square brackets lists what is held at that point, where _0, _1 and so on are the locals of the MIR.
 use mathlib.Core.Path.{_≡_, refl, ap}
 use Prim.Native.Nat.{ℕ}
 use mathlib.Core.List.{[], _∷_, List}
@@ -51,7 +52,7 @@ use Rattle.run.proofs.TickStep as S
 use Rattle.run.proofs.TickStep.Laws as S′
 use Rattle.run.proofs.Ticked as E
 use Rattle.run.proofs.Ticked.Laws as E′
-use Rattle.lent.specs.Lent.{answerOf}
+use Rattle.lent.specs.Lent.{tickAnswerOf}
 use Rattle.lent.specs.declared.TickAnswer.{TickAnswer}
 use Rattle.lent.proofs.TickAnswer as R
 use Rattle.lent.proofs.TickAnswer.Laws as R′
@@ -65,17 +66,18 @@ use Rattle.lent.proofs.tick_lent as fn
 use Rattle.lent.proofs.tick_lent.Statement as stated
 use Rattle.lent.proofs.tick_lent.Code as code
 
--- The walk, for any state T and any answer R of two fields.
+-- The proof is for any state T and any answer R that has two fields.
 module _ {M : Type 1} (𝓤 : URA M) (H : Heap 𝓤) (A : Atoms 𝓤) (W : Given 𝓤 H A)
     (T : RattleType) (τ : Ty) (state : T .Denot → Val) (T-is : Stored 𝓤 H A T τ state)
     (R : RattleType) (ν : Sym) (α β σ π : Ty) (answer late : R .Denot → Val) (f : Name) where
   abbrev ρ : Ty
   ρ = tyStruct ν (tcons α (tcons β tnil))
 
-  -- the machine values of an answer, and of the step that is made of a state and an answer
+  -- The machine value of an answer.
   abbrev answered : R .Denot → Val
   answered a = vstruct (ofList (answer a ∷ late a ∷ []))
 
+  -- The machine value of the step that consists of a state and an answer.
   abbrev stepped : T .Denot → R .Denot → Val
   stepped g a = vstruct (ofList (state g ∷ answer a ∷ late a ∷ []))
 
@@ -109,7 +111,7 @@ module _ {M : Type 1} (𝓤 : URA M) (H : Heap 𝓤) (A : Atoms 𝓤) (W : Given
         -- [room for _5; …; _4; …; _3; …; _2; …; _1; …; _0; …]
         assigns ! (of-opd ! (load ! (from ! (stop !)) (look ! 8 refl))) (from ! (stop !)) (init ! 6 refl (T-is .typed h (state h) h-is)) $
         assigns ! (addr ! (from ! (stop !))) (from ! (stop !)) (init ! 2 refl (tt, tt)) $
-        -- the local is lent for a lifetime κ of the call
+        -- The local is lent for a lifetime κ that is made for the call.
         move ! (6 ∷ []) $ use1 W (‵ (cellAt fullShare (T .mir) (state h ∷ []) l₂ 0)) (T-is .shut h l₂ 0) $
         owned ! T (Is T) (T-is .makes) h _ h-is $ move ! (1 ∷ 0 ∷ []) $ use2 W (‵ (partAt T fullShare h l₂ 0)) (lies 𝓤 H A W T h l₂ 0 (state h ∷ [])) $
         lft-new ! tt (λ κ. move ! (1 ∷ []) $
@@ -125,7 +127,7 @@ module _ {M : Type 1} (𝓤 : URA M) (H : Heap 𝓤) (A : Atoms 𝓤) (W : Given
         -- [what the answer owns; the last value; the token; the lender's part; _5; …; _4; …; room for _3; …; _2's …; _1; …; _0; …]
         peeks ! R (Is R) (shows 𝓤 H A R) a (v ∷ []) (λ is. land ! (from ! (stop !)) (init ! 8 refl (R-is .typed a v is)) $
         rewrite ! 8 (λ (u : Val). ‵ (fat fullShare ρ l₃ 0 u)) (ap only (R-is .tells a (v ∷ []) is)) refl $
-        -- the lifetime is ended, and the local is back
+        -- The lifetime is ended, and the local is back.
         move ! (2 ∷ []) $ lft-end ! tt $ move ! (0 ∷ 3 ∷ 2 ∷ []) $
         use3 W (later (‵ (partAt T fullShare g l₂ 0))) (ref-back 𝓤 H A W T (κ ∷ []) δ g l₂ 0) $ await ! tt $
         use1 W (some (λ (us : List Val). ‵ (cellAt fullShare (T .mir) us l₂ 0) ⊛ ‵ (T .own g us))) (lay 𝓤 H A W T g l₂ 0) $ pick ! (λ us. split ! $
@@ -149,17 +151,19 @@ stayed = (stay-dropped (plain (λ _. T.the-row)) yes, tt)
 abbrev run-val : Run → Val
 run-val = LL.val T.the-type T′.the-laws
 
--- the contract that the proof cites
+-- The contract of `lent::tick`.
 abbrev Core : {M : Type 1} (𝓤 : URA M) (H : Heap 𝓤) (A : Atoms 𝓤) (at-mem : Memory → SProp 𝓤) (runs : Routine → Fun 𝓤) → Contract 𝓤
 Core 𝓤 H A at-mem runs = tripleOf 𝓤 H A core.signature (core.spec 𝓤 H A at-mem runs)
 
--- the step of a run and an answer, and what is known of it
+-- The step that consists of a run and an answer.
 abbrev made : Run → TickAnswer → TickStep
 made g a = record { run = g; answer = a .answer; late = a .late }
 
+-- The machine value of the step that consists of a run and an answer.
 abbrev made-val : Run → TickAnswer → Val
 made-val g a = LL.val S.the-type S′.the-laws (made g a)
 
+-- The step that consists of a run and an answer is a value of its type.
 made-is : (g : Run) (a : TickAnswer) (v : Val) → Is T.the-row g (run-val g ∷ []) → Is R.the-row a (v ∷ []) → Is S.the-row (made g a) (made-val g a ∷ [])
 made-is g a v was is = LL.owes S.the-type S′.the-laws (made g a) (was, LL.owed R.the-type R′.the-laws a (v ∷ []) is)
 
@@ -167,7 +171,7 @@ module _ {M : Type 1} (𝓤 : URA M) (H : Heap 𝓤) (A : Atoms 𝓤) (W : Given
   abbrev Post : Val → SProp 𝓤
   Post = walkOf 𝓤 H A fn.ended stayed (fn.clauses 𝓤 H A at-mem runs) .post ((tt, tt, tt, (h, tt), (run-val h ∷ [], tt)), tt)
 
-  -- the call, of a local in the block b under the name δ, for a lifetime κ: what it is passed, what it asks, and what is known after it
+  -- The call lends a local in the block b under the name δ for a lifetime κ. This is what it is passed.
   abbrev x : ℕ → GName → RefT Run × Unit {0}
   x b δ = (record { ptr = (b, 0); name = δ; now = h }, tt)
 
@@ -175,7 +179,7 @@ module _ {M : Type 1} (𝓤 : URA M) (H : Heap 𝓤) (A : Atoms 𝓤) (W : Given
   to-core b κ δ = (((κ ∷ [], tt), (fullShare, tt), tt, x b δ, (vptr b 0 ∷ [], tt)), tt)
 
   abbrev Said : Run → TickAnswer → Type 0
-  Said g a = (a ≡ answerOf (ticked h)) × (g ≡ ticked h .run)
+  Said g a = (a ≡ tickAnswerOf (ticked h)) × (g ≡ ticked h .run)
 
   asked : (b κ : ℕ) (δ : GName) → ent 𝓤 (mean 𝓤 H A (lent 𝓤 H A T.the-row b κ δ h)) (Core 𝓤 H A at-mem runs .pre (to-core b κ δ))
   asked b κ δ =

@@ -1,5 +1,5 @@
--- `log::write_record` meets its contract. The first loop's invariant: the numbers so far are in range and counted. The second's: they stand at the start of
--- the rest. A number that was counted is never refused.
+-- `log::write_record` meets its contract. The invariant of the first loop is that the numbers so far have spellings and are counted. The invariant of the
+-- second is that the numbers so far stand at the start of the rest. A number that was counted is never refused.
 use Prim.Native.Nat.{_+_, _-_}
 use native.Mathlib.Omega.{arith}
 use mathlib.Core.Path.{_≡_, refl, sym, ap, _∙_}
@@ -27,7 +27,7 @@ Inv-loop2 rest₀ values room i at₀ k₀ rest at k = Standing values rest₀ r
 abbrev μ-loop2 : tie.MeasureT-loop2
 μ-loop2 rest₀ values room i at₀ k₀ rest at k = length values - k
 
--- One more number is counted.
+-- One turn of the first loop counts one more number.
 counted : (c : tie.After-known-told Inv-loop μ-loop Inv-loop2 μ-loop2)
     → (let at-loop = c .before .before .before .before .before in
     let l = at-loop .loop in
@@ -36,12 +36,12 @@ counted c =
     let answered = sym (c .before .before .before .length-of .ensures) ∙ c .before .n .given .1 in
     one-counted (c .before .before .before .before .before .loop .inv) (omega arith) answered
 
--- All are counted: they are in range, and `room` is the record's length.
+-- After the first loop all numbers have spellings, and `room` is the record's length.
 all : (c : tie.After-loop Inv-loop μ-loop Inv-loop2 μ-loop2)
     → (let f = c .before .before .before .args .job in (allInRange (valuesOf f) ≡ true) × (c .before .loop .room ≡ length (spelledFinish f)))
 all c = all-counted (c .before .loop .inv) (omega arith)
 
--- One more number stands in the log.
+-- One turn of the second loop puts one more number behind the others.
 standing : (c : tie.After-known-told3 Inv-loop μ-loop Inv-loop2 μ-loop2)
     → (let at-loop = c .before .before .before .before .before .before .before .before in
     let a = at-loop .before .before .before .before .before .args in
@@ -52,7 +52,7 @@ standing c =
     let e = c .before .before .before .before .before .write .ensures in
     one-standing (c .before .before .before .before .before .before .before .before .loop2 .inv) (omega arith) (e .0) (e .1) (c .before .n2 .given .1)
 
--- None is refused.
+-- The number writer never refuses in the second loop.
 never : (c : tie.After-known-told4 Inv-loop μ-loop Inv-loop2 μ-loop2) → ⊥
 never c =
     let e = c .before .before .before .before .before .write .ensures in

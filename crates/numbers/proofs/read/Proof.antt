@@ -1,5 +1,5 @@
--- `numbers::read` meets its contract. The loop's invariant is `Passed`: the answer is what the groups passed are worth, with what the groups from here on
--- spell behind them. Each byte is looked at once.
+-- `numbers::read` meets its contract. The loop's invariant is `Passed`: the groups passed are worth `value`, and the answer is that of `value` together with
+-- what the groups from here on spell. Each byte is looked at once.
 use Prim.Native.Nat.{ℕ, _+_, _-_, _*_, _<_}
 use mathlib.Core.Path.{sym, _∙_}
 use native.Mathlib.Omega.{arith}
@@ -8,7 +8,7 @@ use borrow.Author.Needs.{needs}
 use Rattle.numbers.specs.Spelling.{maxGroups}
 use Rattle.numbers.proofs.Reading.{limit, Passed, first-passed, next-passed, weight-fits, group-fits}
 use Rattle.numbers.proofs.Reading.{read-one, read-too-long, read-cut, read-zero, read-last}
-use Rattle.numbers.proofs.Laws.{nothing-past-the-end}
+use Rattle.numbers.proofs.Spellings.{nothing-past-the-end}
 use Rattle.numbers.proofs.read.Statement.{statement}
 use Rattle.numbers.proofs.read.Tie as tie
 
@@ -20,24 +20,24 @@ abbrev μ-loop : tie.MeasureT-loop
 
 -- ---- in the loop
 
--- The place that the loop looks at ..
+-- The place that the loop looks at.
 abbrev place : tie.In-loop Inv-loop μ-loop → ℕ
 place t = t .before .before .before .before .before .before .args .at + t .before .loop .groups
 
--- .. and the byte there.
+-- The byte at the place that the loop looks at.
 abbrev byte : tie.In-loop Inv-loop μ-loop → ℕ
 byte t = getD (t .before .before .before .before .before .before .args .bytes .now) (place t) 0
 
--- With one group more the number is in range.
+-- The value so far together with one more group is in range.
 fits : (t : tie.In-loop Inv-loop μ-loop) (group : ℕ) → group < 128 → t .before .loop .value + t .before .loop .weight * group < limit maxGroups
 fits t group h = group-fits (t .before .loop .inv) (t .loop-test .taken) group h
 
--- So it is with a last group ..
+-- The value so far together with a last group is in range.
 last-fits : (c : tie.Then5 Inv-loop μ-loop)
     → (let t = c .before .before .before .before in t .before .loop .value + t .before .loop .weight * byte t < limit maxGroups)
 last-fits c = fits (c .before .before .before .before) _ (c .if5 .taken)
 
--- .. and with a group that another follows.
+-- The value so far together with a group that another follows is in range.
 more-fits : (c : tie.Else5 Inv-loop μ-loop)
     → (let t = c .before .before .before .before in t .before .loop .value + t .before .loop .weight * (byte t - 128) < limit maxGroups)
 more-fits c =

@@ -1,10 +1,10 @@
--- `numbers::spelled_length` meets its contract: what is left of the number is spelled in what is left of the length.
+-- `numbers::spelled_length` meets its contract. The loop's invariant is that what is left of the number is spelled in what is left of the length.
 use Prim.Native.Nat.{_+_, _≤_}
 use mathlib.Core.Path.{_≡_, ap}
 use native.Mathlib.Omega.{arith}
 use lib.ListN.{length}
 use Rattle.numbers.specs.Spelling.{maxNumber, spelling}
-use Rattle.numbers.proofs.Laws.{spelling-last, spelling-more, spelling-length}
+use Rattle.numbers.proofs.Spellings.{spelling-last, spelling-more, spelling-length}
 use Rattle.numbers.proofs.spelled_length.Statement.{statement}
 use Rattle.numbers.proofs.spelled_length.Tie as tie
 

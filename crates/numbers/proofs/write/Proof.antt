@@ -1,4 +1,5 @@
--- `numbers::write` meets its contract. The loop's invariant: what is left of the number, spelled from `i` on, completes the spelling.
+-- `numbers::write` meets its contract. The loop's invariant is that the spelling of what is left of the number, written from `i` on, completes the spelling
+-- of the number.
 use Prim.Native.Nat.{_+_, _≤_}
 use mathlib.Core.Path.{_≡_, refl, ap, _∙_}
 use native.Mathlib.Nat.{zero-add}
@@ -9,7 +10,7 @@ use borrow.Author.Tests.{le-leb, lt-leb}
 use lib.ListN.{length, length-set}
 use lib.Seq.{sets, sets-eq}
 use Rattle.numbers.specs.Spelling.{maxNumber, spelling}
-use Rattle.numbers.proofs.Laws.{spelling-last, spelling-more, spelling-length}
+use Rattle.numbers.proofs.Spellings.{spelling-last, spelling-more, spelling-length}
 use Rattle.numbers.proofs.write.Statement.{statement}
 use Rattle.numbers.proofs.write.Tie as tie
 

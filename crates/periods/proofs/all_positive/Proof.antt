@@ -1,4 +1,4 @@
--- `periods::all_positive` meets its contract. The loop's invariant is `Tested`: what is left of the numbers settles the test.
+-- `periods::all_positive` meets its contract. The loop's invariant is `Tested`: the outcome depends only on the numbers that are left.
 use Prim.Native.Nat.{_-_}
 use mathlib.Core.Path.{refl}
 use native.Mathlib.Omega.{arith}

@@ -1,4 +1,4 @@
--- `periods::greatest_divisor` meets its contract. The loop's invariant: whatever is the greatest divisor of m and n is that of a and b.
+-- `periods::greatest_divisor` meets its contract. The loop's invariant is that the greatest common divisor of m and n is also that of a and b.
 use Prim.Native.Nat.{ℕ}
 use mathlib.Core.Path.{_≡_}
 use native.Mathlib.Nat.{mod-lt}

@@ -1,4 +1,5 @@
--- `periods::period_within` meets its contract. The loop's invariant is `Grown`, of positive numbers: h stands for the numbers passed, and is within the limit.
+-- `periods::period_within` meets its contract. The loop's invariant is that each number is at least 1, and `Grown`: h stands for the numbers passed, and is
+-- within the limit.
 use Prim.Native.Nat.{_-_}
 use mathlib.Core.Path.{_≡_, sym, _∙_}
 use native.Mathlib.Omega.{arith}

@@ -1,4 +1,4 @@
--- `probe::answers_shown` meets its contract: each test takes the smaller.
+-- `probe::answers_shown` meets its contract: each test takes the smaller of two numbers.
 use mathlib.Core.Logic.{⊎-elim}
 use native.Mathlib.Omega.{arith}
 use borrow.Author.Needs.{needs}

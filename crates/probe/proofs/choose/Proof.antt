@@ -1,4 +1,4 @@
--- `probe::choose` meets its contract: each choice is answered by what it says, and the record's bytes are copied.
+-- `probe::choose` meets its contract: it returns and writes what the choice says, and copies the record's bytes.
 use Prim.Native.Nat.{ℕ}
 use mathlib.Core.Path.{_≡_, refl, sym, _∙_}
 use mathlib.Core.List.{List, [], _∷_}
@@ -15,7 +15,7 @@ use Rattle.probe.proofs.Words.{words-fill}
 use Rattle.probe.proofs.choose.Statement.{statement}
 use Rattle.probe.proofs.choose.Tie as tie
 
--- The answer buffer has its length, the record's bytes are copied, and the choice is answered by what it says.
+-- Where the answer buffer is 16 bytes long, the call returns and writes what the choice says, and the record's bytes are copied.
 answered : (c : tie.After-choose) (v : Chosen) (status script : ℕ) (after : List ℕ) → c .choose .result ≡ v → status ≡ chosenSaid v .number
     → script ≡ chosenSaid v .second
     → (let a = c .before .before .before .before .before .before .before .before .before .before .before .args in

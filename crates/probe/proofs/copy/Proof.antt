@@ -1,4 +1,4 @@
--- `probe::copy` meets its contract: the bytes so far, and then what stood in the buffer.
+-- `probe::copy` meets its contract. The loop's invariant is that the buffer has the bytes that were copied so far, and then what stood there before.
 use Prim.Native.Nat.{ℕ, suc, _-_, _<_, _≤_, min}
 use mathlib.Core.Path.{_≡_, refl, _∙_}
 use mathlib.Core.List.{List, _++_}
@@ -11,7 +11,7 @@ use lib.Seq.{paste-suc}
 use Rattle.probe.proofs.copy.Statement.{statement}
 use Rattle.probe.proofs.copy.Tie as tie
 
--- One byte more is copied.
+-- One turn of the loop copies one more byte.
 one-copied : (bytes buffer : List ℕ) (i : ℕ) → i < length bytes → i < length buffer
     → set (take i bytes ++ drop i buffer) i (getD bytes i 0) ≡ take (suc i) bytes ++ drop (suc i) buffer
 one-copied bytes buffer i h k = simp zero-add at (paste-suc buffer 0 bytes i 0 (omega arith) h)

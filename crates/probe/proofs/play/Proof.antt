@@ -1,4 +1,4 @@
--- `probe::play` meets its contract: a release or a tick, by the first word.
+-- `probe::play` meets its contract: the first word settles whether the call is a release or a tick.
 use borrow.Author.Tests.{eq-eqb, ne-eqb}
 use borrow.Author.Needs.{needs}
 use Rattle.probe.proofs.play.Statement.{statement}

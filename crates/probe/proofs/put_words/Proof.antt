@@ -1,4 +1,4 @@
--- `probe::put_words` meets its contract: the words that are left, stored behind those that stand there, make the whole.
+-- `probe::put_words` meets its contract. The loop's invariant is that storing the other words behind those that are written completes the buffer.
 use Prim.Native.Nat.{_+_, _-_, _*_, _≤_}
 use mathlib.Core.Path.{_≡_, refl}
 use mathlib.Core.List.{flatten}
@@ -10,7 +10,7 @@ use lib.Seq.{sets, slice, slice-empty, length-sets}
 use borrow.Author.Needs.{needs}
 use Rattle.words.specs.Words.{wordLength}
 use Rattle.kinds.proofs.Lists.{sets-append}
-use Rattle.words.proofs.Laws.{lowest-first-length, put-stores}
+use Rattle.words.proofs.Storing.{lowest-first-length, put-stores}
 use Rattle.probe.specs.Words.{wordsBytes}
 use Rattle.probe.proofs.Words.{words-next}
 use Rattle.probe.proofs.put_words.Statement.{statement}

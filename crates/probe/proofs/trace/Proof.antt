@@ -1,4 +1,4 @@
--- `probe::trace` meets its contract: each turn of the loop has one answer more stand in the buffer.
+-- `probe::trace` meets its contract: each turn of the loop writes one more answer into the buffer.
 use Prim.Native.Nat.{_-_}
 use mathlib.Core.Path.{refl, sym, _∙_}
 use mathlib.Core.List.{flatten}

@@ -1,8 +1,8 @@
--- `probe::write_number` meets its contract: a length is at most six, and so it fits.
+-- `probe::write_number` meets its contract: a spelling has at most six bytes, so its length fits the number that is returned.
 use mathlib.Core.Path.{sym, ap, _∙_}
 use native.Mathlib.Omega.{arith}
 use borrow.Author.Needs.{needs}
-use Rattle.numbers.proofs.Laws.{length-answered, spelling-length}
+use Rattle.numbers.proofs.Spellings.{length-answered, spelling-length}
 use Rattle.numbers.specs.Answers.{writtenSays}
 use Rattle.probe.specs.Written.{inOneNumber}
 use Rattle.probe.proofs.write_number.Statement.{statement}

@@ -1,6 +1,7 @@
--- `reader::read_through` meets its contract: a walk of its MIR, by hand. A reader is made in a local of the slice and the number, and is lent to `next`
--- for a lifetime that ends before the script's. Once that has ended the local is back; its number goes into the result, beside what `next` found.
--- All that the proof knows of `next` is that it meets its contract.
+-- `reader::read_through` meets its contract. The proof goes by hand through the function's MIR, the compiler's code, one step after another. A reader is made
+-- in a local from the slice and the number, and is lent to `next` for a lifetime that ends before the script's. Once that has ended the local is back, and its
+-- number goes into the result, beside what `next` found. The proof uses only the contract of `next`. A comment in square brackets lists what is held at that
+-- point, where _0, _1 and so on are the locals of the MIR.
 use mathlib.Core.Path.{_≡_, refl, ap}
 use Prim.Native.Nat.{ℕ, _<_, _^_}
 use mathlib.Core.List.{List, [], _∷_}
@@ -72,32 +73,33 @@ use Rattle.reader.proofs.read_through.Code as code
 abbrev stayed : Stays (fn.ended .signature .params) (fn.ended .kept)
 stayed = (stay-none-slice (0 ∷ []) tt (plain (λ _. u8)) yes, (stay-none (λ _. usize) yes, tt))
 
--- what is known of a result whose fields are an answer of `next` and a number that fits
+-- A result is a value of its type, where its fields are an answer of `next` and a number that fits in 64 bits.
 result-is : (y : Yielded) (w : Val) → Is E.the-row (y .found) (w ∷ []) → y .at < 2 ^ 64 → Is S.the-row y (LL.vals S.the-type S′.the-laws y)
 result-is y w is fits =
     LL.owes S.the-type S′.the-laws y
     (EL.owes E.the-type E′.the-laws (y .found) (EL.owed E.the-type E′.the-laws (y .found) (w ∷ []) is), ((refl, fits), tt))
 
--- the contract that the proof cites
+-- The contract of `next`.
 abbrev Next : {M : Type 1} (𝓤 : URA M) (H : Heap 𝓤) (A : Atoms 𝓤) (mem : Memory → SProp 𝓤) (run : Routine → Fun 𝓤) → Contract 𝓤
 Next 𝓤 H A mem run = tripleOf 𝓤 H A next.signature (next.spec 𝓤 H A mem run)
 
 module _ {M : Type 1} (𝓤 : URA M) (H : Heap 𝓤) (A : Atoms 𝓤) (W : Given 𝓤 H A) (mem : Memory → SProp 𝓤) (run : Routine → Fun 𝓤)
     (κ : Lft) (q : Share) (s : RefT (List ℕ)) (n : ℕ) (ok : n < 2 ^ 64) where
-  -- the machine value that s has
+  -- The machine value of s.
   abbrev v : Val
   v = sliceVal (s .ptr) (length (s .now))
 
   abbrev at : Vals fn.signature (κ, tt)
   at = (v ∷ [], (vint w64 n ∷ [], tt))
 
-  -- the reader that is made, and its type as the referent in `next`'s signature
+  -- The reader that is made.
   abbrev made : ScriptReader
   made = record { script = s; at = n }
 
   abbrev α : NamedLft
   α = record { mir = named 1; lft = κ }
 
+  -- The type of the reader that is made, as what the reference in the signature of `next` refers to.
   abbrev Ref : RattleType
   Ref = T.the-row α
 
@@ -113,7 +115,7 @@ module _ {M : Type 1} (𝓤 : URA M) (H : Heap 𝓤) (A : Atoms 𝓤) (W : Given
   abbrev Made : Fml
   Made = Ref .own made (T′.lowered made ∷ [])
 
-  -- what the parameters own gives what the reader owns, and is kept
+  -- What the parameters own gives what the reader owns, and is kept.
   makes : ent 𝓤 Entry (sep 𝓤 (sem 𝓤 H A Made) (sep 𝓤 (sep 𝓤 (A .lft κ q) (sem 𝓤 H A ftrue)) (sem 𝓤 H A Own)))
   makes =
       qed W ((‵ (flft κ q) ⊛ ‵ ftrue) ∷ ‵ (owns (ShrSlice (named 0) κ u8 ∷ usize ∷ []) (s, (n, tt)) at) ∷ []) ∵
@@ -123,7 +125,7 @@ module _ {M : Type 1} (𝓤 : URA M) (H : Heap 𝓤) (A : Atoms 𝓤) (W : Given
       nothing ! $ owned ! usize (Is usize) (uint-makes 𝓤 H A W w64) n _ (refl, ok) $ fjoin ! $ move ! (1 ∷ 0 ∷ []) $ fjoin ! $
       use1 W (‵ Made) (own-shut 𝓤 H A W (T.the-type α) (T′.the-laws α) (s, (n, tt))) $ frame ! $ move ! (1 ∷ 0 ∷ []) $ done !
 
-  -- the call of `next`, with the local of the block b lent under the name δ for the meet of ν and 'a
+  -- The call of `next` lends the local of the block b under the name δ, for the meet of ν and 'a. This is the reference that it is passed.
   abbrev x : ℕ → GName → RefT ScriptReader
   x b δ = record { ptr = (b, 0); name = δ; now = made }
 
@@ -143,17 +145,18 @@ module _ {M : Type 1} (𝓤 : URA M) (H : Heap 𝓤) (A : Atoms 𝓤) (W : Given
       nothing ! $ move ! (2 ∷ 0 ∷ []) $ join ! $ move ! (1 ∷ 0 ∷ []) $ join ! $ nothing ! $ move ! (2 ∷ 0 ∷ []) $ fjoin ! $
       move ! (1 ∷ 0 ∷ []) $ join ! $ frame ! $ done !
 
-  -- what `next` says of its answer t and of the reader g at its exit
+  -- What `next` says about its answer t and about the reader g at its exit.
   abbrev Said : RecordRead → ScriptReader → Type 0
   Said t g = (t ≡ foundBy made) × (g ≡ moved made)
 
   abbrev Ensured : ℕ → ℕ → GName → RecordRead → SProp 𝓤
   Ensured b ν δ t = ensured 𝓤 H A next.ended (next.clauses 𝓤 H A mem run) (ν ∷ κ, (κ, tt)) (x b δ, tt) tt t
 
-  -- the result, and its machine value
+  -- The result.
   abbrev result : RecordRead → ScriptReader → Yielded
   result t g = record { found = t; at = g .at }
 
+  -- The machine value of the result.
   abbrev answer : RecordRead → ScriptReader → Val
   answer t g = LL.val S.the-type S′.the-laws (result t g)
 
@@ -181,7 +184,7 @@ module _ {M : Type 1} (𝓤 : URA M) (H : Heap 𝓤) (A : Atoms 𝓤) (W : Given
         assigns ! (addr ! (from ! (stop !))) (from ! (stop !)) (init ! 2 refl (tt, tt)) $
         move ! (14 ∷ []) $ use1 W (‵ Made ⊛ (‵ (flft κ q) ⊛ ‵ ftrue) ⊛ ‵ Own) makes $ split ! $ move ! (1 ∷ []) $ split ! $ move ! (2 ∷ []) $
         -- [what the reader owns; the token; what s owns; room for _6; …; _5; …; room for _4; …; _3; …; _2; …; _1; …; room for _0; …]
-        -- the local is lent for the meet of a lifetime ν of the call and of 'a
+        -- The local is lent for the meet of 'a and of a lifetime ν that is made for the call.
         move ! (9 ∷ []) $
         use1 W (‵ (cellAt fullShare (Ref .mir) (T′.lowered made ∷ []) l₃ 0)) (W .laws .at-raw fullShare (T′.mir erased) l₃ 0 (T′.lowered made)) $
         use2 W (‵ (partAt Ref fullShare made l₃ 0)) (lies 𝓤 H A W κ made l₃ (T′.lowered made)) $
@@ -205,7 +208,7 @@ module _ {M : Type 1} (𝓤 : URA M) (H : Heap 𝓤) (A : Atoms 𝓤) (W : Given
         peeks ! E.the-row (Is E.the-row) (shows 𝓤 H A E.the-row) t (w ∷ []) (λ is.
         land ! (from ! (stop !)) (init ! 12 refl (EL.lawful E.the-type E′.the-laws 𝓤 H A W tt .typed t _ is .0)) $
         rewrite ! 12 (λ (u : Val). ‵ (fat fullShare E′.mir l₄ 0 u)) (ap only (EL.tells E.the-type E′.the-laws t (w ∷ []) is)) refl $
-        -- the lifetime of the call is ended, and the local is back
+        -- The lifetime of the call is ended, and the local is back.
         move ! (1 ∷ []) $ split ! $ move ! (1 ∷ []) $ split ! $ move ! (2 ∷ 0 ∷ 7 ∷ []) $
         use3 W (‵ (flft (ν ∷ []) fullShare) ⊛ ‵ (flft κ q)) (parts-from 𝓤 H A W κ q ν) $ split ! $
         lft-end ! tt $ use1 W (‵ (fdead (ν ∷ κ))) (W .lfts .dead-incl (ν ∷ κ) (ν ∷ []) (meet-⊑-left (ν ∷ []) κ)) $

@@ -1,19 +1,19 @@
--- `reader::yield_at` meets its contract: in each case of what `record_at` answers, the place is the one after that answer.
+-- `reader::yield_at` meets its contract: for each answer of `record_at`, the place is the one after that answer.
 use Prim.Native.Nat.{ℕ}
 use mathlib.Core.Path.{_≡_, refl, sym, _∙_}
 use mathlib.Core.List.{List}
 use borrow.Author.Needs.{needs}
 use Rattle.script.specs.declared.RecordRead.{RecordRead}
 use Rattle.script.specs.Records.{recordAt}
-use Rattle.reader.specs.Reader.{placeAfter, yielded}
+use Rattle.reader.specs.Reader.{placeAfterRecord, yielded}
 use Rattle.reader.specs.declared.Yielded.{Yielded}
 use Rattle.reader.proofs.yield_at.Statement.{statement}
 use Rattle.reader.proofs.yield_at.Tie as tie
 
--- What was found, which is this case, with the place after this case is what is yielded.
+-- In each case of what was found, the answer with the place after it is what is yielded.
 found-with-place : (s : List ℕ) (at : ℕ) (found case : RecordRead) → found ≡ case → found ≡ recordAt s at
-    → _≡_ {A = Yielded} (record { found = found; at = placeAfter case at }) (yielded s at)
-found-with-place s at found case this e = λ i. record { found = e i; at = placeAfter ((sym this ∙ e) i) at }
+    → _≡_ {A = Yielded} (record { found = found; at = placeAfterRecord case at }) (yielded s at)
+found-with-place s at found case this e = λ i. record { found = e i; at = placeAfterRecord ((sym this ∙ e) i) at }
 
 record-at-requires : tie.Need-record-at-requires
 record-at-requires c κs = search needs

@@ -1,4 +1,4 @@
--- `records::test_numbers` meets its contract: each answer is that of the tests which led to it.
+-- `records::test_numbers` meets its contract: each answer is the one of the tests that led to it.
 use Prim.Native.Nat.{ℕ}
 use native.Mathlib.Omega.{arith}
 use mathlib.Core.Path.{_≡_, sym, _∙_}
@@ -8,19 +8,19 @@ use borrow.Author.Tests.{leb-true, leb-false, not-true, not-false}
 use Rattle.table.specs.declared.CostLimit.the-variants as limit
 use Rattle.table.specs.declared.CostAnswer.{CostAnswer}
 use Rattle.table.specs.Costs.{costAnswer}
-use Rattle.records.specs.Laws.{GapFits, RowFits}
+use Rattle.records.specs.PassedTests.{GapFits, RowFits}
 use Rattle.records.proofs.Tests.{row-in-use, its-limit, gap-unread, time-too-late, row-unread, no-such-row, cost-unread, not-allowed, ready}
 use Rattle.records.proofs.test_numbers.Statement.{statement}
 use Rattle.records.proofs.test_numbers.Tie as tie
 
--- Past the first test the gap fits.
+-- After its tests the gap was read, and the record's time is at most 2^40.
 gap-fits : (c : tie.Else1)
     → (let read = c .before .before .before in
     let a = read .before .before .before .before .before .before .args in
     GapFits (a .time .0) (a .numbers) (read .gap-read .given .0 .0))
 gap-fits c = record { gap-read = c .before .before .before .gap-read .given .1; in-time = leb-true _ _ (sym (c .before .in-time .ensures) ∙ not-false _ (c .if1 .left)) }
 
--- Past the second the row number does.
+-- After its tests the row number was read too, and it is in use.
 row-fits : (c : tie.After-limit)
     → (let row = c .before .before .before .before in
     let gap = row .before .before .before .before .before in
@@ -34,7 +34,7 @@ row-fits c =
       in-use = row-in-use (row .before .before .before .before .before .before .before .before .before .before .before .args .limits .now) _ _ (sym (c .before .before .limit-of .ensures) ∙ c .limit .given .1);
     }
 
--- Its limit is the one that was found.
+-- The limit that was found is the one of the record's row number.
 at-its-limit : (c : tie.After-limit) (cost : ℕ) {x : CostAnswer} → costAnswer (limit.Units (c .limit .given .0 .0)) cost ≡ x
     → (let row = c .before .before .before .before in
     let a = row .before .before .before .before .before .before .before .before .before .before .before .args in

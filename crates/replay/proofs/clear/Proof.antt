@@ -1,4 +1,4 @@
--- `replay::clear` meets its contract. The loop's invariant: the first bytes are zeros, and the others as they were.
+-- `replay::clear` meets its contract. The loop's invariant is that the bytes so far are zeros and the others are as they were.
 use Prim.Native.Nat.{_≤_, _<_, _-_}
 use native.Mathlib.Omega.{arith}
 use mathlib.Core.Path.{_≡_, refl, _∙_}

@@ -1,13 +1,13 @@
--- `replay::play` meets its contract. The loop's invariant: the play on arrays has come as far as the one by single ticks, and leads to the same end. The
--- measure is what is left of the script.
+-- `replay::play` meets its contract. The loop's invariant is that the play on arrays has come as far as the play by single ticks, and leads to the same end.
+-- The measure is the number of bytes of the script that are left.
 use Prim.Native.Nat.{_-_, _<_}
 use native.Mathlib.Omega.{arith}
 use mathlib.Core.Path.{refl, sym, _∙_}
 use lib.ListN.{length}
 use lib.Seq.{length-take-le}
 use borrow.Author.Needs.{needs}
-use Rattle.numbers.specs.Laws.{Bytes}
-use Rattle.replay.specs.Inside.{Lists, lists}
+use Rattle.numbers.specs.SpelledNumbers.{Bytes}
+use Rattle.replay.specs.Arrays.{Lists, lists}
 use Rattle.replay.proofs.Replaying.{Plays, plays-first, limits-within, log-as-long, plays-in-bounds}
 use Rattle.replay.proofs.Replaying.{plays-refused, row-in-table, can-go, later-place, plays-stopped, plays-next}
 use Rattle.replay.proofs.Replaying.{PlaysWhole, plays-too-long, plays-whole, stopped-ends, full-ends, in-time-ends, late-ends}
@@ -22,22 +22,22 @@ abbrev μ-loop : tie.MeasureT-loop
 μ-loop script log₀ table limits in-use serials₀ rows₀ releases₀ dues₀ left₀ times₀ many₀ oldest₀ at₀ going₀ log serials rows releases dues left times many oldest at going =
     length script - at
 
--- The script's elements are bytes.
+-- Every element of the script is a byte.
 bytes : (c : tie.After-shared-slice-known Inv-loop μ-loop) → Bytes (c .before .args .script .now)
 bytes c i = omega (arith, c .shared-slice-known .given i)
 
--- In the loop a record comes before the script's end.
+-- Inside the loop the place is before the script's end.
 inside : (c : tie.In-loop Inv-loop μ-loop) → c .before .loop .at < length (c .before .before .before .before .before .args .script .now)
 inside c = omega (arith, c .loop-test .taken)
 
--- The arrays after a record.
+-- The arrays after a record was played.
 abbrev after : tie.After-play-record Inv-loop μ-loop → Lists
 after c =
     let l = c .play-record .last in
     lists (l .0) (l .1 .0) (l .1 .1 .0) (l .1 .1 .1 .0) (l .1 .1 .1 .1 .0) (l .1 .1 .1 .1 .1 .0) (l .1 .1 .1 .1 .1 .1 .0) (l .1 .1 .1 .1 .1 .1 .1 .0)
     (l .1 .1 .1 .1 .1 .1 .1 .1 .0)
 
--- All jobs have finished.
+-- Where nothing is pending after the final ticks, the play came to its end.
 all : (c : tie.Else1 Inv-loop μ-loop)
     → (let ran = c .before .before .before .before .run-until in
     let a = c .before .before .before .before .before .before .before .before .before .before .before .before .before .before .before .before .before .before .args in

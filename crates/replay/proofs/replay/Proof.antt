@@ -1,5 +1,5 @@
--- `replay::replay` meets its contract: a table that is refused stops it at once, and else the run that is started is played on. After a refusal the log is
--- cleared.
+-- `replay::replay` meets its contract. A table that is refused stops it at once, and otherwise the script is played on the run that is started. After a refusal
+-- the log is filled with zeros.
 use borrow.Author.Needs.{needs}
 use Rattle.replay.proofs.Replaying.{started-ready, table-refused, replay-in-time, replay-late, replay-refused}
 use Rattle.replay.proofs.replay.Statement.{statement}

@@ -1,4 +1,5 @@
--- `rings::due_by` meets its contract. With d and y within their limits the sums fit, and a release or an oldest due time above 2^40 makes the due time so.
+-- `rings::due_by` meets its contract. With d and y within their limits the sums fit, and a release or an oldest due time above 2^40 makes the due time above
+-- 2^40 too.
 use Prim.Native.Nat.{ℕ, _+_, _≤_, max}
 use mathlib.Core.Path.{_≡_, sym, ap, _∙_}
 use mathlib.Core.Bool.{Bool, true, false}
@@ -6,17 +7,17 @@ use native.Mathlib.Omega.{arith}
 use borrow.Author.Needs.{needs}
 use borrow.Author.Tests.{not-true, not-false}
 use Rattle.due.specs.Kept.{notTooLate}
-use Rattle.due.proofs.Laws.{late-refused}
-use Rattle.rings.specs.Inside.{dueAfter}
+use Rattle.due.proofs.NewestKept.{late-refused}
+use Rattle.rings.specs.OneRing.{dueAfter}
 use Rattle.rings.proofs.due_by.Statement.{statement}
 use Rattle.rings.proofs.due_by.Tie as tie
 
 module _ (t d y : ℕ) (full : Bool) (oldest : ℕ) where
-  -- With fewer than x kept a job is due d after its release.
+  -- Where fewer than x due times are kept, a job is due d after its release.
   by-release : full ≡ false → dueAfter t d y full oldest ≡ t + d
   by-release few = rw few
 
-  -- With x kept a job is due at the later of d after its release and y after the oldest.
+  -- Where x due times are kept, a job is due at the later of d after its release and y after the oldest.
   by-the-later : full ≡ true → dueAfter t d y full oldest ≡ max (t + d) (oldest + y)
   by-the-later all = rw all
 

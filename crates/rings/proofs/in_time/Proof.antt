@@ -1,6 +1,6 @@
 -- `rings::in_time` meets its contract.
 use mathlib.Core.Path.{sym}
-use Rattle.due.proofs.Laws.{in-time-given, late-refused}
+use Rattle.due.proofs.NewestKept.{in-time-given, late-refused}
 use Rattle.rings.proofs.in_time.Statement.{statement}
 use Rattle.rings.proofs.in_time.Tie as tie
 

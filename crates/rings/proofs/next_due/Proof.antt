@@ -1,5 +1,5 @@
--- `rings::next_due` meets its contract. Past the first three tests all is ready for the row, and the place for its next due time is one of its ring's. The
--- answer goes by the due time that stands there.
+-- `rings::next_due` meets its contract. Past the first three tests the row is ready, and the place for its next due time is one of its ring's. The answer goes
+-- by the due time that stands there.
 use Prim.Native.Nat.{_+_, _*_, _<_}
 use mathlib.Core.Path.{_≡_, refl, sym, ap, _∙_}
 use mathlib.Core.Bool.{true}
@@ -11,11 +11,11 @@ use lib.ListN.{getD}
 use Rattle.table.specs.Rows.{rowInRange}
 use Rattle.due.specs.Kept.{maxKept, notTooLate}
 use Rattle.rings.specs.Rings.{rings, dueIn}
-use Rattle.rings.specs.Inside.{dueAfter}
-use Rattle.rings.specs.Laws.{Ready}
+use Rattle.rings.specs.OneRing.{dueAfter}
+use Rattle.rings.specs.RingShapes.{Ready}
 use Rattle.rings.proofs.Keeping.{shape, row-within, place-within}
 use Rattle.rings.proofs.Storing.{place-unused, place-of-oldest, stored-behind, stored-instead}
-use Rattle.rings.proofs.Exactly.{answer-by-place, no-such-row, row-out-of-range, not-the-rows}
+use Rattle.rings.proofs.RingAnswers.{answer-by-place, no-such-row, row-out-of-range, not-the-rows}
 use Rattle.rings.proofs.next_due.Statement.{statement}
 use Rattle.rings.proofs.next_due.Tie as tie
 
@@ -23,7 +23,7 @@ use Rattle.rings.proofs.next_due.Tie as tie
 fine : (c : tie.Else2) → rowInRange (c .before .before .before .before .args .row) ≡ true
 fine c = sym (c .before .in-range .ensures) ∙ not-false _ (c .if2 .left)
 
--- Past the third test all is ready for the row.
+-- Past the third test the row is ready for a due time.
 ready : (c : tie.Else3) → let a = c .before .before .before .before .before .before .before .before .args in Ready (rings (a .times .now) (a .many .now) (a .oldest .now)) (a .number .0) (a .row)
 ready c = record {
   in-use = c .before .before .before .before .before .before .if1 .left;
@@ -35,7 +35,7 @@ ready c = record {
 inside : (c : tie.After-place-in) → c .place-in .result < maxKept
 inside c = rw (c .place-in .ensures) (place-within (ready (c .before)))
 
--- The answer is the one that the rings give.
+-- The answer is the due time that the definition gives by the rings.
 answer : (c : tie.After-due-by) → let a = c .before .before .before .before .before .before .before .before .before .before .before .args in
     c .due-by .result ≡ dueIn (rings (a .times .now) (a .many .now) (a .oldest .now)) (a .number .0) (a .row) (a .release .0) (a .cost)
 answer c =

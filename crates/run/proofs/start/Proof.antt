@@ -1,4 +1,4 @@
--- `run::start` meets its contract: the run is the fresh one of the table that was read, and the answer goes by its answer.
+-- `run::start` meets its contract: the run is the fresh run of the table that was read, and the answer follows the table's answer.
 use borrow.Author.Needs.{needs}
 use Rattle.run.proofs.Fresh.{starts}
 use Rattle.run.proofs.start.Statement.{statement}

@@ -1,4 +1,4 @@
--- `script::choose` meets its contract: times too late are refused first, and then it goes by what is read at the start of each script.
+-- `script::choose` meets its contract: times above 2^40 are refused first, and then what is read at the start of each script decides.
 use Prim.Native.Nat.{_≤_}
 use mathlib.Core.Path.{_≡_, refl, sym, _∙_}
 use borrow.Author.Needs.{needs}
@@ -13,19 +13,19 @@ use Rattle.script.proofs.Chooser.{first-too-late, second-too-late, by-r
 use Rattle.script.proofs.choose.Statement.{statement}
 use Rattle.script.proofs.choose.Tie as tie
 
--- The gap of a record at the start of the first script is a number, ..
+-- The gap of a record at the start of the first script is at most 2^42 − 1.
 first-gap : (c : tie.After-record-at) {a : RecordAt} → c .record-at .result ≡ read.Record a → a .release .gap ≤ maxNumber
 first-gap c e =
     let known = c .before .before .before .before .before .before in
     record-stands (known .before .args .first .now) 0 _ (λ i. known .shared-slice-known .given i .fits) (sym (c .record-at .ensures) ∙ e) .in-range .gap
 
--- .. and so is that of one at the start of the second.
+-- The gap of a record at the start of the second script is at most 2^42 − 1.
 second-gap : (c : tie.After-record-at2) {b : RecordAt} → c .record-at2 .result ≡ read.Record b → b .release .gap ≤ maxNumber
 second-gap c e =
     let known = c .before .before .before .before .before .before in
     record-stands (known .before .before .args .second .now) 0 _ (λ i. known .shared-slice-known2 .given i .fits) (sym (c .record-at2 .ensures) ∙ e) .in-range .gap
 
--- Where both scripts are read, an answer by what was read is the choice.
+-- After both scripts were read, the answer by what was read is the chooser's answer.
 as-read : (c : tie.After-record-at2) {one other : RecordRead} {answer : Chosen} → c .before .record-at .result ≡ one → c .record-at2 .result ≡ other
     → (let a = c .before .before .before .before .before .before .before .before .args in
     answer ≡ comesNext one other (a .first-time .0) (a .second-time .0)

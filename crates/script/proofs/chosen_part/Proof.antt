@@ -1,4 +1,4 @@
--- `script::chosen_part` meets its contract: a record that comes next ends within its script, so that the part is one of that script.
+-- `script::chosen_part` meets its contract: a record that comes next ends within its script, so that the part is a part of that script.
 use Prim.Native.Nat.{_≤_}
 use mathlib.Core.Path.{_≡_, refl, sym, _∙_}
 use lib.ListN.{length}
@@ -6,18 +6,18 @@ use lib.Seq.{length-take-le}
 use borrow.Author.Needs.{needs}
 use Rattle.script.specs.declared.Chosen.the-variants as answer
 use Rattle.script.specs.Chooser.{chosen}
-use Rattle.script.specs.Laws.{scriptNamed}
+use Rattle.script.specs.TwoScripts.{scriptNamed}
 use Rattle.script.proofs.Chooser.{next-is-first}
 use Rattle.script.proofs.chosen_part.Statement.{statement}
 use Rattle.script.proofs.chosen_part.Tie as tie
 
--- A record comes next, ..
+-- The chooser names a record that comes next.
 next-named : (c : tie.After-n)
     → (let a = c .before .before .before .before .before .args in
     chosen (a .first .now) (a .second .now) (a .first-time .0) (a .second-time .0) ≡ answer.Next (c .n .given .0 .0))
 next-named c = sym (c .before .before .choose .ensures) ∙ c .n .given .1
 
--- .. and ends within its script.
+-- The record that comes next ends within its script.
 within : (c : tie.After-n)
     → (let a = c .before .before .before .before .before .args in
     let n = c .n .given .0 .0 in

@@ -1,4 +1,4 @@
--- `script::earlier` meets its contract: the times compared are those of the two records.
+-- `script::earlier` meets its contract: it compares the times of the two records, and the sums fit.
 use mathlib.Core.Path.{sym, _∙_}
 use native.Mathlib.Omega.{arith}
 use borrow.Author.Needs.{needs}

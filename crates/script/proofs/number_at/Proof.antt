@@ -1,5 +1,5 @@
--- `script::number_at` meets its contract: past the end the script's length is refused; else a number that can be read is the number there, and any other is
--- refused with 14.
+-- `script::number_at` meets its contract. A place past the end is refused at the script's length. Otherwise a number that can be read is the number there, and
+-- any other is refused with 14.
 use mathlib.Core.Path.{sym, _∙_}
 use native.Mathlib.Omega.{arith}
 use borrow.Author.Needs.{needs}

@@ -1,4 +1,4 @@
--- `script::record_at` meets its contract: past the end, at the end, and then a number and the next, each answer is a law of how a record is read.
+-- `script::record_at` meets its contract: each answer, past the end, at the end and after each number, is a law of how a record is read.
 use Prim.Native.Nat.{_<_}
 use mathlib.Core.Path.{_≡_, sym, _∙_}
 use native.Mathlib.Omega.{arith}
@@ -10,16 +10,16 @@ use Rattle.script.proofs.Records.{record-past-end, record-end, gap-refu
 use Rattle.script.proofs.record_at.Statement.{statement}
 use Rattle.script.proofs.record_at.Tie as tie
 
--- The place is before the script's end, ..
+-- Past the tests of the place, it is before the script's end.
 inside : (c : tie.Else2) → (let a = c .before .before .before .args in a .at < length (a .script .now))
 inside c = omega arith
 
--- .. the gap is read there ..
+-- The gap is read at the place.
 gap-read : (c : tie.After-n)
     → (let a = c .before .before .before .before .before .before .args in scriptNumber (a .script .now) (a .at) ≡ number.Number (c .n .given .0 .0))
 gap-read c = sym (c .before .before .number-at .ensures) ∙ c .n .given .1
 
--- .. and then the row number.
+-- The row number is read at the place after the gap.
 row-read : (c : tie.After-n2)
     → (let gap = c .before .before .before .before in
     let a = gap .before .before .before .before .before .before .args in

@@ -33,7 +33,7 @@ returns-2 c = c .refused2 .ensures ∙ extra-bytes (c .before .before .before .b
 ys-requires : tie.Need-ys-requires
 ys-requires c κs = search needs
 
--- The rows in use have their places.
+-- At most 16 rows are in use.
 places : (c : tie.After-ys) → c .before .before .before .before .before .before .read-rows .result .count ≤ maxRows
 places c =
     count-fits (c .before .before .before .before .before .before .before .before .args .bytes .now) _

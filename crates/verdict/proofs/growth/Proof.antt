@@ -2,7 +2,7 @@
 use Prim.Native.Nat.{_-_}
 use native.Mathlib.Omega.{arith}
 use Rattle.theory.specs.Demand.{rowGrowth}
-use Rattle.table.specs.Laws.{WithinLimits}
+use Rattle.table.specs.SpelledTables.{WithinLimits}
 use Rattle.verdict.specs.Demand.{tableGrowth}
 use Rattle.verdict.proofs.Rows.{rowAt, growthIn, Summed, none-summed, all-summed, row-within, summed-more}
 use Rattle.verdict.proofs.Bounds.{cost-of-x-at-most, growth-at-most, sum-fits}

@@ -14,7 +14,7 @@ use Rattle.verdict.proofs.Verdicts.{smallest-found}
 use Rattle.verdict.proofs.judge.Statement.{statement}
 use Rattle.verdict.proofs.judge.Tie as tie
 
--- The table was accepted, and all is known that its verdict needs.
+-- The table was accepted, so all that its verdict needs is known.
 known : (c : tie.After-known-told) → Known (c .before .before .before .before .read-table .result .table) (c .before .answer .given .0 .0)
 known c =
     let r = c .before .before .before .before in
@@ -31,7 +31,7 @@ longest-scan c =
     let k = known (c .before) in
     rw (c .largest-d .ensures) (last-at-most (k .in-range) _ (k .most-period))
 
--- Whichever the scan is, the lengths up to its last settle the verdict.
+-- In either branch the lengths up to `last` settle the verdict.
 settled : (c : tie.Joined1) → Settles (c .before .before .before .before .before .before .before .read-table .result .table) (c .if1 .last)
 settled c =
     let k = known (c .before .before .before) in

@@ -1,4 +1,4 @@
--- `verdict::largest_d` meets its contract. The loop's invariant: it is the largest d of the rows passed.
+-- `verdict::largest_d` meets its contract. The loop's invariant: `largest` is the largest d of the rows passed.
 use Prim.Native.Nat.{_-_, _≤_}
 use mathlib.Core.Path.{_≡_, refl}
 use mathlib.Core.Logic.{⊎-elim}

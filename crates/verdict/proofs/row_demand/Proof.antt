@@ -1,4 +1,4 @@
--- `verdict::row_demand` meets its contract: below d and from d on it answers by the rule, and what it computes on the way has room.
+-- `verdict::row_demand` meets its contract: below d and from d on it answers by the rule, and no step on the way overflows.
 use mathlib.Core.Path.{sym}
 use native.Mathlib.Omega.{arith}
 use borrow.Author.Needs.{needs}

@@ -53,7 +53,7 @@ loop2-again c =
     let turn = c .before .before in
     rw (c .row-demand .ensures) (summed-more (turn .before .before .before .before .pre .0) (turn .before .loop2 .inv) (turn .loop2-test .taken))
 
--- After the inner loop the demand is the table's.
+-- After the inner loop `demand` is the table's demand in this length.
 whole : (c : tie.After-loop2 Inv-loop2 μ-loop2 Inv-loop μ-loop)
     → c .before .loop2 .demand ≡ tableDemand (c .before .before .before .before .args .t1) (c .before .before .before .loop .length)
 unfolding tableDemand

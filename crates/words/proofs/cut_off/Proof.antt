@@ -1,4 +1,4 @@
--- `cut_off` meets its contract: refusal 1, at the place.
+-- `words::cut_off` meets its contract: it answers refusal 1 at the place.
 use Rattle.words.proofs.cut_off.Statement.{statement}
 use Rattle.words.proofs.cut_off.Tie as tie
 use mathlib.Core.Path.{refl}

@@ -1,4 +1,4 @@
--- `words::get` meets its contract. The loop's invariant: the bytes passed, from the highest down, say the value so far.
+-- `words::get` meets its contract. The loop goes from the highest byte down. Its invariant is that the bytes passed say the value so far.
 use Prim.Native.Nat.{suc, _+_, _-_, _*_, _≤_, _<_}
 use mathlib.Core.Path.{_≡_, refl}
 use native.Mathlib.Nat.{add-zero}
@@ -8,7 +8,7 @@ use lib.Seq.{getD-drop}
 use borrow.Author.Needs.{needs}
 use borrow.Author.Tests.{le-leb, lt-leb}
 use Rattle.words.specs.Words.{wordLength, fromLowestFirst}
-use Rattle.words.proofs.Laws.{limit, limit-of-word, says-what-fits, says-one-more}
+use Rattle.words.proofs.Storing.{limit, limit-of-word, says-what-fits, says-one-more}
 use Rattle.words.proofs.get.Statement.{statement}
 use Rattle.words.proofs.get.Tie as tie
 
@@ -18,7 +18,7 @@ Inv-loop bytes at value₀ i₀ value i = (i ≤ wordLength) × (value ≡ fromL
 abbrev μ-loop : tie.MeasureT-loop
 μ-loop bytes at value₀ i₀ value i = i
 
--- What the bytes so far say fits them, and with one byte more it fits a word.
+-- The value so far together with one more byte is below 2^64.
 fits : (c : tie.In-loop Inv-loop μ-loop) → c .before .loop .value * 256 + 255 < limit wordLength
 fits c =
     let l = c .before .loop in

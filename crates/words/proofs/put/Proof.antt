@@ -1,4 +1,4 @@
--- `words::put` meets its contract. The loop's invariant: what is left of the number, in the bytes that are left, completes the whole.
+-- `words::put` meets its contract. The loop's invariant is that what is left of the number, written into the bytes that are left, completes the word.
 use Prim.Native.Nat.{suc, _-_, _≤_}
 use mathlib.Core.Path.{_≡_, refl, _∙_}
 use native.Mathlib.Numerals.{add-one, unary-clauses}
@@ -7,7 +7,7 @@ use lib.ListN.{length, length-set}
 use lib.Seq.{sets, sets-eq}
 use borrow.Author.Tests.{le-leb, lt-leb}
 use Rattle.words.specs.Words.{wordLength, lowestFirst}
-use Rattle.words.proofs.Laws.{lowest-first-length, lowest-first-more}
+use Rattle.words.proofs.Storing.{lowest-first-length, lowest-first-more}
 use Rattle.words.proofs.put.Statement.{statement}
 use Rattle.words.proofs.put.Tie as tie
 

@@ -4,7 +4,7 @@ use mathlib.Core.Path.{_≡_}
 use native.Mathlib.Omega.{arith}
 use lib.ListN.{length}
 use Rattle.jobs.specs.Places.{maxPlaces}
-use Rattle.columns.specs.Inside.{closedUp}
+use Rattle.columns.specs.FirstAndClosing.{closedUp}
 use Rattle.columns.proofs.ClosingUp.{closed-none, closed-more}
 use Rattle.columns.proofs.places.close_up.Statement.{statement}
 use Rattle.columns.proofs.places.close_up.Tie as tie

@@ -1,5 +1,5 @@
--- `due::Kept::due` meets its contract. The values of a row in range are small enough for the sums to fit. Where the branches meet, the due time at hand is
--- the rule's.
+-- `due::Kept::due` meets its contract. The values of a row in range are small enough for the sums to fit. Where the branches meet, `due` is the due time by the
+-- rule.
 use Prim.Native.Nat.{_+_, _-_, _<_, max}
 use mathlib.Core.Path.{_≡_, sym, _∙_}
 use mathlib.Core.Bool.{true}
@@ -12,12 +12,12 @@ use Rattle.kinds.specs.Numbering.{maxTime}
 use Rattle.kinds.specs.declared.Refusal.the-variants.{DueTooLate}
 use Rattle.kinds.proofs.Lists.{length-mapped}
 use Rattle.table.specs.Rows.{rowInRange}
-use Rattle.table.specs.Laws.{WithinLimits}
-use Rattle.table.proofs.Laws.{in-range-means}
+use Rattle.table.specs.SpelledTables.{WithinLimits}
+use Rattle.table.proofs.SpelledTables.{in-range-means}
 use Rattle.due.specs.declared.Due.the-variants.{Refused}
 use Rattle.due.specs.Kept.{keptTimes, dueOf}
 use Rattle.due.proofs.Keeping.{noTime, byRule, length-kept, due-alone, due-spaced, due-after-release}
-use Rattle.due.proofs.Laws.{due-given, due-too-late, due-out-of-range}
+use Rattle.due.proofs.NewestKept.{due-given, due-too-late, due-out-of-range}
 use Rattle.due.proofs.Kept.due.Statement.{statement}
 use Rattle.due.proofs.Kept.due.Tie as tie
 
@@ -29,12 +29,12 @@ fine c = sym (c .before .in-range .ensures) ∙ not-false _ (c .if1 .left)
 within : (c : tie.Else1) → WithinLimits (c .before .before .args .row)
 within c = in-range-means (c .before .before .args .row) .0 (fine c)
 
--- A due time that is too late is refused as such.
+-- A due time above 2^40 is refused with 9.
 late : (c : tie.Else1) → let a = c .before .before .args in
     maxTime < byRule (a .t1) (a .row) (a .release .0) → Refused DueTooLate ≡ dueOf (a .t1) (a .row) (a .release .0) (a .cost)
 late c h = let a = c .before .before .args in sym (due-too-late (a .t1) (a .row) (a .release .0) (a .cost) .1 (fine c, h))
 
--- As many due times are kept as the code goes by.
+-- The count that the code uses is the number of kept due times.
 used : (c : tie.After-in-use) → length (keptTimes (c .before .before .before .before .before .args .t1)) ≡ c .in-use .result
 used c = length-kept _ _ (search (needs, length-mapped)) (c .in-use .ensures)
 
@@ -46,7 +46,7 @@ spaced c =
     let a = c .before .before .before .before .before .before .args in
     due-spaced (a .t1) _ (used (c .before)) (a .row) _ (within (c .before .before .before .before) .some-x) (c .if3 .taken)
 
--- Where the branches meet, the due time at hand is the rule's.
+-- Where the branches meet, `due` is the due time by the rule.
 by-rule : (c : tie.Joined3) → let a = c .before .before .before .before .before .before .args in
     byRule (a .t1) (a .row) (a .release .0) ≡ c .if3 .due
 by-rule c =

@@ -8,8 +8,8 @@ use borrow.Author.Tests.{not-true, not-false}
 use lib.ListN.{length}
 use Rattle.kinds.proofs.Lists.{length-mapped}
 use Rattle.table.specs.Rows.{rowInRange}
-use Rattle.table.specs.Laws.{WithinLimits}
-use Rattle.table.proofs.Laws.{in-range-means}
+use Rattle.table.specs.SpelledTables.{WithinLimits}
+use Rattle.table.proofs.SpelledTables.{in-range-means}
 use Rattle.due.specs.Kept.{maxKept, keptTimes}
 use Rattle.due.proofs.Lists.{movedDown, moved-one-more}
 use Rattle.due.proofs.Keeping.{noTime, length-kept, keep-refused, keep-done, kept-behind, kept-moved}
@@ -34,7 +34,7 @@ within c = in-range-means (c .before .before .args .row) .0 (fine c)
 whole : (c : tie.Start Inv-loop μ-loop) → length (c .args .self .times) ≡ maxKept
 whole c = search (needs, length-mapped)
 
--- As many due times are kept as the code goes by.
+-- The count that the code uses is the number of kept due times.
 used : (c : tie.After-in-use Inv-loop μ-loop) → length (keptTimes (c .before .before .before .args .self)) ≡ c .in-use .result
 used c = length-kept _ _ (whole (c .before .before .before)) (c .in-use .ensures)
 

@@ -1,4 +1,4 @@
--- `due::Kept::sound` meets its contract. The loop's invariant: whether any kept due time is too late is settled by those from here on.
+-- `due::Kept::sound` meets its contract. The loop's invariant: whether any kept due time is above 2^40 is settled by those from place `i` on.
 use Prim.Native.Nat.{_-_}
 use mathlib.Core.Path.{_≡_, refl, sym, _∙_}
 use native.Mathlib.Omega.{arith}
@@ -16,11 +16,11 @@ Inv-loop self count i₀ i = noneTooLate (drop i (keptTimes self)) ≡ noneTooLa
 abbrev μ-loop : tie.MeasureT-loop
 μ-loop self count i₀ i = count - i
 
--- As many due times are kept as the code goes by.
+-- The count that the code uses is the number of kept due times.
 used : (c : tie.After-in-use Inv-loop μ-loop) → length (keptTimes (c .before .before .before .args .t1)) ≡ c .in-use .result
 used c = length-kept _ _ (search (needs, length-mapped)) (c .in-use .ensures)
 
--- In the loop the answer is whether any due time from here on is too late.
+-- In the loop, whether what is kept is sound depends only on whether a due time from place `i` on is above 2^40.
 left-to-test : (c : tie.At-loop Inv-loop μ-loop) → let a = c .before .before .before .before .args in
     keptSound (a .t1) (a .row) ≡ noneTooLate (drop (c .loop .i) (keptTimes (a .t1)))
 left-to-test c =

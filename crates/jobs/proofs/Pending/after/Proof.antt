@@ -1,4 +1,4 @@
--- `Pending::after` meets its contract: the unit is the last, or the job keeps its place.
+-- `Pending::after` meets its contract: if the unit is the last the job is taken out, and otherwise it keeps its place.
 use Prim.Native.Nat.{_<_}
 use mathlib.Core.Path.{_≡_}
 use native.Mathlib.Omega.{arith}
@@ -12,11 +12,11 @@ use Rattle.jobs.proofs.Places.{used-is}
 use Rattle.jobs.proofs.Pending.after.Statement.{statement}
 use Rattle.jobs.proofs.Pending.after.Tie as tie
 
--- All the places are there.
+-- There are 64 places.
 all-places : (c : tie.Start) → length (c .args .t1 .places) ≡ maxPlaces
 all-places c = search (needs, length-mapped)
 
--- The place is one of them.
+-- The place is one of the 64.
 in-places : (c : tie.Start) → c .args .at < maxPlaces
 in-places c = omega (arith, all-places c, length-take (c .args .t1 .count) (c .args .t1 .places))
 

@@ -1,4 +1,5 @@
--- `Pending::choice` meets its contract. The loop has looked at the jobs before the place i: the best of them and those from i on have the same first.
+-- `Pending::choice` meets its contract. The loop has compared the jobs before the place i. Going on with the best of them finds the job that goes first among
+-- all.
 use Prim.Native.Nat.{_-_}
 use mathlib.Core.Path.{_≡_, sym, _∙_}
 use mathlib.Core.Bool.{true, false}

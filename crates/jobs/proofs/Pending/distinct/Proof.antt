@@ -1,4 +1,5 @@
--- `jobs::Pending::distinct` meets its contract: serials that rise are distinct. The loop's invariant: all serials are distinct where those from `i` on are.
+-- `jobs::Pending::distinct` meets its contract: serials that rise are distinct. The loop's invariant: all serials are distinct exactly if those from `i` on
+-- are.
 use Prim.Native.Nat.{_-_, _≤_}
 use mathlib.Core.Path.{_≡_, refl, sym, _∙_}
 use native.Mathlib.Omega.{arith}
@@ -18,7 +19,7 @@ Inv-loop places count i₀ i = distinctSerials (drop i (take count places)) ≡ 
 abbrev μ-loop : tie.MeasureT-loop
 μ-loop places count i₀ i = count - i
 
--- The places that are counted are all there, and hold the pending jobs.
+-- There are at least as many places as are counted, and these hold the pending jobs.
 counted : (c : tie.After-in-use Inv-loop μ-loop)
     → let p = c .before .before .args .self in (c .in-use .result ≤ length (p .places)) × (take (c .in-use .result) (p .places) ≡ jobsOf p)
 counted c =

@@ -1,4 +1,4 @@
--- `Pending::empty` meets its contract: every place holds no job.
+-- `Pending::empty` meets its contract: every place holds zeros.
 use borrow.Author.Needs.{needs}
 use Rattle.jobs.proofs.Pending.empty.Statement.{statement}
 use Rattle.jobs.proofs.Pending.empty.Tie as tie

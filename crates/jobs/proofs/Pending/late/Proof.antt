@@ -1,4 +1,4 @@
--- `Pending::late` meets its contract. The loop has counted the jobs before the place i: with those from i on they are all.
+-- `Pending::late` meets its contract. The loop has counted the late jobs before the place i. With those from i on, these are all.
 use Prim.Native.Nat.{_+_, _-_, _≤_}
 use mathlib.Core.Path.{_≡_, sym, _∙_}
 use mathlib.Core.Bool.{true, false}

@@ -1,4 +1,4 @@
--- `Pending::put` meets its contract: there is a place that is not in use, or the job is refused and all stays as it was.
+-- `Pending::put` meets its contract: a place is unused, or the job is refused and nothing changes.
 use borrow.Author.Needs.{needs}
 use borrow.Author.Tests.{lt-ltb, le-ltb}
 use Rattle.jobs.specs.Places.{put, putStep}

@@ -1,4 +1,4 @@
--- `Pending::tick` meets its contract: nobody is chosen and the tick is idle, or the job that goes first has it.
+-- `Pending::tick` meets its contract: nobody is chosen and the tick is idle, or the job that goes first gets the unit.
 use Prim.Native.Nat.{_≤_, _<_}
 use mathlib.Core.Path.{_≡_, sym, _∙_}
 use native.Mathlib.Omega.{arith}
@@ -8,7 +8,7 @@ use Rattle.kinds.proofs.Lists.{length-mapped}
 use Rattle.jobs.specs.Places.{maxPlaces, jobsOf, used}
 use Rattle.jobs.specs.Choice.{firstPlace}
 use Rattle.jobs.proofs.First.{nobody-chosen, place-chosen}
-use Rattle.jobs.proofs.Laws.{first-is-there}
+use Rattle.jobs.proofs.Changes.{first-is-there}
 use Rattle.jobs.proofs.Turns.{turned-idle, turned-busy}
 use Rattle.jobs.proofs.Pending.tick.Statement.{statement}
 use Rattle.jobs.proofs.Pending.tick.Tie as tie
@@ -19,11 +19,11 @@ chosen : (c : tie.After-at)
 chosen c =
     place-chosen (jobsOf (c .before .before .before .args .t1)) (c .at .given .0 .0) (sym (c .before .before .choice .ensures) ∙ c .at .given .1)
 
--- So the place is in use.
+-- The place chosen is in use.
 in-use : (c : tie.After-at) → c .at .given .0 .0 < used (c .before .before .before .args .t1)
 in-use c = omega (arith, chosen c .1, first-is-there (c .before .before .before .args .t1) (chosen c .0))
 
--- It is one of all places.
+-- The place chosen is one of the 64.
 in-places : (c : tie.After-at) → c .at .given .0 .0 < maxPlaces
 in-places c =
     let p = c .before .before .before .args .t1 in

@@ -1,11 +1,11 @@
--- `jobs::distinct::meets_again` meets its contract. The loop's invariant: the serial stands at a later place exactly where it stands at `i` or after.
+-- `jobs::distinct::meets_again` meets its contract. The loop's invariant: the serial stands at a later place exactly if it stands at `i` or after it.
 use Prim.Native.Nat.{_+_, _-_, _<_}
 use mathlib.Core.Path.{_≡_, refl, sym, ap, _∙_}
 use mathlib.Core.Bool.{not}
 use native.Mathlib.Omega.{arith}
 use lib.ListN.{take, drop}
 use Rattle.jobs.specs.Serials.{hasNot}
-use Rattle.jobs.specs.Laws.{serialAt}
+use Rattle.jobs.specs.JobChanges.{serialAt}
 use Rattle.jobs.proofs.Serials.{met, not-met, rest-end}
 use Rattle.jobs.proofs.distinct.meets_again.Statement.{statement}
 use Rattle.jobs.proofs.distinct.meets_again.Tie as tie

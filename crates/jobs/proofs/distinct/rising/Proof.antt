@@ -1,4 +1,4 @@
--- `jobs::distinct::rising` meets its contract. The loop's invariant: all serials rise where those from `i` on do, above the one before `i`.
+-- `jobs::distinct::rising` meets its contract. The loop's invariant: all serials rise exactly if those from `i` on do, above the one before `i`.
 use Prim.Native.Nat.{_-_, _≤_}
 use mathlib.Core.Path.{_≡_, sym, _∙_}
 use native.Mathlib.Omega.{arith}

@@ -1,5 +1,7 @@
--- `reader::ScriptReader::new` meets its contract: a walk of its MIR, by hand. A reader is made in the result's local, of the slice passed and 0.
--- A `&[u8]` is Copy, so what it owns is had twice: once for the parameter at exit, and once inside the result, beside the facts of the number.
+-- `reader::ScriptReader::new` meets its contract. The proof goes by hand through the function's MIR, the compiler's code, one step after another. A reader is
+-- made in the result's local from the slice that was passed and 0. A `&[u8]` is Copy, so what it owns can be held twice: once for the parameter at exit, and
+-- once inside the result, beside the facts about the number. A comment in square brackets lists what is held at that point, where _0, _1 and so on are the
+-- locals of the MIR.
 use mathlib.Core.Path.{refl}
 use Prim.Native.Nat.{ℕ}
 use mathlib.Core.List.{List, [], _∷_}
@@ -51,7 +53,7 @@ module _ {M : Type 1} (𝓤 : URA M) (H : Heap 𝓤) (A : Atoms 𝓤) (W : Given
   abbrev α : NamedLft
   α = namedLft 1 0 tt (κ, tt)
 
-  -- the machine value that s has
+  -- The machine value of s.
   abbrev v : Val
   v = sliceVal (s .ptr) (length (s .now))
 
@@ -78,7 +80,7 @@ module _ {M : Type 1} (𝓤 : URA M) (H : Heap 𝓤) (A : Atoms 𝓤) (W : Given
       says ! (refl, refl) $
       frame ! $ fsplit ! $ use1 W (‵ Own ⊛ ‵ Own) (shr-slice-copy 𝓤 H A W (named 0) κ u8 .twice s (v ∷ [])) $ split ! $
       move ! (0 ∷ 2 ∷ []) $ fjoin ! $ frame ! $
-      -- [what s owns]: this and the number's facts are what the fields own together, and so what the reader owns
+      -- [what s owns] This and the facts about the number are what the fields own together, and so what the reader owns.
       nothing ! $ owned ! usize (Is usize) (uint-makes 𝓤 H A W w64) 0 _ (refl, lit< tt) $ fjoin ! $ move ! (1 ∷ 0 ∷ []) $ fjoin ! $
       by ! (own-shut 𝓤 H A W (T.the-type α) (T′.the-laws α) (s, (0, tt)))
 

@@ -1,7 +1,8 @@
--- `reader::ScriptReader::next` meets its contract: a walk of its MIR, by hand. The borrow is opened, the slice and the number are copied out of the reader and
--- passed to `yield_at`, the number that it returned is stored, and the borrow is closed at the reader with the new number.
--- The reader is Copy: what it owns is had twice, one copy is kept for the exit, and of the other what the script owns goes to the callee, beside the token
--- of 'a, which comes back. All that the proof knows of `yield_at` is that it meets its contract.
+-- `reader::ScriptReader::next` meets its contract. The proof goes by hand through the function's MIR, the compiler's code, one step after another. The borrow
+-- is opened, the slice and the number are copied out of the reader and passed to `yield_at`, the number that it returned is stored, and the borrow is closed at
+-- the reader with the new number. The reader is Copy, so what it owns can be held twice. One copy is kept for the exit. Of the other, what the script owns goes
+-- to `yield_at`, beside the token of 'a, which comes back. The proof uses only the contract of `yield_at`. A comment in square brackets lists what is held at
+-- that point, where _0, _1 and so on are the locals of the MIR.
 use mathlib.Core.Path.{_≡_, refl, ap}
 use Prim.Native.Nat.{ℕ, _<_, _^_}
 use mathlib.Core.List.{List, [], _∷_}
@@ -66,31 +67,34 @@ use Rattle.reader.proofs.ScriptReader.next as fn
 use Rattle.reader.proofs.ScriptReader.next.Statement as stated
 use Rattle.reader.proofs.ScriptReader.next.Code as code
 
--- 'a, as the signature has it and as a place in the body has it; and the reader's type at it
+-- The lifetime 'a as it stands in the signature.
 abbrev α : Lft → NamedLft
 α κ′ = record { mir = named 1; lft = κ′ }
 
+-- The lifetime 'a as it stands at a place in the body.
 abbrev αᵉ : Lft → NamedLft
 αᵉ κ′ = record { mir = erased; lft = κ′ }
 
+-- The type `ScriptReader<'a>`.
 abbrev B : Lft → RattleType
 B κ′ = T.the-row (α κ′)
 
--- `ScriptReader<'a>`, as the referent's place in the signature
+-- The type `ScriptReader<'a>` as what the reference in the signature refers to.
 abbrev behind : Slot 2
 behind = plain (λ κs. T.the-row (namedLft 2 1 tt κs))
 
 abbrev stayed : Stays (fn.ended .signature .params) (fn.ended .kept)
 stayed = (stay-ref (0 ∷ []) tt behind, tt)
 
--- what is known of the fields of what `yield_at` returned
+-- What was found, in a result of `yield_at`, is a value of its type.
 found-is : (r : Yielded) (v : Val) → Is S.the-row r (v ∷ []) → Is E.the-row (r .found) (EL.vals E.the-type E′.the-laws (r .found))
 found-is r v is = LL.owed S.the-type S′.the-laws r (v ∷ []) is .0
 
+-- The place in a result of `yield_at` fits in 64 bits.
 at-fits : (r : Yielded) (v : Val) → Is S.the-row r (v ∷ []) → r .at < 2 ^ 64
 at-fits r v is = LL.owed S.the-type S′.the-laws r (v ∷ []) is .1 .0 .1
 
--- the contract that the proof cites
+-- The contract of `yield_at`.
 abbrev YieldAt : {M : Type 1} (𝓤 : URA M) (H : Heap 𝓤) (A : Atoms 𝓤) (mem : Memory → SProp 𝓤) (run : Routine → Fun 𝓤) → Contract 𝓤
 YieldAt 𝓤 H A mem run = tripleOf 𝓤 H A yield-at.signature (yield-at.spec 𝓤 H A mem run)
 
@@ -105,7 +109,7 @@ module _ {M : Type 1} (𝓤 : URA M) (H : Heap 𝓤) (A : Atoms 𝓤) (W : Given
   abbrev mach : Val
   mach = T′.lowered h
 
-  -- the reader with the number m
+  -- The reader with the place m.
   abbrev at-place : ℕ → ScriptReader
   at-place m = record { script = h .script; at = m }
 
@@ -127,7 +131,7 @@ module _ {M : Type 1} (𝓤 : URA M) (H : Heap 𝓤) (A : Atoms 𝓤) (W : Given
   abbrev vd : Values (D .parts)
   vd = (h .script, (h .at, tt))
 
-  -- what the callee is passed
+  -- What `yield_at` is passed.
   abbrev passed : Vals yield-at.signature (κ′, tt)
   passed = (sliceVal (h .script .ptr) (length (h .script .now)) ∷ [], (vint w64 (h .at) ∷ [], tt))
 
@@ -139,7 +143,7 @@ module _ {M : Type 1} (𝓤 : URA M) (H : Heap 𝓤) (A : Atoms 𝓤) (W : Given
       qed W ((‵ (flft κ′ q′) ⊛ ‵ ftrue) ∷ ‵ (owns (ShrSlice (named 0) κ′ u8 ∷ usize ∷ []) (h .script, (h .at, tt)) passed) ∷ []) ∵
       join ! $ frame ! $ done !
 
-  -- what the reader owns gives what the callee asks, and is kept
+  -- What the reader owns gives what `yield_at` asks for, and is kept.
   apart : h .at < 2 ^ 64
       → ent 𝓤 (⋆ 𝓤 H A (‵ Own ∷ (‵ (flft κ′ q′) ⊛ ‵ ftrue) ∷ [])) (sep 𝓤 (YieldAt 𝓤 H A mem run .pre to) (sem 𝓤 H A Own))
   apart fits =
@@ -152,7 +156,7 @@ module _ {M : Type 1} (𝓤 : URA M) (H : Heap 𝓤) (A : Atoms 𝓤) (W : Given
       owned ! usize (Is usize) (uint-makes 𝓤 H A W w64) (h .at) _ (refl, fits) $ fjoin ! $ move ! (1 ∷ 0 ∷ []) $ fjoin ! $
       move ! (2 ∷ 0 ∷ []) $ use2 W (raw (YieldAt 𝓤 H A mem run .pre to)) asked $ frame ! $ done !)
 
-  -- what the callee says of its result
+  -- What `yield_at` says about its result.
   abbrev Said : Yielded → Type 0
   Said r = r ≡ yielded (now (h .script)) (h .at)
 
@@ -162,13 +166,13 @@ module _ {M : Type 1} (𝓤 : URA M) (H : Heap 𝓤) (A : Atoms 𝓤) (W : Given
   said : (r : Yielded) → ent 𝓤 (Ensured r) (fact 𝓤 (Said r))
   said r = exE 𝓤 _ (λ ws. snd∗ 𝓤 (sem 𝓤 H A (lasts yield-at.ended (κ′, tt) (h .script, (h .at, tt)) ws)) (fact 𝓤 (Said r)))
 
-  -- what the script owns is kept, and the number's facts are made anew
+  -- What the script owns is kept for the reader with the place m, and the facts about the number are made anew.
   again : (m : ℕ) → m < 2 ^ 64 → ent 𝓤 (sem 𝓤 H A Own) (sem 𝓤 H A (B κ′ .own (at-place m) (T′.lowered (at-place m) ∷ [])))
   again m fits =
       qed W (‵ Own ∷ []) ∵ owned ! usize (Is usize) (uint-makes 𝓤 H A W w64) m _ (refl, fits) $ move ! (1 ∷ 0 ∷ []) $
       by ! (own-put 𝓤 H A W D L 1 vd m mach)
 
-  -- the machine value of what was found
+  -- The machine value of what was found.
   abbrev answer : Yielded → Val
   answer r = EL.val E.the-type E′.the-laws (r .found)
 
@@ -221,7 +225,7 @@ module _ {M : Type 1} (𝓤 : URA M) (H : Heap 𝓤) (A : Atoms 𝓤) (W : Given
         (store-in ! 3 (sub ! 1 refl (whole !)) (tt, record { fits = at-fits r v is })) $
         assigns ! (of-opd ! (load ! (from ! (fld ! refl (stop !))) (look-in ! 12 (sub ! 0 refl (whole !))))) (from ! (stop !))
         (init ! 16 refl (EL.lawful E.the-type E′.the-laws 𝓤 H A W tt .typed (r .found) _ (found-is r v is) .0)) $
-        -- the borrow is closed at the reader with the new number
+        -- The borrow is closed at the reader with the new place.
         let after = at-place (r .at) in
         move ! (2 ∷ []) $ use1 W (‵ (B κ′ .own after (T′.lowered after ∷ []))) (again (r .at) (at-fits r v is)) $
         move ! (3 ∷ []) $

@@ -1,4 +1,4 @@
--- `replay::steps::play_record` meets its contract: the ticks until the record's time, and then what its release answers.
+-- `replay::steps::play_record` meets its contract: the ticks until the record's script time are given, and then its release settles the answer.
 use native.Mathlib.Omega.{arith}
 use mathlib.Core.Path.{refl}
 use borrow.Author.Needs.{needs}

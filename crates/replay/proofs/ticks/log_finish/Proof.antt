@@ -1,4 +1,4 @@
--- `replay::ticks::log_finish` meets its contract: a job that finished is counted where it is late, and written where it fits.
+-- `replay::ticks::log_finish` meets its contract: a job that finished is counted where it is late, and its record is written where it fits.
 use Prim.Native.Nat.{_-_}
 use native.Mathlib.Omega.{arith}
 use mathlib.Core.Path.{_≡_, sym, _∙_}
@@ -6,20 +6,20 @@ use mathlib.Core.Logic.{⊎-elim}
 use lib.ListN.{length}
 use borrow.Author.Needs.{needs}
 use borrow.Rule.Slice.PartMut.{putMid}
-use Rattle.log.specs.Laws.{RecordBehind}
-use Rattle.log.proofs.Laws.{record-written, rest-of-log}
-use Rattle.replay.specs.Inside.{lateOr}
+use Rattle.log.specs.SpelledLogs.{RecordBehind}
+use Rattle.log.proofs.Logs.{record-written, rest-of-log}
+use Rattle.replay.specs.Arrays.{lateOr}
 use Rattle.replay.proofs.Writing.{counted-late, counted-in-time, one-dropped, one-written, one-without-room}
 use Rattle.replay.proofs.ticks.log_finish.Statement.{statement}
 use Rattle.replay.proofs.ticks.log_finish.Tie as tie
 
--- The job is counted where it is late.
+-- The job is counted as late where it finished after its due time.
 counted : (c : tie.Joined1) → (let a = c .before .before .before .args in c .if1 .late ≡ lateOr (a .logged) (a .job))
 counted c =
     let a = c .before .before .before .args in
     ⊎-elim (λ w. w .1 ∙ counted-late (a .logged) (a .job) (w .0 .taken)) (λ w. w .1 ∙ counted-in-time (a .logged) (a .job) (w .0 .left)) (c .if1 .came)
 
--- In a log that is not full it goes behind what is written, or is refused.
+-- In a log that is not full, the record goes behind the last one, or it is refused.
 behind : (c : tie.After-write-record)
     → (let a = c .before .before .before .before .before .before .args in
     let l = a .logged .length in

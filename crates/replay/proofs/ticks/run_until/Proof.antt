@@ -1,18 +1,18 @@
--- `replay::ticks::run_until` meets its contract. The loop's invariant: with the ticks still to come, what the arrays held leads to the same. The measure is how
--- many jobs are pending.
+-- `replay::ticks::run_until` meets its contract. The loop's invariant is that the play that the arrays hold comes to the same with the ticks that are still to
+-- come. The measure is the number of pending jobs.
 use native.Mathlib.Omega.{arith}
 use mathlib.Core.Path.{refl}
 use borrow.Author.Needs.{needs}
 use Rattle.columns.specs.Columns.{columns}
-use Rattle.replay.specs.Inside.{held}
+use Rattle.replay.specs.Arrays.{tickArrays}
 use Rattle.replay.proofs.Ticking.{TicksOn, no-ticks-yet, one-less, finished-on, nobody-on, nothing-pending}
 use Rattle.replay.proofs.ticks.run_until.Statement.{statement}
 use Rattle.replay.proofs.ticks.run_until.Tie as tie
 
 abbrev Inv-loop : tie.InvT-loop
 Inv-loop serials₀ rows₀ releases₀ dues₀ left₀ log₀ count until count₀ clock₀ logged₀ serials rows releases dues left log count' clock logged =
-    TicksOn (until .0) (held (columns serials₀ rows₀ releases₀ dues₀ left₀ count₀) log₀ (clock₀ .0) logged₀)
-    (held (columns serials rows releases dues left count') log (clock .0) logged)
+    TicksOn (until .0) (tickArrays (columns serials₀ rows₀ releases₀ dues₀ left₀ count₀) log₀ (clock₀ .0) logged₀)
+    (tickArrays (columns serials rows releases dues left count') log (clock .0) logged)
 
 abbrev μ-loop : tie.MeasureT-loop
 μ-loop serials₀ rows₀ releases₀ dues₀ left₀ log₀ count until count₀ clock₀ logged₀ serials rows releases dues left log count' clock logged =

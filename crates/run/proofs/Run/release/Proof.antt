@@ -1,5 +1,5 @@
--- `run::Run::release` meets its contract: each answer is that of the tests which led to it. A sound run's row numbers index its arrays, and its next serial can
--- go up by one.
+-- `run::Run::release` meets its contract: each answer is that of the tests which led to it. The row number is an index within the run's arrays, and the next
+-- serial can go up by one.
 use Prim.Native.Nat.{_<_}
 use mathlib.Core.Path.{_≡_, sym, _∙_}
 use mathlib.Core.Bool.{true}
@@ -20,19 +20,19 @@ use Rattle.run.proofs.Run.release.Tie as tie
 sound : (c : tie.Else1) → soundOf (c .before .before .args .self) ≡ true
 sound c = sym (c .before .sound .ensures .0) ∙ not-false _ (c .if1 .left)
 
--- What the code's test of row number and cost answers is what the definition says.
+-- The code's test of the row number and the cost answers what the definition says.
 is-tested : (c : tie.After-answer) → let a = c .before .before .before .before .before .before .before .args in tested (a .self) (a .row .0) (a .cost) ≡ c .answer .result
 is-tested c = let a = c .before .before .before .before .before .before .before .args in tested-as (a .self) (a .row .0) (a .cost) _ (c .before .before .before .cost-limits .ensures) _ (c .before .limit-of .ensures) _ (c .answer .ensures)
 
--- Where it allows them, that is what the definition says.
+-- Where the code's test allows the row number and the cost, the definition does too.
 is-allowed : (c : tie.After-enum-told) → let a = c .before .before .before .before .before .before .before .before .before .args in tested (a .self) (a .row .0) (a .cost) ≡ Allowed
 is-allowed c = is-tested (c .before .before) ∙ c .enum-told .given .1
 
--- The row number is then one of all rows.
+-- A row number that is allowed is below 16.
 number-inside : (c : tie.After-enum-told) → c .before .before .before .before .before .before .before .before .before .args .row .0 < maxRows
 number-inside c = let a = c .before .before .before .before .before .before .before .before .before .args in inside (a .self) (a .row .0) (a .cost) (sound (c .before .before .before .before .before .before .before)) (is-allowed c)
 
--- Past the last test all are passed.
+-- Past the test for 8 the release has passed all tests before 9.
 passed : (c : tie.Else2) → let a = c .before .before .before .before .before .before .before .before .before .before .before .before .before .args in Passed (a .self) (a .row .0) (a .cost)
 passed c = let a = c .before .before .before .before .before .before .before .before .before .before .before .before .before .args in passes (a .self) (a .row .0) (a .cost) (sound (c .before .before .before .before .before .before .before .before .before .before .before)) (is-allowed (c .before .before .before .before)) (c .if2 .left)
 

@@ -1,4 +1,5 @@
--- `run::Run::sound` meets its contract: a test that fails settles it, and the last one does where all others hold. Every run that a program can hold is whole.
+-- `run::Run::sound` meets its contract. A test that fails settles the answer, and the last test settles it where all others hold. The arrays of every run have
+-- all their places.
 use mathlib.Core.Path.{sym, _∙_}
 use lib.Seq.{length-take-le}
 use borrow.Author.Needs.{needs}

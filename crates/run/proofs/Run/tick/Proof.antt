@@ -1,4 +1,4 @@
--- `run::Run::tick` meets its contract: a refusal each for the two tests, and else one turn of the pending jobs.
+-- `run::Run::tick` meets its contract. Each of the two tests gives its refusal, and past them the tick is one turn of the pending jobs.
 use mathlib.Core.Path.{_≡_, sym, _∙_}
 use borrow.Author.Needs.{needs}
 use borrow.Author.Tests.{not-true, not-false}
@@ -7,11 +7,11 @@ use Rattle.run.proofs.Ticking.{Good, stepOf, tick-unsound, tick-too-lat
 use Rattle.run.proofs.Run.tick.Statement.{statement}
 use Rattle.run.proofs.Run.tick.Tie as tie
 
--- Past the test the run is sound, and it is whole as every run in a program is.
+-- Past the first test the run is sound, and its arrays have all their places.
 sound : (c : tie.Else1) → Good (c .before .before .args .self)
 sound c = (sym (c .before .sound .ensures .0) ∙ not-false _ (c .if1 .left), c .before .sound .ensures .1)
 
--- The turn that was taken is the tick.
+-- The turn that `Pending::tick` takes is the tick.
 turned : (c : tie.After-left)
     → (let run = c .before .before .before .before .before .before .before .before .before .args .self in stepOf run (c .before .tick .result) ≡ ticked run)
 turned c =

@@ -1,4 +1,4 @@
--- `run::soundness::job_fits` meets its contract: it tests what the rule names, in its order.
+-- `run::soundness::job_fits` meets its contract: it makes the tests of the definition, in the same order.
 use mathlib.Core.Path.{refl}
 use Rattle.run.specs.Sound.{jobFits}
 use Rattle.run.proofs.soundness.job_fits.Statement.{statement}

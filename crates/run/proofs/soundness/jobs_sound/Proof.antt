@@ -1,4 +1,4 @@
--- `run::soundness::jobs_sound` meets its contract. The loop's invariant: whether all jobs are sound is settled by those from here on.
+-- `run::soundness::jobs_sound` meets its contract. The loop's invariant says that all jobs are sound exactly when the jobs from the place i on are.
 use Prim.Native.Nat.{_-_}
 use mathlib.Core.Path.{refl, sym, _∙_}
 use native.Mathlib.Omega.{arith}

@@ -1,4 +1,4 @@
--- `run::soundness::rows_sound` meets its contract. The loop's invariant: whether all rows are sound is settled by those from here on.
+-- `run::soundness::rows_sound` meets its contract. The loop's invariant says that all rows are sound exactly when the rows from the place i on are.
 use Prim.Native.Nat.{_-_}
 use mathlib.Core.Bool.{true}
 use mathlib.Core.Path.{_≡_, refl, sym, _∙_}
@@ -18,7 +18,7 @@ Inv-loop table kept i₀ i = RowsFrom table kept i
 abbrev μ-loop : tie.MeasureT-loop
 μ-loop table kept i₀ i = table .count - i
 
--- A row that was found in range is.
+-- A row that passed the test is in range.
 in-range : (c : tie.Else1 Inv-loop μ-loop)
     → (let t = c .before .before .before .before .before in rowInRange (rowAt (t .before .args .t1) (t .loop .i)) ≡ true)
 in-range c = sym (c .before .in-range .ensures) ∙ not-false _ (c .if1 .left)

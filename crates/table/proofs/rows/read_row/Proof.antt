@@ -1,4 +1,4 @@
--- `table::read_row` meets its contract: a value that stands is followed by the next, and a refusal ends the row.
+-- `table::read_row` meets its contract: after a value that was read comes the next, and a refusal ends the row.
 use mathlib.Core.Path.{_≡_, sym, _∙_}
 use borrow.Author.Needs.{needs}
 use Rattle.numbers.specs.declared.NumberRead.the-variants as number

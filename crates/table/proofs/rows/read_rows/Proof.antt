@@ -1,5 +1,5 @@
--- `rows::read_rows` meets its contract. The loop's invariant is `ReadSoFar`: the answer is that of the rows read so far in front of what is read from here
--- on. Each answer is a law of how rows are read.
+-- `rows::read_rows` meets its contract. The loop's invariant is `ReadSoFar`: the answer is the rows read so far, in front of what is read from here on. Each
+-- answer of the code is a law of `Reading`.
 use Prim.Native.Nat.{_-_}
 use mathlib.Core.Path.{_≡_, sym, _∙_}
 use native.Mathlib.Omega.{arith}

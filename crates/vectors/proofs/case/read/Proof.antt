@@ -1,4 +1,4 @@
--- `vectors::case::read` meets its contract: each index is within the part, and the loop ends with it.
+-- `vectors::case::read` meets its contract: each index is within the part, and the loop ends with the part.
 use Prim.Native.Nat.{_≤_, _-_}
 use lib.ListN.{length}
 use native.Mathlib.Omega.{arith}

@@ -1,4 +1,4 @@
--- `vectors::print::bytes` meets its contract: each index is within the bytes, and the loop ends with them.
+-- `vectors::print::bytes` meets its contract: each index is within the bytes, and the loop ends with the bytes.
 use Prim.Native.Nat.{_≤_, _-_}
 use lib.ListN.{length}
 use native.Mathlib.Omega.{arith}

@@ -1,0 +1,80 @@
+-- The laws of runs: they stay sound, ticks and releases change what the rules say, and due times go by the whole history. (docs/RULES.md, sections 4 and 6.)
+use Prim.Native.Nat.{ℕ, _≤_, _<_}
+use mathlib.Core.Path.{_≡_}
+use mathlib.Core.Bool.{true, cond}
+use mathlib.Core.List.{List, []}
+use lib.ListN.{length}
+use Rattle.kinds.specs.Numbering.{maxTime}
+use Rattle.kinds.specs.declared.Refusal.the-variants.{NoSuchRow, CostOutOfRange}
+use Rattle.numbers.specs.SpelledNumbers.{Bytes}
+use Rattle.table.specs.declared.Table.{Table}
+use Rattle.table.specs.declared.CostAnswer.the-variants as cost-answer
+use Rattle.table.specs.Costs.{costLimits, limitOf, costAnswer}
+use Rattle.table.specs.Limits.{maxRows}
+use Rattle.table.specs.Rows.{fromOneTo}
+use Rattle.table.specs.Tables.{InRange}
+use Rattle.jobs.specs.Places.{jobsOf}
+use Rattle.jobs.specs.Choice.{firstPlace}
+use Rattle.jobs.specs.JobChanges.{unitAt}
+use Rattle.run.specs.declared.Run.{Run}
+use Rattle.run.specs.Runs.{freshRun, started, rowInUse, costLimit}
+use Rattle.run.specs.Sound.{soundOf, Whole}
+use Rattle.run.specs.Release.{released}
+use Rattle.run.specs.Ticking.{ticked}
+use Rattle.run.specs.Answers.{ReleaseSays, accepted, releaseSays}
+use Rattle.run.specs.History.{KeepsHistory, GaveDue}
+
+-- ---- what is proved (proofs/Fresh.antt, proofs/Release.antt, proofs/Ticking.antt)
+
+-- The fresh run of a table in range is sound. (6.25)
+abbrev pub FreshIsSound : Type 0
+FreshIsSound = (t : Table) → InRange t → (soundOf (freshRun t) ≡ true) × Whole (freshRun t)
+
+-- Every run that is started is sound, on any bytes. (6.4, 6.25)
+abbrev pub StartedIsSound : Type 0
+StartedIsSound = (s : List ℕ) → Bytes s → (soundOf (started s .run) ≡ true) × Whole (started s .run)
+
+-- A release leaves a sound run sound, whether it is accepted or refused. (6.25)
+abbrev pub ReleaseKeepsSound : Type 0
+ReleaseKeepsSound = (run : Run) (row cost : ℕ) → Whole run → soundOf run ≡ true
+    → (soundOf (released run row cost .run) ≡ true) × Whole (released run row cost .run)
+
+-- A tick leaves a sound run sound, whether it is refused or not. (6.25)
+abbrev pub TickKeepsSound : Type 0
+TickKeepsSound = (run : Run) → Whole run → soundOf run ≡ true → (soundOf (ticked run .run) ≡ true) × Whole (ticked run .run)
+
+-- In a sound run with a job pending and the clock below 2^40 every tick is free for jobs: the chosen job gets one unit. No other job changes.
+-- (6.5, 6.10, 6.11, 6.17)
+abbrev pub TickGivesOneUnit : Type 0
+TickGivesOneUnit = (run : Run) → Whole run → soundOf run ≡ true → run .clock .0 < maxTime → 1 ≤ run .pending .count
+    → jobsOf (ticked run .run .pending) ≡ unitAt (jobsOf (run .pending)) (firstPlace (jobsOf (run .pending)))
+
+-- A tick never sets the clock back. (6.10)
+abbrev pub ClockGrows : Type 0
+ClockGrows = (run : Run) → run .clock .0 ≤ ticked run .run .clock .0
+
+-- A release never sets the next serial back. (6.7)
+abbrev pub SerialsGrow : Type 0
+SerialsGrow = (run : Run) (row cost : ℕ) → run .next .0 ≤ released run row cost .run .next .0
+
+-- The test of a row number and a cost, in the words of the rules: 6 where the row number is not in use, then 7 where the cost is 0 or above the row's c. (6.8)
+abbrev pub OneTestMeans : Type 0
+OneTestMeans = (t : Table) → t .count ≤ maxRows → length (t .rows) ≡ maxRows → (row cost : ℕ)
+    → costAnswer (limitOf (costLimits t) row) cost
+    ≡ cond (rowInUse t row)
+    (cond (fromOneTo (costLimit t row) cost) cost-answer.Allowed (cost-answer.Refused CostOutOfRange))
+    (cost-answer.Refused NoSuchRow)
+
+-- A refused release leaves the run unchanged. It takes no serial, and leaves every due time alone. (4.4, 6.18)
+abbrev pub RefusedReleaseChangesNothing : Type 0
+RefusedReleaseChangesNothing = (run : Run) (row cost number place : ℕ) → releaseSays (released run row cost .answer) ≡ ReleaseSays.refused number place
+    → released run row cost .run ≡ run
+
+-- In a fresh run the history of every row is empty. (6.3)
+abbrev pub FreshHasNoHistory : Type 0
+FreshHasNoHistory = (t : Table) → t .count ≤ maxRows → KeepsHistory (freshRun t) (λ i. [])
+
+-- Each accepted release gives the due time of the rule over the whole history of its row, and adds it to that history. (4.2, 4.3, 4.5, 6.6)
+abbrev pub DueByWholeHistory : Type 0
+DueByWholeHistory = (run : Run) (history : ℕ → List ℕ) (row cost serial due : ℕ) → Whole run → KeepsHistory run history
+    → releaseSays (released run row cost .answer) ≡ accepted serial due → GaveDue run history row due (released run row cost .run)

@@ -1,0 +1,30 @@
+-- The demand of a table is a curve, since it is the sum of its rows' demands and each of these is a curve. A row's curve starts at its own d, so it may be said
+-- to start at the largest d.
+use Prim.Native.Nat.{_≤_}
+use mathlib.Core.Path.{ap}
+use mathlib.Core.List.{List, List·Memᴰ, List·Memᴰ·head, List·Memᴰ·tail}
+use native.Mathlib.Omega.{arith}
+use Rattle.theory.proofs.Lists.{all-at, all-of-members}
+use Rattle.theory.proofs.Curves.{sums-are-curves, starts-later}
+use Rattle.theory.proofs.Demand.{rows-are-curves}
+use Rattle.table.specs.declared.Row.{Row}
+use Rattle.table.specs.SpelledTables.{WithinLimits}
+use Rattle.table.specs.Tables.{rowsOf}
+use Rattle.verdict.specs.Demand.{rowDemandOf, tableDemand, tableGrowth, largestOf, largestD}
+use Rattle.verdict.specs.ScanLaws.{TableIsACurve}
+use Rattle.verdict.proofs.Rows.{growthIn, rows-within}
+
+-- No row's d is above the largest.
+d-at-most-largest : {r : Row} {l : List Row} → List·Memᴰ r l → r .d ≤ largestOf l
+unfolding largestOf
+d-at-most-largest (List·Memᴰ·head e) = omega (arith, ap (λ (r : Row). r .d) e)
+d-at-most-largest (List·Memᴰ·tail m) = omega (arith, d-at-most-largest m)
+
+pub table-is-a-curve : TableIsACurve
+unfolding tableDemand tableGrowth
+table-is-a-curve t period in-range divides =
+    let within = rows-within in-range (t .count) (omega arith) in
+    sums-are-curves Row rowDemandOf (growthIn period) (largestD t) period (rowsOf t)
+    (all-of-members (rowsOf t) (λ r m.
+    starts-later (rowDemandOf r) (r .d) (largestD t) period (growthIn period r) (d-at-most-largest m)
+    (rows-are-curves (r .x) (r .y) (r .d) (r .c) period (all-at WithinLimits within m .some-y) (divides r m))))
