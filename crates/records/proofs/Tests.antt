@@ -15,6 +15,7 @@ use Rattle.kinds.proofs.Apart.{impossible}
 use Rattle.numbers.specs.declared.Number.{Number}
 use Rattle.numbers.specs.declared.NumberRead.{NumberRead}
 use Rattle.numbers.specs.declared.NumberRead.the-variants as number
+use Rattle.script.specs.Records.{scriptNumber}
 use Rattle.table.specs.declared.CostLimit.the-variants as limit
 use Rattle.table.specs.declared.CostAnswer.the-variants as answer
 use Rattle.table.specs.Costs.{limitOf, costAnswer}
@@ -34,6 +35,24 @@ pub numbers-of : (s : List ℕ) (at : ℕ) (gap row cost : Placed) (second third
     → row ≡ placedAt s second → third ≡ placeAfterNumber (row .read) (row .place) → cost ≡ placedAt s third
     → _≡_ {A = Numbers} (record { gap = gap; row = row; cost = cost }) (numbersAt s at)
 numbers-of s at gap row cost second third first a b d e = rw (e, d, b, a, first)
+
+module _ (s : List ℕ) (at : ℕ) {gap : Number} (g : scriptNumber s at ≡ number.Number gap) where
+  -- The row number stands behind the gap.
+  pub row-place : numbersAt s at .row .place ≡ gap .next
+  row-place = rw g
+
+  -- The row number is what is read behind the gap.
+  pub row-read : {x : NumberRead} → scriptNumber s (gap .next) ≡ x → numbersAt s at .row .read ≡ x
+  row-read e = rw g e
+
+  module _ {row : Number} (r : scriptNumber s (gap .next) ≡ number.Number row) where
+    -- The cost stands behind the row number.
+    pub cost-place : numbersAt s at .cost .place ≡ row .next
+    cost-place = rw (g, r)
+
+    -- The cost is what is read behind the row number.
+    pub cost-read : {x : NumberRead} → scriptNumber s (row .next) ≡ x → numbersAt s at .cost .read ≡ x
+    cost-read e = rw (g, r) e
 
 -- ---- each answer by the tests that lead to it
 

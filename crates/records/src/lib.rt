@@ -146,6 +146,47 @@ pub fn test_numbers(numbers: Numbers, limits: &[u64], time: Tick) -> Tested
     }
 }
 
+// The record at a place, read and tested, with the answer that `numbers_at` and `test_numbers` give together. It is faster, since each number is tested
+// before the next is read. (8.5, steps 1 to 6)
+pub fn ready_at(script: &[u8], at: usize, limits: &[u64], time: Tick) -> Tested
+    ensures { λ r. ⌜ r ≡ testedBy (now (limits .entry)) (time .0) (numbersAt (now (script .entry)) at) ⌝ }
+{
+    let gap = match script::number_at(script, at) {
+        NumberRead::Number(n) => n,
+        NumberRead::Refused(r) => return Tested::Refused(r),
+    };
+    if !in_time(time, gap.value) {
+        return refused_at(Refusal::TimeTooLate, at);
+    }
+    let row = match script::number_at(script, gap.next) {
+        NumberRead::Number(n) => n,
+        NumberRead::Refused(r) => return Tested::Refused(r),
+    };
+    let number = RowNumber(row.value);
+    let limit = table::limit_of(limits, number);
+    let most = match limit {
+        CostLimit::Units(most) => most,
+        CostLimit::NoSuchRow => return refused_at(Refusal::NoSuchRow, gap.next),
+    };
+    let cost = match script::number_at(script, row.next) {
+        NumberRead::Number(n) => n,
+        NumberRead::Refused(r) => return Tested::Refused(r),
+    };
+    let answer = CostLimit::Units(most).answer(cost.value);
+    match answer {
+        CostAnswer::Refused(r) => refused_at(r, row.next),
+        CostAnswer::Allowed => {
+            let later = Tick(time.0 + gap.value);
+            Tested::Ready(Ready {
+                time: later,
+                row: number,
+                cost: cost.value,
+                next: cost.next,
+            })
+        }
+    }
+}
+
 // The tests of a record whose three numbers were read already. They refuse with 10, 6 or 7, in this order, and name no place. (10.7)
 pub fn test_record(release: Record, limits: &[u64], time: Tick) -> RecordTested
     ensures { λ r. ⌜ r ≡ recordTested (now (limits .entry)) (time .0) release ⌝ }

@@ -116,7 +116,14 @@ module _ {p : Progress} {log₀ : List ℕ} {l : Lists} {g : Going} (w : ArraysH
             (logs : after .log ≡ h .log) where
           -- `going` is how far the play has come after the release.
           abbrev going : Going
-          going = record { count = more; clock = ready .time; next = record { 0 = g .next .0 + 1 }; logged = h .logged }
+          going = record {
+            count = more;
+            clock = ready .time;
+            next = record { 0 = g .next .0 + 1 };
+            length = h .logged .length;
+            late = h .logged .late;
+            full = h .logged .full;
+          }
 
           one-more : more ≡ h .jobs .count + 1
           one-more = let so : answer ≡ put.Count (h .jobs .count + 1) = says ∙ rw (lt-ltb (h .jobs .count) maxPlaces room) in cc

@@ -97,7 +97,7 @@ on-its-table t = record {
 
 -- How far a play has come before its first record.
 abbrev pub notBegun : Going
-notBegun = record { count = 0; clock = record { 0 = 0 }; next = record { 0 = 0 }; logged = record { length = 0; late = 0; full = false } }
+notBegun = record { count = 0; clock = record { 0 = 0 }; next = record { 0 = 0 }; length = 0; late = 0; full = false }
 
 -- The arrays at the start of a play: all numbers are 0.
 abbrev pub zeros : (log : List ℕ) → Lists

@@ -28,6 +28,7 @@ use Rattle.play.specs.LogRecords.{OnItsWay}
 use Rattle.replay.specs.declared.Replayed.{Replayed}
 use Rattle.replay.specs.declared.Replayed.the-variants as replayed
 use Rattle.replay.specs.declared.Logged.{Logged}
+use Rattle.replay.specs.declared.Reached.{Reached}
 use Rattle.replay.specs.declared.Going.{Going}
 use Rattle.replay.specs.declared.RecordStep.{RecordStep}
 use Rattle.replay.specs.declared.RecordStep.the-variants as step
@@ -83,6 +84,14 @@ pub record TickArrays : Type 0 where
 -- The pending jobs, the log buffer, the clock and what is known about the log, as one value.
 abbrev pub tickArrays : Columns → (log : List ℕ) (clock : ℕ) → Logged → TickArrays
 tickArrays jobs log clock logged = record { jobs = jobs; log = log; clock = clock; logged = logged }
+
+-- What is written of the log where ticks have come to.
+abbrev pub loggedBy : Reached → Logged
+loggedBy r = record { length = r .length; late = r .late; full = r .full }
+
+-- What is written of the log where a play has come to.
+abbrev pub loggedIn : Going → Logged
+loggedIn g = record { length = g .length; late = g .late; full = g .full }
 
 -- The arrays have all 64 places and at most 64 pending jobs, the log is not longer than its buffer, and the jobs late are few enough to go on counting without
 -- overflow.
@@ -143,7 +152,7 @@ ringsIn l = rings (l .times) (l .many) (l .oldest)
 
 -- The part of a play's arrays and numbers that ticks change.
 abbrev pub tickArraysIn : Lists → Going → TickArrays
-tickArraysIn l g = tickArrays (columnsIn l (g .count)) (l .log) (g .clock .0) (g .logged)
+tickArraysIn l g = tickArrays (columnsIn l (g .count)) (l .log) (g .clock .0) (loggedIn g)
 
 -- One more record can be played without overflow: the arrays are in bounds, the record's script time is at most 2^40, and the next serial is at most 2^63.
 pub record CanGo (l : Lists) (g : Going) (ready : Ready) : Type 0 where

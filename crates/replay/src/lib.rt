@@ -43,19 +43,24 @@ struct Logged {
     full: bool,
 }
 
-// What ticks lead to: how many jobs are still pending, the clock, and what is known about the log.
+// Where ticks have come to: how many jobs are pending still, the clock, and what is written of the log. The three fields of `Logged` stand here one by one: a
+// copy of the whole struct copies its unused bytes too, and takes longer.
 struct Reached {
     count: usize,
     clock: Tick,
-    logged: Logged,
+    length: usize,
+    late: u64,
+    full: bool,
 }
 
-// How far a play has come: how many jobs are pending, the clock, the next serial, and what is known about the log.
+// How far a play has come: how many jobs are pending, the clock, the next serial, and what is written of the log, one by one as in `Reached`.
 struct Going {
     count: usize,
     clock: Tick,
     next: Serial,
-    logged: Logged,
+    length: usize,
+    late: u64,
+    full: bool,
 }
 
 // What one record does to a play: the play goes on, or it stops with a refusal.
@@ -97,16 +102,13 @@ fn play(table: Table, script: &[u8], log: &mut [u8]) -> Replayed
         count: 0,
         clock: Tick(0),
         next: Serial(0),
-        logged: Logged {
-            length: 0,
-            late: 0,
-            full: false,
-        },
+        length: 0,
+        late: 0,
+        full: false,
     };
     while at < script.len() {
         let clock = going.clock;
-        let numbers = records::numbers_at(script, at);
-        let tested = records::test_numbers(numbers, &limits[..in_use], clock);
+        let tested = records::ready_at(script, at, &limits[..in_use], clock);
         let ready = match tested {
             Tested::Ready(r) => r,
             Tested::Refused(r) => return Replayed::Refused(r),
@@ -136,7 +138,11 @@ fn play(table: Table, script: &[u8], log: &mut [u8]) -> Replayed
     }
     let count = going.count;
     let clock = going.clock;
-    let logged = going.logged;
+    let logged = Logged {
+        length: going.length,
+        late: going.late,
+        full: going.full,
+    };
     let last = Tick(Tick::MAX);
     let reached = run_until(
         &mut serials,
@@ -156,19 +162,18 @@ fn play(table: Table, script: &[u8], log: &mut [u8]) -> Replayed
             place: script.len(),
         });
     }
-    let logged = reached.logged;
-    if logged.full {
+    if reached.full {
         return Replayed::Refused(RefusedAt {
             refusal: Refusal::NoRoom,
             place: script.len(),
         });
     }
-    if logged.late == 0 {
-        return Replayed::InTime(logged.length);
+    if reached.late == 0 {
+        return Replayed::InTime(reached.length);
     }
     Replayed::Late(LateJobs {
-        length: logged.length,
-        late: logged.late,
+        length: reached.length,
+        late: reached.late,
     })
 }
 

@@ -1,5 +1,6 @@
 // The playing of a record that passed its tests: the ticks until its script time, and its release. (docs/RULES.md, 6.6 to 6.9, 8.2 and 8.5.)
 use crate::Going;
+use crate::Logged;
 use crate::RecordStep;
 use crate::ticks::run_until;
 use columns::PutAnswer;
@@ -45,7 +46,11 @@ pub(crate) fn play_record(
     let time = ready.time;
     let count = going.count;
     let clock = going.clock;
-    let logged = going.logged;
+    let logged = Logged {
+        length: going.length,
+        late: going.late,
+        full: going.full,
+    };
     let reached = run_until(
         serials,
         rows,
@@ -59,7 +64,6 @@ pub(crate) fn play_record(
         logged,
     );
     let pending = reached.count;
-    let written = reached.logged;
     if Pending::PLACES <= pending {
         return RecordStep::Refused(RefusedAt {
             refusal: Refusal::PlacesFull,
@@ -91,7 +95,9 @@ pub(crate) fn play_record(
                 count: more,
                 clock: time,
                 next,
-                logged: written,
+                length: reached.length,
+                late: reached.late,
+                full: reached.full,
             })
         }
     }

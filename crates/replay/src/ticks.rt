@@ -11,7 +11,7 @@ ghost use Prim.Native.Nat.{_+_, _^_, _≤_};
 ghost use lib.ListN.{length};
 ghost use Rattle.kinds.specs.Numbering.{maxTime};
 ghost use Rattle.columns.specs.Columns.{columns};
-ghost use Rattle.replay.specs.Arrays.{OneLogged, tickArrays, InBounds, LeadsTo};
+ghost use Rattle.replay.specs.Arrays.{OneLogged, tickArrays, InBounds, LeadsTo, loggedBy};
 
 // Counts a job that finished if it is late, and writes its record behind the last one. Where the record does not fit, the log is full from then on. (8.9, 8.13,
 // 8.14)
@@ -65,7 +65,7 @@ pub(crate) fn run_until(
         (tickArrays (columns (now (serials .entry)) (now (rows .entry)) (now (releases .entry)) (now (dues .entry)) (now (left .entry)) count)
         (now (log .entry)) (clock .0) logged)
         (tickArrays (columns (now (serials .exit)) (now (rows .exit)) (now (releases .exit)) (now (dues .exit)) (now (left .exit)) (r .count))
-        (now (log .exit)) (r .clock .0) (r .logged)) ⌝ }
+        (now (log .exit)) (r .clock .0) (loggedBy r)) ⌝ }
 {
     let mut count = count;
     let mut clock = clock;
@@ -84,6 +84,8 @@ pub(crate) fn run_until(
     Reached {
         count,
         clock,
-        logged,
+        length: logged.length,
+        late: logged.late,
+        full: logged.full,
     }
 }

@@ -12,7 +12,7 @@ use lib.Seq.{length-take-le, drop-drop, getD-take, getD-drop}
 use borrow.Author.Tests.{leb-true, ltb-true, le-leb, lt-leb, lt-ltb, le-ltb, eq-eqb, ne-eqb}
 use Rattle.kinds.specs.declared.Tick.{Tick}
 use Rattle.kinds.proofs.Apart.{impossible}
-use Rattle.theory.proofs.Cases.{by-lt, by-eq}
+use Rattle.theory.proofs.Cases.{by-lt, by-eq, by-test}
 use Rattle.table.specs.declared.Row.{Row}
 use Rattle.table.specs.SpelledTables.{WithinLimits}
 use Rattle.table.proofs.SpelledTables.{in-range-means}
@@ -22,7 +22,7 @@ use Rattle.due.specs.Kept.{maxKept, nothingKept, keptTimes, lastOnes, keptAs, k
 use Rattle.due.proofs.Lists.{map-last-ones}
 use Rattle.due.proofs.Keeping.{noTime, byRule, newestWith, kept-at, due-alone, due-spaced, kept-with}
 use Rattle.due.proofs.NewestKept.{kept-as}
-use Rattle.rings.specs.Rings.{Rings, ringOf, manyOf, oldestOf, oldestFirst, asTick, keptIn}
+use Rattle.rings.specs.Rings.{Rings, ringOf, manyOf, oldestOf, oldestFirst, asTick, keptIn, canBe}
 use Rattle.rings.specs.OneRing.{placeIn, dueAfter}
 use Rattle.rings.specs.RingShapes.{Ready, InShape}
 use Rattle.rings.specs.RingLaws.{CanBeMeans}
@@ -51,6 +51,25 @@ can-be-means many o x = (
       let full : many ≡ x = by-lt many x (λ h. absurd (ne (s .starts h))) (λ h. omega (arith, s .few)) in
       rw (le-leb many x (s .few), lt-ltb o x (s .inside), ne-eqb o 0 ne, eq-eqb many x full)),
 )
+
+module _ (many o x : ℕ) where
+  -- With fewer than x kept, the test is that the oldest stands at place 0.
+  pub can-be-growing : many < x → eqb o 0 ≡ canBe many o x
+  can-be-growing h = by-eq o 0
+      (λ start. rw (le-leb many x (omega arith), lt-ltb o x (omega arith), eq-eqb o 0 start))
+      (λ ne. by-test (ltb o x)
+      (λ e. rw (le-leb many x (omega arith), e, ne-eqb o 0 ne, ne-eqb many x (λ same. omega arith)))
+      (λ e. rw (le-leb many x (omega arith), e, ne-eqb o 0 ne)))
+
+  -- With no fewer than x kept, the test is that x are kept and the oldest stands at a place below x.
+  pub can-be-grown : x ≤ many → (eqb many x && ltb o x) ≡ canBe many o x
+  can-be-grown h = by-eq many x
+      (λ same. by-test (ltb o x)
+      (λ e. by-eq o 0
+      (λ start. rw (le-leb many x (omega arith), e, eq-eqb many x same, eq-eqb o 0 start))
+      (λ ne. rw (le-leb many x (omega arith), e, eq-eqb many x same, ne-eqb o 0 ne)))
+      (λ e. rw (le-leb many x (omega arith), e, eq-eqb many x same)))
+      (λ ne. rw (lt-leb many x (omega arith), ne-eqb many x ne))
 
 -- ---- a row's ring
 

@@ -67,11 +67,15 @@ pub fn next_due(
     }
 }
 
-// A ring can be a row's when it counts at most x due times, its oldest stands at a place below x, and its oldest stands at place 0 until x are kept. (10.7)
+// Whether a ring can be a row's. With fewer than x due times kept, the oldest stands at place 0. With x kept, it stands at a place below x. More than x are
+// never kept. (4.6)
 fn can_be(many: usize, oldest: usize, x: usize) -> bool
     ensures { λ r. ⌜ r ≡ canBe many oldest x ⌝ }
 {
-    (many <= x) & (oldest < x) & ((oldest == 0) | (many == x))
+    if many < x {
+        return oldest == 0;
+    }
+    (many == x) & (oldest < x)
 }
 
 // The place in a row's ring where its next due time goes. It is the first unused place while fewer than x are kept, and the oldest's place after that. (4.6)

@@ -7,7 +7,7 @@ use lib.ListN.{length}
 use lib.Seq.{length-take-le}
 use borrow.Author.Needs.{needs}
 use Rattle.numbers.specs.SpelledNumbers.{Bytes}
-use Rattle.replay.specs.Arrays.{Lists, lists}
+use Rattle.replay.specs.Arrays.{Lists, lists, loggedBy}
 use Rattle.replay.proofs.Replaying.{Plays, plays-first, limits-within, log-as-long, plays-in-bounds}
 use Rattle.replay.proofs.Replaying.{plays-refused, row-in-table, can-go, later-place, plays-stopped, plays-next}
 use Rattle.replay.proofs.Replaying.{PlaysWhole, plays-too-long, plays-whole, stopped-ends, full-ends, in-time-ends, late-ends}
@@ -40,9 +40,9 @@ after c =
 -- Where nothing is pending after the final ticks, the play came to its end.
 all : (c : tie.Else1 Inv-loop μ-loop)
     → (let ran = c .before .before .before .before .run-until in
-    let a = c .before .before .before .before .before .before .before .before .before .before .before .before .before .before .before .before .before .before .args in
-    PlaysWhole (a .script .now) (a .t1) (a .log .now) (ran .last .1 .1 .1 .1 .1 .0) (ran .result .logged))
-all c = plays-whole (c .before .before .before .before .before .before .before .before .before .before .before .before .before .before .loop .inv) (omega (arith, c .before .before .before .before .before .before .before .before .before .before .before .before .before .loop-test .left)) (c .before .before .before .before .run-until .ensures .1) (omega (arith, c .if1 .left))
+    let a = c .before .before .before .before .before .before .before .before .before .before .before .before .before .before .before .before .before .args in
+    PlaysWhole (a .script .now) (a .t1) (a .log .now) (ran .last .1 .1 .1 .1 .1 .0) (loggedBy (ran .result)))
+all c = plays-whole (c .before .before .before .before .before .before .before .before .before .before .before .before .before .loop .inv) (omega (arith, c .before .before .before .before .before .before .before .before .before .before .before .before .loop-test .left)) (c .before .before .before .before .run-until .ensures .1) (omega (arith, c .if1 .left))
 
 cost-limits-requires : tie.Need-cost-limits-requires Inv-loop μ-loop
 cost-limits-requires c κs = search needs
@@ -52,17 +52,14 @@ loop-holds c =
     let a = c .before .before .before .args in
     plays-first (a .script .now) (a .t1) (a .log .now) (c .before .before .before .pre)
 
-numbers-at-requires : tie.Need-numbers-at-requires Inv-loop μ-loop
-numbers-at-requires c κs = search needs
-
 array-share-prefix-limits : tie.Need-array-share-prefix-limits Inv-loop μ-loop
-array-share-prefix-limits c = limits-within (c .before .before .before .loop .inv) (c .before .before .before .before .cost-limits .ensures)
+array-share-prefix-limits c = limits-within (c .before .before .loop .inv) (c .before .before .before .cost-limits .ensures)
 
-slice-aggregate-test-numbers : tie.Need-slice-aggregate-test-numbers Inv-loop μ-loop
-slice-aggregate-test-numbers c = sym (length-take-le _ (c .before .before .before .before .before .cost-limits .result) (limits-within (c .before .before .before .before .loop .inv) (c .before .before .before .before .before .cost-limits .ensures)))
+slice-aggregate-ready-at : tie.Need-slice-aggregate-ready-at Inv-loop μ-loop
+slice-aggregate-ready-at c = sym (length-take-le _ (c .before .before .before .before .cost-limits .result) (limits-within (c .before .before .before .loop .inv) (c .before .before .before .before .cost-limits .ensures)))
 
-test-numbers-requires : tie.Need-test-numbers-requires Inv-loop μ-loop
-test-numbers-requires c κs = search needs
+ready-at-requires : tie.Need-ready-at-requires Inv-loop μ-loop
+ready-at-requires c κs = search needs
 
 enum-known-tested : tie.Need-enum-known-tested Inv-loop μ-loop
 enum-known-tested c = search needs
@@ -71,22 +68,22 @@ enum-known-tested-2 : tie.Need-enum-known-tested-2 Inv-loop μ-loop
 enum-known-tested-2 c = search needs
 
 same-length : tie.Need-same-length Inv-loop μ-loop
-same-length c = log-as-long (c .before .before .before .before .before .before .before .before .loop .inv)
+same-length c = log-as-long (c .before .before .before .before .before .before .before .loop .inv)
 
 returns : tie.Need-returns Inv-loop μ-loop
 returns c =
-    let a = c .before .before .before .before .before .before .before .before .before .before .before .before .args in
-    stopped-ends (a .script .now) (a .t1) (a .log .now) (c .before .before .before .before .before .before .before .before .loop .log) (log-as-long (c .before .before .before .before .before .before .before .before .loop .inv)) _
-    (plays-refused (c .before .before .before .before .before .before .before .before .loop .inv) (inside (c .before .before .before .before .before .before .before)) (c .before .before .before .before .before .numbers-at .ensures) (c .before .before .before .before .before .before .before .before .before .cost-limits .ensures) (c .before .before .before .test-numbers .ensures) (c .before .tested2 .given .1))
+    let a = c .before .before .before .before .before .before .before .before .before .before .before .args in
+    stopped-ends (a .script .now) (a .t1) (a .log .now) (c .before .before .before .before .before .before .before .loop .log) (log-as-long (c .before .before .before .before .before .before .before .loop .inv)) _
+    (plays-refused (c .before .before .before .before .before .before .before .loop .inv) (inside (c .before .before .before .before .before .before)) refl (c .before .before .before .before .before .before .before .before .cost-limits .ensures) (c .before .before .before .ready-at .ensures) (c .before .tested2 .given .1))
 
 mul-row : tie.Need-mul-row Inv-loop μ-loop
-mul-row c = omega (arith, row-in-table (c .before .before .before .before .before .before .before .before .loop .inv) (inside (c .before .before .before .before .before .before .before)) (c .before .before .before .before .before .numbers-at .ensures) (c .before .before .before .before .before .before .before .before .before .cost-limits .ensures) (c .before .before .before .test-numbers .ensures) (c .before .tested .given .1))
+mul-row c = omega (arith, row-in-table (c .before .before .before .before .before .before .before .loop .inv) (inside (c .before .before .before .before .before .before)) refl (c .before .before .before .before .before .before .before .before .cost-limits .ensures) (c .before .before .before .ready-at .ensures) (c .before .tested .given .1))
 
 element-copy-out-row : tie.Need-element-copy-out-row Inv-loop μ-loop
-element-copy-out-row c = row-in-table (c .before .before .before .before .before .before .before .before .loop .inv) (inside (c .before .before .before .before .before .before .before)) (c .before .before .before .before .before .numbers-at .ensures) (c .before .before .before .before .before .before .before .before .before .cost-limits .ensures) (c .before .before .before .test-numbers .ensures) (c .before .tested .given .1)
+element-copy-out-row c = row-in-table (c .before .before .before .before .before .before .before .loop .inv) (inside (c .before .before .before .before .before .before)) refl (c .before .before .before .before .before .before .before .before .cost-limits .ensures) (c .before .before .before .ready-at .ensures) (c .before .tested .given .1)
 
 play-record-requires : tie.Need-play-record-requires Inv-loop μ-loop
-play-record-requires c κs = can-go (c .before .before .before .before .before .before .before .before .before .before .before .before .before .before .before .before .before .before .loop .inv) (inside (c .before .before .before .before .before .before .before .before .before .before .before .before .before .before .before .before .before)) (c .before .before .before .before .before .before .before .before .before .before .before .before .before .before .before .numbers-at .ensures) (c .before .before .before .before .before .before .before .before .before .before .before .before .before .before .before .before .before .before .before .cost-limits .ensures) (c .before .before .before .before .before .before .before .before .before .before .before .before .before .test-numbers .ensures) (c .before .before .before .before .before .before .before .before .before .before .before .tested .given .1)
+play-record-requires c κs = can-go (c .before .before .before .before .before .before .before .before .before .before .before .before .before .before .before .before .before .loop .inv) (inside (c .before .before .before .before .before .before .before .before .before .before .before .before .before .before .before .before)) refl (c .before .before .before .before .before .before .before .before .before .before .before .before .before .before .before .before .before .before .cost-limits .ensures) (c .before .before .before .before .before .before .before .before .before .before .before .before .before .ready-at .ensures) (c .before .before .before .before .before .before .before .before .before .before .before .tested .given .1)
 
 enum-known-step : tie.Need-enum-known-step Inv-loop μ-loop
 enum-known-step c = search needs
@@ -95,56 +92,56 @@ enum-known-step-2 : tie.Need-enum-known-step-2 Inv-loop μ-loop
 enum-known-step-2 c = search needs
 
 same-length-2 : tie.Need-same-length-2 Inv-loop μ-loop
-same-length-2 c = c .before .before .before .before .before .play-record .ensures .0 ∙ log-as-long (c .before .before .before .before .before .before .before .before .before .before .before .before .before .before .before .before .before .before .before .before .before .before .before .before .loop .inv)
+same-length-2 c = c .before .before .before .before .before .play-record .ensures .0 ∙ log-as-long (c .before .before .before .before .before .before .before .before .before .before .before .before .before .before .before .before .before .before .before .before .before .before .before .loop .inv)
 
 returns-2 : tie.Need-returns-2 Inv-loop μ-loop
 returns-2 c =
-    let a = c .before .before .before .before .before .before .before .before .before .before .before .before .before .before .before .before .before .before .before .before .before .before .before .before .before .before .before .before .args in
+    let a = c .before .before .before .before .before .before .before .before .before .before .before .before .before .before .before .before .before .before .before .before .before .before .before .before .before .before .before .args in
     let played = c .before .before .before .before .before in
-    stopped-ends (a .script .now) (a .t1) (a .log .now) (after played .log) (played .play-record .ensures .0 ∙ log-as-long (c .before .before .before .before .before .before .before .before .before .before .before .before .before .before .before .before .before .before .before .before .before .before .before .before .loop .inv)) _
-    (plays-stopped (c .before .before .before .before .before .before .before .before .before .before .before .before .before .before .before .before .before .before .before .before .before .before .before .before .loop .inv) (inside (c .before .before .before .before .before .before .before .before .before .before .before .before .before .before .before .before .before .before .before .before .before .before .before)) (c .before .before .before .before .before .before .before .before .before .before .before .before .before .before .before .before .before .before .before .before .before .numbers-at .ensures) (c .before .before .before .before .before .before .before .before .before .before .before .before .before .before .before .before .before .before .before .before .before .before .before .before .before .cost-limits .ensures) (c .before .before .before .before .before .before .before .before .before .before .before .before .before .before .before .before .before .before .before .test-numbers .ensures) (c .before .before .before .before .before .before .before .before .before .before .before .before .before .before .before .before .before .tested .given .1) refl (after played) (played .play-record .result) (played .play-record .ensures .1) (c .before .step2 .given .1))
+    stopped-ends (a .script .now) (a .t1) (a .log .now) (after played .log) (played .play-record .ensures .0 ∙ log-as-long (c .before .before .before .before .before .before .before .before .before .before .before .before .before .before .before .before .before .before .before .before .before .before .before .loop .inv)) _
+    (plays-stopped (c .before .before .before .before .before .before .before .before .before .before .before .before .before .before .before .before .before .before .before .before .before .before .before .loop .inv) (inside (c .before .before .before .before .before .before .before .before .before .before .before .before .before .before .before .before .before .before .before .before .before .before)) refl (c .before .before .before .before .before .before .before .before .before .before .before .before .before .before .before .before .before .before .before .before .before .before .before .before .cost-limits .ensures) (c .before .before .before .before .before .before .before .before .before .before .before .before .before .before .before .before .before .before .before .ready-at .ensures) (c .before .before .before .before .before .before .before .before .before .before .before .before .before .before .before .before .before .tested .given .1) refl (after played) (played .play-record .result) (played .play-record .ensures .1) (c .before .step2 .given .1))
 
 loop-less : tie.Need-loop-less Inv-loop μ-loop
 loop-less c =
-    let later = later-place (c .before .before .before .before .before .before .before .before .before .before .before .before .before .before .before .before .before .before .before .before .before .before .before .before .loop .inv) (inside (c .before .before .before .before .before .before .before .before .before .before .before .before .before .before .before .before .before .before .before .before .before .before .before)) (c .before .before .before .before .before .before .before .before .before .before .before .before .before .before .before .before .before .before .before .before .before .numbers-at .ensures) (c .before .before .before .before .before .before .before .before .before .before .before .before .before .before .before .before .before .before .before .before .before .before .before .before .before .cost-limits .ensures) (c .before .before .before .before .before .before .before .before .before .before .before .before .before .before .before .before .before .before .before .test-numbers .ensures) (c .before .before .before .before .before .before .before .before .before .before .before .before .before .before .before .before .before .tested .given .1) (bytes (c .before .before .before .before .before .before .before .before .before .before .before .before .before .before .before .before .before .before .before .before .before .before .before .before .before .before .before)) in
+    let later = later-place (c .before .before .before .before .before .before .before .before .before .before .before .before .before .before .before .before .before .before .before .before .before .before .before .loop .inv) (inside (c .before .before .before .before .before .before .before .before .before .before .before .before .before .before .before .before .before .before .before .before .before .before)) refl (c .before .before .before .before .before .before .before .before .before .before .before .before .before .before .before .before .before .before .before .before .before .before .before .before .cost-limits .ensures) (c .before .before .before .before .before .before .before .before .before .before .before .before .before .before .before .before .before .before .before .ready-at .ensures) (c .before .before .before .before .before .before .before .before .before .before .before .before .before .before .before .before .before .tested .given .1) (bytes (c .before .before .before .before .before .before .before .before .before .before .before .before .before .before .before .before .before .before .before .before .before .before .before .before .before .before)) in
     omega (arith, later)
 
 loop-again : tie.Need-loop-again Inv-loop μ-loop
 loop-again c =
     let played = c .before .before .before .before .before in
-    plays-next (c .before .before .before .before .before .before .before .before .before .before .before .before .before .before .before .before .before .before .before .before .before .before .before .before .loop .inv) (inside (c .before .before .before .before .before .before .before .before .before .before .before .before .before .before .before .before .before .before .before .before .before .before .before)) (c .before .before .before .before .before .before .before .before .before .before .before .before .before .before .before .before .before .before .before .before .before .numbers-at .ensures) (c .before .before .before .before .before .before .before .before .before .before .before .before .before .before .before .before .before .before .before .before .before .before .before .before .before .cost-limits .ensures) (c .before .before .before .before .before .before .before .before .before .before .before .before .before .before .before .before .before .before .before .test-numbers .ensures) (c .before .before .before .before .before .before .before .before .before .before .before .before .before .before .before .before .before .tested .given .1) refl (after played) (played .play-record .result) (played .play-record .ensures .1) (c .before .step .given .1)
-    (bytes (c .before .before .before .before .before .before .before .before .before .before .before .before .before .before .before .before .before .before .before .before .before .before .before .before .before .before .before))
+    plays-next (c .before .before .before .before .before .before .before .before .before .before .before .before .before .before .before .before .before .before .before .before .before .before .before .loop .inv) (inside (c .before .before .before .before .before .before .before .before .before .before .before .before .before .before .before .before .before .before .before .before .before .before)) refl (c .before .before .before .before .before .before .before .before .before .before .before .before .before .before .before .before .before .before .before .before .before .before .before .before .cost-limits .ensures) (c .before .before .before .before .before .before .before .before .before .before .before .before .before .before .before .before .before .before .before .ready-at .ensures) (c .before .before .before .before .before .before .before .before .before .before .before .before .before .before .before .before .before .tested .given .1) refl (after played) (played .play-record .result) (played .play-record .ensures .1) (c .before .step .given .1)
+    (bytes (c .before .before .before .before .before .before .before .before .before .before .before .before .before .before .before .before .before .before .before .before .before .before .before .before .before .before))
 
 run-until-requires : tie.Need-run-until-requires Inv-loop μ-loop
-run-until-requires c κs = (omega arith, plays-in-bounds (c .before .before .before .before .before .before .before .before .before .loop .inv))
+run-until-requires c κs = (omega arith, plays-in-bounds (c .before .before .before .before .before .before .before .before .loop .inv))
 
 same-length-3 : tie.Need-same-length-3 Inv-loop μ-loop
-same-length-3 c = c .before .before .before .before .run-until .ensures .0 ∙ log-as-long (c .before .before .before .before .before .before .before .before .before .before .before .before .before .before .loop .inv)
+same-length-3 c = c .before .before .before .before .run-until .ensures .0 ∙ log-as-long (c .before .before .before .before .before .before .before .before .before .before .before .before .before .loop .inv)
 
 returns-3 : tie.Need-returns-3 Inv-loop μ-loop
 returns-3 c =
-    let a = c .before .before .before .before .before .before .before .before .before .before .before .before .before .before .before .before .before .before .args in
+    let a = c .before .before .before .before .before .before .before .before .before .before .before .before .before .before .before .before .before .args in
     let ran = c .before .before .before .before .run-until in
-    stopped-ends (a .script .now) (a .t1) (a .log .now) (ran .last .1 .1 .1 .1 .1 .0) (ran .ensures .0 ∙ log-as-long (c .before .before .before .before .before .before .before .before .before .before .before .before .before .before .loop .inv)) _
-    (plays-too-long (c .before .before .before .before .before .before .before .before .before .before .before .before .before .before .loop .inv) (omega (arith, c .before .before .before .before .before .before .before .before .before .before .before .before .before .loop-test .left)) (ran .ensures .1) (c .if1 .taken))
+    stopped-ends (a .script .now) (a .t1) (a .log .now) (ran .last .1 .1 .1 .1 .1 .0) (ran .ensures .0 ∙ log-as-long (c .before .before .before .before .before .before .before .before .before .before .before .before .before .loop .inv)) _
+    (plays-too-long (c .before .before .before .before .before .before .before .before .before .before .before .before .before .loop .inv) (omega (arith, c .before .before .before .before .before .before .before .before .before .before .before .before .loop-test .left)) (ran .ensures .1) (c .if1 .taken))
 
 same-length-4 : tie.Need-same-length-4 Inv-loop μ-loop
-same-length-4 c = c .before .before .before .before .before .before .run-until .ensures .0 ∙ log-as-long (c .before .before .before .before .before .before .before .before .before .before .before .before .before .before .before .before .loop .inv)
+same-length-4 c = c .before .before .before .before .before .run-until .ensures .0 ∙ log-as-long (c .before .before .before .before .before .before .before .before .before .before .before .before .before .before .loop .inv)
 
 returns-4 : tie.Need-returns-4 Inv-loop μ-loop
-returns-4 c = full-ends (all (c .before .before)) (c .if2 .taken)
+returns-4 c = full-ends (all (c .before)) (c .if2 .taken)
 
 same-length-5 : tie.Need-same-length-5 Inv-loop μ-loop
-same-length-5 c = c .before .before .before .before .before .before .before .before .run-until .ensures .0 ∙ log-as-long (c .before .before .before .before .before .before .before .before .before .before .before .before .before .before .before .before .before .before .loop .inv)
+same-length-5 c = c .before .before .before .before .before .before .before .run-until .ensures .0 ∙ log-as-long (c .before .before .before .before .before .before .before .before .before .before .before .before .before .before .before .before .loop .inv)
 
 returns-5 : tie.Need-returns-5 Inv-loop μ-loop
-returns-5 c = in-time-ends (all (c .before .before .before .before)) (c .before .before .if2 .left) (c .if3 .taken)
+returns-5 c = in-time-ends (all (c .before .before .before)) (c .before .before .if2 .left) (c .if3 .taken)
 
 same-length-6 : tie.Need-same-length-6 Inv-loop μ-loop
-same-length-6 c = c .before .before .before .before .before .before .before .before .run-until .ensures .0 ∙ log-as-long (c .before .before .before .before .before .before .before .before .before .before .before .before .before .before .before .before .before .before .loop .inv)
+same-length-6 c = c .before .before .before .before .before .before .before .run-until .ensures .0 ∙ log-as-long (c .before .before .before .before .before .before .before .before .before .before .before .before .before .before .before .before .loop .inv)
 
 returns-6 : tie.Need-returns-6 Inv-loop μ-loop
-returns-6 c = late-ends (all (c .before .before .before .before)) (c .before .before .if2 .left) (c .if3 .left)
+returns-6 c = late-ends (all (c .before .before .before)) (c .before .before .if2 .left) (c .if3 .left)
 
 pub play-spec : {M : Type 1} → statement M
 play-spec =
@@ -154,10 +151,9 @@ play-spec =
     μ-loop
     cost-limits-requires
     loop-holds
-    numbers-at-requires
     array-share-prefix-limits
-    slice-aggregate-test-numbers
-    test-numbers-requires
+    slice-aggregate-ready-at
+    ready-at-requires
     enum-known-tested
     enum-known-tested-2
     same-length

@@ -7,15 +7,15 @@ use Rattle.replay.proofs.steps.play_record.Statement.{statement}
 use Rattle.replay.proofs.steps.play_record.Tie as tie
 
 run-until-requires : tie.Need-run-until-requires
-run-until-requires c κs = (c .before .before .before .before .before .before .before .before .before .before .pre .in-time, c .before .before .before .before .before .before .before .before .before .before .pre .in-bounds)
+run-until-requires c κs = (c .before .before .before .before .before .before .before .before .before .pre .in-time, c .before .before .before .before .before .before .before .before .before .pre .in-bounds)
 
 same-length : tie.Need-same-length
-same-length c = c .before .before .before .before .run-until .ensures .0
+same-length c = c .before .before .before .run-until .ensures .0
 
 returns : tie.Need-returns
 returns c =
-    let ran = c .before .before .before .before .run-until in
-    (ran .ensures .0, λ p log₀ w may. stops-full w may (c .before .before .before .before .before .before .before .before .before .before .before .before .before .before .before .pre .in-time) (ran .ensures .1) (c .before .before .before .before .before .before .before .before .before .before .before .before .before .before .before .args .place) (c .if1 .taken))
+    let ran = c .before .before .before .run-until in
+    (ran .ensures .0, λ p log₀ w may. stops-full w may (c .before .before .before .before .before .before .before .before .before .before .before .before .before .pre .in-time) (ran .ensures .1) (c .before .before .before .before .before .before .before .before .before .before .before .before .before .args .place) (c .if1 .taken))
 
 next-due-requires : tie.Need-next-due-requires
 next-due-requires c κs = search needs
@@ -27,13 +27,13 @@ enum-known-given-2 : tie.Need-enum-known-given-2
 enum-known-given-2 c = search needs
 
 same-length-2 : tie.Need-same-length-2
-same-length-2 c = c .before .before .before .before .before .before .before .before .before .before .before .before .run-until .ensures .0
+same-length-2 c = c .before .before .before .before .before .before .before .before .before .before .before .run-until .ensures .0
 
 returns-2 : tie.Need-returns-2
 returns-2 c =
-    let ran = c .before .before .before .before .before .before .before .before .before .before .before .before .run-until in (
+    let ran = c .before .before .before .before .before .before .before .before .before .before .before .run-until in (
       ran .ensures .0,
-      λ p log₀ w may. stops-due w may (c .before .before .before .before .before .before .before .before .before .before .before .before .before .before .before .before .before .before .before .before .before .before .before .pre .in-time) (ran .ensures .1) (c .before .before .before .before .before .before .before .before .before .before .before .before .before .before .before .before .before .before .before .before .before .before .before .args .place) (omega (arith, c .before .before .before .before .before .before .before .before .if1 .left)) (c .before .before .before .next-due .ensures .0)
+      λ p log₀ w may. stops-due w may (c .before .before .before .before .before .before .before .before .before .before .before .before .before .before .before .before .before .before .before .before .before .pre .in-time) (ran .ensures .1) (c .before .before .before .before .before .before .before .before .before .before .before .before .before .before .before .before .before .before .before .before .before .args .place) (omega (arith, c .before .before .before .before .before .before .before .before .if1 .left)) (c .before .before .before .next-due .ensures .0)
           (c .before .given2 .given .1),
     )
 
@@ -46,25 +46,25 @@ enum-known-answer c = search needs
 enum-known-answer-2 : tie.Need-enum-known-answer-2
 enum-known-answer-2 c = search needs
 
-add-t55 : tie.Need-add-t55
-add-t55 c = omega (arith, c .before .before .before .before .before .before .before .before .before .before .before .before .before .before .before .before .before .before .before .before .before .before .before .before .before .before .before .before .before .before .before .before .before .before .pre .few-serials)
+add-t54 : tie.Need-add-t54
+add-t54 c = omega (arith, c .before .before .before .before .before .before .before .before .before .before .before .before .before .before .before .before .before .before .before .before .before .before .before .before .before .before .before .before .before .before .before .before .pre .few-serials)
 
 same-length-3 : tie.Need-same-length-3
-same-length-3 c = c .before .before .before .before .before .before .before .before .before .before .before .before .before .before .before .before .before .before .before .before .before .before .run-until .ensures .0
+same-length-3 c = c .before .before .before .before .before .before .before .before .before .before .before .before .before .before .before .before .before .before .before .before .before .run-until .ensures .0
 
 returns-3 : tie.Need-returns-3
 returns-3 c =
-    let ran = c .before .before .before .before .before .before .before .before .before .before .before .before .before .before .before .before .before .before .before .before .before .before .run-until in
+    let ran = c .before .before .before .before .before .before .before .before .before .before .before .before .before .before .before .before .before .before .before .before .before .run-until in
     (ran .ensures .0, not-full (ran .result .count) (omega (arith, c .before .before .before .before .before .before .before .before .before .before .before .before .before .before .before .before .before .before .if1 .left)) (c .before .before .before .put .ensures .0) (c .before .answer .given .1))
 
 same-length-4 : tie.Need-same-length-4
-same-length-4 c = c .before .before .before .before .before .before .before .before .before .before .before .before .before .before .before .before .before .before .before .before .before .before .before .run-until .ensures .0
+same-length-4 c = c .before .before .before .before .before .before .before .before .before .before .before .before .before .before .before .before .before .before .before .before .before .before .run-until .ensures .0
 
 returns-4 : tie.Need-returns-4
 returns-4 c =
-    let ran = c .before .before .before .before .before .before .before .before .before .before .before .before .before .before .before .before .before .before .before .before .before .before .before .run-until in (
+    let ran = c .before .before .before .before .before .before .before .before .before .before .before .before .before .before .before .before .before .before .before .before .before .before .run-until in (
       ran .ensures .0,
-      λ p log₀ w may. goes-further w may (c .before .before .before .before .before .before .before .before .before .before .before .before .before .before .before .before .before .before .before .before .before .before .before .before .before .before .before .before .before .before .before .before .before .before .pre .in-time) (ran .ensures .1) (c .before .before .before .before .before .before .before .before .before .before .before .before .before .before .before .before .before .before .before .before .before .before .before .before .before .before .before .before .before .before .before .before .before .before .args .place) (omega (arith, c .before .before .before .before .before .before .before .before .before .before .before .before .before .before .before .before .before .before .before .if1 .left)) (c .before .before .before .before .before .before .before .before .before .before .before .before .before .before .next-due .ensures .0)
+      λ p log₀ w may. goes-further w may (c .before .before .before .before .before .before .before .before .before .before .before .before .before .before .before .before .before .before .before .before .before .before .before .before .before .before .before .before .before .before .before .before .pre .in-time) (ran .ensures .1) (c .before .before .before .before .before .before .before .before .before .before .before .before .before .before .before .before .before .before .before .before .before .before .before .before .before .before .before .before .before .before .before .before .args .place) (omega (arith, c .before .before .before .before .before .before .before .before .before .before .before .before .before .before .before .before .before .before .before .if1 .left)) (c .before .before .before .before .before .before .before .before .before .before .before .before .before .before .next-due .ensures .0)
           (c .before .before .before .before .before .before .before .before .before .before .before .before .given .given .1) _ (c .before .before .before .before .put .ensures .0) (c .before .before .before .before .put .ensures .1) (c .before .before .answer2 .given .1) (c .before .before .before .before .before .before .before .before .before .before .before .before .before .before .next-due .ensures .1) refl,
     )
 
@@ -83,7 +83,7 @@ play-record-spec =
     put-requires
     enum-known-answer
     enum-known-answer-2
-    add-t55
+    add-t54
     same-length-3
     returns-3
     same-length-4
