@@ -1,6 +1,7 @@
 #include "caller.h"
 
 #include "jyrmekko.h"
+#include "wanted.h"
 
 #include <stdio.h>
 #include <stdlib.h>
@@ -92,22 +93,24 @@ static bool is_replayed(uint32_t status)
     return status == JYRMEKKO_IN_TIME || status == JYRMEKKO_LATE;
 }
 
-static void expect_table_refusal(struct answer answer, size_t table_length)
+/* Expects the refusal of the table that the rules want, or none of 1 to 4 where they want none. */
+static void expect_table_answer(struct answer answer, struct bytes table)
 {
-    expect(answer.second == 0, "the second number beside a refusal is 0");
-    switch (answer.status) {
-    case JYRMEKKO_TOO_MANY_ROWS:
-        expect(answer.first == 0, "the place of 2 is 0, the row count's start");
-        break;
-    case JYRMEKKO_PERIOD_TOO_LONG:
-        expect(answer.first == table_length, "the place of 5 is the table's length");
-        break;
-    case JYRMEKKO_MISSPELLED:
-        expect(answer.first <= table_length, "the place of 1 is inside the table, or its length");
-        break;
-    default:
-        expect(answer.first < table_length, "the places of 3 and 4 are inside the table");
+    struct rows rows;
+    struct wanted wanted = wanted_of_table(table.at, table.length, &rows);
+    if (refuses_table(answer.status))
+        expect(answer.second == 0, "the second number beside a refusal is 0");
+    if (answer.status == JYRMEKKO_PERIOD_TOO_LONG) {
+        expect(wanted.status == 0, "1 to 4 come before 5");
+        expect(answer.first == table.length, "the place of 5 is the table's length");
+    } else {
+        expect((refuses_table(answer.status) ? answer.status : 0) == wanted.status,
+               "1 to 4 are answered exactly when their rules say");
     }
+    if (wanted.status == JYRMEKKO_MISSPELLED)
+        expect(answer.first == wanted.place, "the place of 1 is the bad byte, or the table's length if it is cut off");
+    else if (wanted.status != 0)
+        expect(answer.first == wanted.place, "the place of 2 and 3 is the number's start, that of 4 the first extra byte");
 }
 
 static struct answer judge_once(struct bytes table, size_t answer_length, uint8_t fill)
@@ -133,24 +136,34 @@ static struct answer judge(struct bytes table)
         expect(answer.first == 0 && answer.second == 0, "both numbers beside 20 are 0");
     else if (answer.status == JYRMEKKO_OVERLOADED)
         expect(answer.first >= 1 && answer.second > answer.first, "the witness's demand is above its length");
-    else
-        expect_table_refusal(answer, table.length);
+    expect_table_answer(answer, table);
     return answer;
 }
 
-static void expect_script_refusal(struct answer answer, size_t script_length)
+/*
+ * Expects the refusal of the script that the rules want. Whether 8 or 9 is wanted is not worked out, nor whether the
+ * clock comes to 2^40 after the last record. Only the places of these are looked at.
+ */
+static void expect_script_answer(struct answer answer, struct bytes table, struct bytes script)
 {
-    expect(answer.second == 0, "the second number beside a refusal is 0");
-    switch (answer.status) {
-    case JYRMEKKO_NO_ROOM:
-        expect(answer.first == script_length, "the place of 12 is the script's length");
-        break;
-    case JYRMEKKO_TIME_TOO_LATE:
-    case JYRMEKKO_SCRIPT_MISSPELLED:
-        expect(answer.first <= script_length, "the places of 10 and 14 are inside the script, or its length");
-        break;
-    default:
-        expect(answer.first < script_length, "the places of 6 to 9 are inside the script");
+    struct rows rows;
+    wanted_of_table(table.at, table.length, &rows);
+    struct wanted wanted = wanted_of_script(script.at, script.length, &rows);
+    if (refuses_script(answer.status))
+        expect(answer.second == 0, "the second number beside a refusal is 0");
+    if (answer.status == JYRMEKKO_PLACES_FULL || answer.status == JYRMEKKO_DUE_TOO_LATE) {
+        expect(answer.first < wanted.record, "the place of 8 and 9 is in a record before the first other refusal");
+    } else if (wanted.status != 0) {
+        expect(answer.status == wanted.status, "6, 7, 10 and 14 are answered exactly when their rules say");
+        if (wanted.status == JYRMEKKO_SCRIPT_MISSPELLED)
+            expect(answer.first == wanted.place,
+                   "the place of 14 is the bad byte, or the script's length if it is cut off");
+        else
+            expect(answer.first == wanted.place, "the place of 6, 7 and 10 is the number's start");
+    } else if (refuses_script(answer.status)) {
+        expect(answer.status == JYRMEKKO_NO_ROOM || answer.status == JYRMEKKO_TIME_TOO_LATE,
+               "6, 7 and 14 are answered exactly when their rules say");
+        expect(answer.first == script.length, "the place of 12, and of 10 after all records, is the script's length");
     }
 }
 
@@ -216,11 +229,10 @@ static struct answer replay_with(struct bytes table, struct bytes script, size_t
         expect((answer.status == JYRMEKKO_IN_TIME) == (answer.second == 0),
                "22 is answered exactly when no job is late");
         expect_log(log, script, answer.second);
-    } else if (refuses_table(answer.status)) {
-        expect_table_refusal(answer, table.length);
-    } else {
-        expect_script_refusal(answer, script.length);
     }
+    expect_table_answer(answer, table);
+    if (!refuses_table(answer.status))
+        expect_script_answer(answer, table, script);
     free(log.at);
     free(again.at);
     return answer;

@@ -1,11 +1,13 @@
 /*
  * drive TABLE SCRIPT: runs the suspicious caller on a table and a script, with a log buffer of every length. Then it
- * runs it on damaged copies of the two files: each is cut short at every byte, and each of its bytes is replaced.
+ * runs it on damaged copies of the two files: each is cut short at every byte, each of its bytes is replaced, and so
+ * are up to six bytes in a row, so that numbers of every length are misspelled, too long or cut off.
  */
 #include "caller.h"
 
 #include <stdio.h>
 #include <stdlib.h>
+#include <string.h>
 
 static struct bytes table, script;
 static unsigned long tried;
@@ -23,6 +25,21 @@ static void try_logs(void)
         try(log_length);
 }
 
+/* Replaces bytes in a row by groups that ask for more, of which the last may be a zero group in place of that. */
+static void try_rows_of_bytes(struct bytes damaged)
+{
+    uint8_t kept[MOST_GROUPS];
+    for (size_t i = 0; i < damaged.length; i++)
+        for (size_t count = 2; count <= MOST_GROUPS && count <= damaged.length - i; count++) {
+            memcpy(kept, damaged.at + i, count);
+            memset(damaged.at + i, 0x80, count);
+            try(script.length);
+            damaged.at[i + count - 1] = 0;
+            try(script.length);
+            memcpy(damaged.at + i, kept, count);
+        }
+}
+
 /* `damaged` is the table or the script. */
 static void try_damage(struct bytes *damaged)
 {
@@ -38,6 +55,7 @@ static void try_damage(struct bytes *damaged)
         }
         damaged->at[i] = kept;
     }
+    try_rows_of_bytes(*damaged);
 }
 
 int main(int words, char **word)

@@ -3,18 +3,40 @@
 bool read_number(struct bytes bytes, size_t *at, uint64_t *value)
 {
     uint64_t sum = 0;
-    for (size_t group = 0; group < MOST_GROUPS && group < bytes.length - *at; group++) {
-        uint8_t byte = bytes.at[*at + group];
+    for (size_t group = 0; *at < bytes.length; group++, ++*at) {
+        uint8_t byte = bytes.at[*at];
+        if (byte == 0 && group > 0)
+            return false; /* This is a superfluous zero group. */
+        if (byte >= 0x80 && group == MOST_GROUPS - 1)
+            return false; /* This is a sixth group that asks for more. */
         sum |= (uint64_t)(byte & 0x7F) << 7 * group;
         if (byte < 0x80) {
-            if (byte == 0 && group > 0)
-                return false; /* The last group of a longer number is zero. */
-            *at += group + 1;
+            ++*at;
             *value = sum;
             return true;
         }
     }
-    return false; /* The number is cut off, or its sixth group asks for more. */
+    return false; /* The number is cut off. */
+}
+
+const char *bad_byte(struct bytes bytes, uint64_t place)
+{
+    static char sixth[] = "the byte .. is a sixth group that asks for more";
+    size_t before = 0; /* So many groups of the number stand before the place. Each of them asks for more. */
+    if (place > bytes.length)
+        return NULL;
+    while (before < MOST_GROUPS && before < place && bytes.at[place - before - 1] >= 0x80)
+        before++;
+    if (before == MOST_GROUPS)
+        return NULL; /* The number went wrong earlier. */
+    if (place == bytes.length)
+        return before > 0 ? "the bytes end there, inside a number" : "the bytes end there, where a number should stand";
+    if (bytes.at[place] == 0 && before > 0)
+        return "the byte 00 is a superfluous zero group";
+    if (bytes.at[place] < 0x80 || before < MOST_GROUPS - 1)
+        return NULL; /* This byte is a group as it should be. */
+    snprintf(sixth, sizeof sixth, "the byte %02X is a sixth group that asks for more", bytes.at[place]);
+    return sixth;
 }
 
 size_t write_number(uint8_t *out, uint64_t value)

@@ -11,14 +11,14 @@
 
 /*
  * The refusals of the two calls. Each has the file that its place is in, and says when it is given in the words of the
- * rules (docs/RULES.md, 10.3).
+ * rules (docs/RULES.md, 10.3). Where these words are null, what stands at the place says it.
  */
 static const struct refusal {
     uint32_t number;
     const char *file;
     const char *why;
 } refusals[] = {
-    {JYRMEKKO_MISSPELLED, "table", "a number is misspelled, too long or cut off"},
+    {JYRMEKKO_MISSPELLED, "table", NULL},
     {JYRMEKKO_TOO_MANY_ROWS, "table", "the row count is above 16"},
     {JYRMEKKO_VALUE_OUT_OF_RANGE, "table", "an x, y, d or c is out of its range"},
     {JYRMEKKO_EXTRA_BYTES, "table", "there are bytes after the last row"},
@@ -29,16 +29,20 @@ static const struct refusal {
     {JYRMEKKO_DUE_TOO_LATE, "script", "the due time would be above 2^40"},
     {JYRMEKKO_TIME_TOO_LATE, "script", "a script time is above 2^40, or a job is pending at 2^40 after the script"},
     {JYRMEKKO_NO_ROOM, "script", "the log is longer than its buffer"},
-    {JYRMEKKO_SCRIPT_MISSPELLED, "script", "a number is misspelled, too long or cut off"},
+    {JYRMEKKO_SCRIPT_MISSPELLED, "script", NULL},
 };
 
 /* A status that is no refusal must never be the exit status: it could read as a pass, or as another answer. */
-void say_refusal(FILE *out, const char *call, struct answer answer)
+void say_refusal(FILE *out, const char *call, struct answer answer, const char *wrong)
 {
     for (size_t i = 0; i < sizeof refusals / sizeof refusals[0]; i++)
         if (refusals[i].number == answer.status) {
+            const char *why = refusals[i].why != NULL ? refusals[i].why : wrong;
+            if (why == NULL)
+                stop(RIG_NO_ANSWER, "the library's %s says %" PRIu32 " at byte %" PRIu64 " of the %s, where no number "
+                     "goes wrong", call, answer.status, answer.first, refusals[i].file);
             fprintf(out, "refused %" PRIu32 " at byte %" PRIu64 " of the %s: %s\n", answer.status, answer.first,
-                    refusals[i].file, refusals[i].why);
+                    refusals[i].file, why);
             return;
         }
     stop(RIG_NO_ANSWER, "the library's %s says %" PRIu32 ", which is no answer", call, answer.status);
@@ -47,13 +51,16 @@ void say_refusal(FILE *out, const char *call, struct answer answer)
 /* No more bytes of a table matter: a count and four values for each row, each at its longest, and one extra byte. */
 #define LONGEST_TABLE ((size_t)MOST_GROUPS * (1 + 4 * JYRMEKKO_MOST_ROWS) + 1)
 
-struct answer judge_file(const char *table_path)
+struct judged judge_file(const char *table_path)
 {
     struct bytes table = read_file(table_path, LONGEST_TABLE);
     uint8_t buffer[JYRMEKKO_ANSWER_SIZE] = {0};
     uint32_t status = verdict(table.at, table.length, buffer, sizeof buffer);
+    struct judged result = {answer_of(status, buffer), NULL};
+    if (status == JYRMEKKO_MISSPELLED)
+        result.wrong = bad_byte(table, result.answer.first);
     free(table.at);
-    return answer_of(status, buffer);
+    return result;
 }
 
 static struct answer replayed(struct bytes table, struct bytes script, struct bytes log)
@@ -76,9 +83,8 @@ static bool is_settled(struct answer answer, size_t length)
     case JYRMEKKO_NO_ROOM:
         return false;
     case JYRMEKKO_TIME_TOO_LATE: /* At the length it only says that jobs are pending after the last record so far. */
+    case JYRMEKKO_SCRIPT_MISSPELLED: /* At the length it only says that a number is cut off so far. */
         return answer.first < length;
-    case JYRMEKKO_SCRIPT_MISSPELLED: /* It is settled once as many bytes as the longest number has are there. */
-        return answer.first + MOST_GROUPS <= length;
     default:
         return true;
     }
@@ -92,7 +98,7 @@ static bool is_played(uint32_t status)
 
 struct replayed replay_files(const char *table_path, const char *script_path, const char *out_path)
 {
-    struct replayed result = {{0, 0, 0}, {NULL, 0}};
+    struct replayed result = {{0, 0, 0}, NULL, {NULL, 0}};
     if (is_standard(table_path) && is_standard(script_path))
         stop(RIG_USAGE, "standard input can't be both the table and the script");
     struct bytes table = read_file(table_path, LONGEST_TABLE);
@@ -121,6 +127,10 @@ struct replayed replay_files(const char *table_path, const char *script_path, co
     } else {
         result.log.length = 0;
     }
+    if (result.answer.status == JYRMEKKO_MISSPELLED)
+        result.wrong = bad_byte(table, result.answer.first);
+    if (result.answer.status == JYRMEKKO_SCRIPT_MISSPELLED)
+        result.wrong = bad_byte(script.content, result.answer.first);
     free(script.content.at);
     free(table.at);
     return result;

@@ -20,8 +20,12 @@ static const char help[] =
     "rig demo                         shows all of this on examples/ (only as ./rig demo)\n"
     "rig --help                       shows this page\n"
     "\n"
-    "A file named '-' is read from standard input, or written to standard output. The bytes of a file are counted\n"
-    "from 0. LOG is written only if the answer is 22 or 23. A file that is read is never written over.\n"
+    "A file named '-' is read from standard input, or written to standard output. LOG is written only if the answer\n"
+    "is 22 or 23. A file that is read is never written over.\n"
+    "\n"
+    "The bytes of a file are counted from 0. Where a number can't be read (1, 14, and 65 of show), the bad byte is\n"
+    "named with its value: a superfluous zero group, or a sixth group that asks for more. Where the bytes end inside\n"
+    "a number, or where a number should stand, the byte after the last one is named.\n"
     "\n"
     "Exit status: never 0, so that no silence reads as a pass.\n"
     "\n"
@@ -44,7 +48,8 @@ static const char help[] =
 
 static int judge(const char *table_path)
 {
-    struct answer answer = judge_file(table_path);
+    struct judged judged = judge_file(table_path);
+    struct answer answer = judged.answer;
     switch (answer.status) {
     case JYRMEKKO_FEASIBLE:
         printf("feasible %" PRIu32 ": no length of time has more demand than length\n", answer.status);
@@ -54,7 +59,7 @@ static int judge(const char *table_path)
                answer.first, answer.first == 1 ? "" : "s", answer.second);
         break;
     default:
-        say_refusal(stdout, "verdict", answer);
+        say_refusal(stdout, "verdict", answer, judged.wrong);
     }
     return (int)answer.status;
 }
@@ -78,7 +83,7 @@ static int play(const char *table_path, const char *script_path, const char *log
     bool log_written = log_path != NULL;
     if (answer.status != JYRMEKKO_IN_TIME && answer.status != JYRMEKKO_LATE) {
         log_written = false;
-        say_refusal(out, "replay", answer);
+        say_refusal(out, "replay", answer, replayed.wrong);
     } else if (replayed.log.length == 0) {
         log_written = false;
         status = RIG_NOTHING;

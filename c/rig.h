@@ -71,13 +71,22 @@ void write_file(const char *path, struct bytes content);
 
 bool is_standard(const char *path);
 
-/* numbers.c: numbers as bytes (docs/RULES.md, 2.1 and 9.4), for people to see. The library has functions of its own. */
+/* numbers.c: numbers as bytes (docs/RULES.md, 2.1 to 2.8 and 9.4), for people to see. The library has its own code. */
 
 enum { MOST_GROUPS = 6 };
 #define LARGEST_NUMBER ((UINT64_C(1) << 7 * MOST_GROUPS) - 1)
 
-/* Reads the number at *at and moves *at past it. Returns false, with both as they were, where none is spelled there. */
+/*
+ * Reads the number at *at and moves *at past it. Where none is spelled there, returns false and moves *at to the bad
+ * byte, or to the end of the bytes where the number is cut off.
+ */
 bool read_number(struct bytes bytes, size_t *at, uint64_t *value);
+
+/*
+ * Says what is wrong at the place where a number can't be read: which bad byte stands there, or that the bytes end
+ * there. Returns null where no number goes wrong at this place. The text stays until the next call.
+ */
+const char *bad_byte(struct bytes bytes, uint64_t place);
 
 /* Writes a value of at most LARGEST_NUMBER at the start of out, and returns the length of its spelling. */
 size_t write_number(uint8_t *out, uint64_t value);
@@ -96,18 +105,27 @@ struct answer answer_of(uint32_t status, const uint8_t *buffer);
 
 /* play.c: the library's two calls on files. */
 
-struct answer judge_file(const char *table_path);
+struct judged {
+    struct answer answer;
+    const char *wrong; /* With 1 this is what bad_byte() says about its place, and else it is null. */
+};
+
+struct judged judge_file(const char *table_path);
 
 struct replayed {
     struct answer answer;
-    struct bytes log; /* With 22 and 23 this is exactly the log, and else it is empty. */
+    const char *wrong; /* With 1 and 14 this is what bad_byte() says about their place, and else it is null. */
+    struct bytes log;  /* With 22 and 23 this is exactly the log, and else it is empty. */
 };
 
 /* The file at out_path will be written later. It must be none of the files that are read, and the path may be null. */
 struct replayed replay_files(const char *table_path, const char *script_path, const char *out_path);
 
-/* Says a refusal in the words of the rules. A status that is no refusal stops the program. */
-void say_refusal(FILE *out, const char *call, struct answer answer);
+/*
+ * Says a refusal in the words of the rules. For 1 and 14 `wrong` says what bad_byte() says about the place. A status
+ * that is no refusal stops the program, and so does a 1 or 14 at a place where no number goes wrong.
+ */
+void say_refusal(FILE *out, const char *call, struct answer answer, const char *wrong);
 
 enum { LOG_NUMBERS = 5 }; /* Each record of a log has this many numbers. */
 

@@ -44,7 +44,7 @@ struct reading {
     size_t at;
     uint64_t records; /* So many records have been read. */
     uint64_t wanted;  /* A file that starts with its number of records has so many. */
-    bool damaged;     /* The number at `at` can't be read. */
+    bool damaged;     /* A number can't be read, and `at` is its bad byte, or the end where it is cut off. */
 };
 
 static struct reading start_reading(const struct kind *kind, struct bytes bytes)
@@ -121,7 +121,7 @@ static void hold_to_replay(const char *path, struct bytes log, const char *table
     size_t at = 0;
     if (replayed.answer.status != JYRMEKKO_IN_TIME && replayed.answer.status != JYRMEKKO_LATE) {
         putchar('\n');
-        say_refusal(stdout, "replay", replayed.answer);
+        say_refusal(stdout, "replay", replayed.answer, replayed.wrong);
         stop(RIG_CONTENT, "%s can't be compared with a replay that is refused", shown(path));
     }
     while (at < log.length && at < whole.length && log.at[at] == whole.at[at])
@@ -144,13 +144,13 @@ void show(const char *kind_name, const char *path, const char *table_path, const
     struct bytes bytes = read_file(path, SIZE_MAX);
     struct reading reading = start_reading(kind, bytes);
     print(&reading);
+    const char *wrong = reading.damaged ? bad_byte(bytes, reading.at) : NULL;
     if (reading.damaged || reading.at < bytes.length) {
         putchar('\n');
         free(bytes.at);
     }
     if (reading.damaged)
-        stop(RIG_CONTENT, "%s is no %s: at byte %zu a number is misspelled, too long or cut off", shown(path),
-             kind->name, reading.at);
+        stop(RIG_CONTENT, "%s is no %s: it goes wrong at byte %zu: %s", shown(path), kind->name, reading.at, wrong);
     if (reading.at < bytes.length)
         stop(RIG_CONTENT, "%s is no %s: there are bytes after its last %s, from byte %zu on", shown(path), kind->name,
              kind->record, reading.at);

@@ -21,7 +21,7 @@ static bool tampering(const char *name)
     static const char *const names[] = {"nothing", "status", "answer-past-its-end", "answer-beside-13", "second-number",
                                         "place", "answer-from-before", "table-written", "always-feasible",
                                         "log-before-its-start", "log-past-its-length", "log-kept", "log-cut",
-                                        "log-too-long"};
+                                        "log-too-long", "number-start", "byte-before", "byte-after", "end-for-byte"};
     const char *chosen = getenv("TAMPER");
     for (size_t i = 0; chosen != NULL && i < sizeof names / sizeof names[0]; i++)
         if (strcmp(chosen, names[i]) == 0)
@@ -32,6 +32,28 @@ static bool tampering(const char *name)
 static bool is_refusal(uint32_t status)
 {
     return status < JYRMEKKO_FEASIBLE || status > JYRMEKKO_LATE;
+}
+
+/* Moves the place of 1 in the table, or of 14 in the script. TAMPER_STATUS says which of the two is moved. */
+static void move_place(uint32_t status, const uint8_t *bytes, size_t length, uint8_t *answer)
+{
+    const char *moved = getenv("TAMPER_STATUS");
+    size_t place = 0;
+    if (moved == NULL || strtoul(moved, NULL, 10) != status)
+        return;
+    for (int i = SECOND - 1; i >= FIRST; i--)
+        place = place << 8 | answer[i];
+    if (tampering("number-start"))
+        while (place > 0 && bytes[place - 1] >= 0x80)
+            place--;
+    if (tampering("byte-before") && place > 0)
+        place--;
+    if (tampering("byte-after"))
+        place++;
+    if (tampering("end-for-byte"))
+        place = length;
+    for (int i = FIRST; i < SECOND; i++, place >>= 8)
+        answer[i] = (uint8_t)(place & 0xFF);
 }
 
 /* Tampers in the ways that both calls have. `before` is the first byte of the answer buffer before the call. */
@@ -51,6 +73,8 @@ static uint32_t tampered(uint32_t status, const uint8_t *table, size_t table_len
             answer[SECOND] = 1;
         if (tampering("place") && is_refusal(status))
             answer[SECOND - 1] = 1;
+        if (status == JYRMEKKO_MISSPELLED)
+            move_place(status, table, table_len, answer);
         if (tampering("status"))
             return (uint32_t)strtoul(getenv("TAMPER_STATUS"), NULL, 10);
     }
@@ -73,6 +97,8 @@ uint32_t __wrap_replay(const uint8_t *table, size_t table_len, const uint8_t *sc
 {
     uint8_t before = answer_len > 0 ? answer[FIRST] : 0;
     uint32_t status = __real_replay(table, table_len, script, script_len, log, log_len, answer, answer_len);
+    if (status == JYRMEKKO_SCRIPT_MISSPELLED)
+        move_place(status, script, script_len, answer);
     if (log_len > 0 && status != JYRMEKKO_ANSWER_NOT_16_BYTES) {
         if (tampering("log-before-its-start"))
             log[-1] ^= 1;

@@ -4,6 +4,8 @@
  */
 #include "jyrmekko.h"
 
+#include "wanted.h"
+
 #include <stdio.h>
 #include <string.h>
 
@@ -18,6 +20,10 @@
 #define LAST_TICK_MINUS_2 0xFE, 0xFF, 0xFF, 0xFF, 0xFF, 0x1F
 #define LAST_TICK_MINUS_5 0xFB, 0xFF, 0xFF, 0xFF, 0xFF, 0x1F
 #define LAST_TICK_MINUS_6 0xFA, 0xFF, 0xFF, 0xFF, 0xFF, 0x1F
+
+/* These groups ask for more. */
+#define ASKING_5 0x80, 0x80, 0x80, 0x80, 0x80
+#define ASKING_6 ASKING_5, 0x80
 
 enum { FENCE = 16, MOST_LOG = 400 };
 
@@ -104,10 +110,17 @@ static const struct verdict_case verdict_cases[] = {
     {"longest period, 1023 and 1025", {2, 1, 0xFF, 0x07, 1, 1, 1, 0x81, 0x08, 2, 1}, 11, JYRMEKKO_FEASIBLE, 0, 0},
     {"y 4096", {1, 1, 0x80, 0x20, 1, 1}, 6, JYRMEKKO_FEASIBLE, 0, 0},
     {"no table", {0}, 0, JYRMEKKO_MISSPELLED, 0, 0},
-    {"count 80 00", {0x80, 0x00}, 2, JYRMEKKO_MISSPELLED, 0, 0},
+    {"count 80 00", {0x80, 0x00}, 2, JYRMEKKO_MISSPELLED, 1, 0},
+    {"count 80 80 00, and bytes after", {0x80, 0x80, 0x00, 0x80, 0x00}, 5, JYRMEKKO_MISSPELLED, 2, 0},
+    {"count cut off", {0x80}, 1, JYRMEKKO_MISSPELLED, 1, 0},
     {"cut before x", {1}, 1, JYRMEKKO_MISSPELLED, 1, 0},
-    {"cut in d", {1, 1, 2, 0x86}, 4, JYRMEKKO_MISSPELLED, 3, 0},
-    {"y of seven groups", {1, 1, 0x81, 0x81, 0x81, 0x81, 0x81, 0x81, 1, 1, 1}, 11, JYRMEKKO_MISSPELLED, 2, 0},
+    {"cut in d", {1, 1, 2, 0x86}, 4, JYRMEKKO_MISSPELLED, 4, 0},
+    {"cut in c", {1, 1, 2, 6, 0x81, 0x80}, 6, JYRMEKKO_MISSPELLED, 6, 0},
+    {"y of seven groups", {1, 1, ASKING_6, 1}, 9, JYRMEKKO_MISSPELLED, 7, 0},
+    {"y of six groups, cut off as the sixth asks for more", {1, 1, ASKING_6}, 8, JYRMEKKO_MISSPELLED, 7, 0},
+    {"y of five groups, cut off as the fifth asks for more", {1, 1, ASKING_5}, 7, JYRMEKKO_MISSPELLED, 7, 0},
+    {"y of six groups, the last of them zero", {1, 1, ASKING_5, 0x00, 1, 1}, 10, JYRMEKKO_MISSPELLED, 7, 0},
+    {"y of six groups", {1, 1, ASKING_5, 0x01, 1, 1}, 10, JYRMEKKO_VALUE_OUT_OF_RANGE, 2, 0},
     {"17 rows", {17}, 1, JYRMEKKO_TOO_MANY_ROWS, 0, 0},
     {"x 0", {1, 0, 2, 6, 1}, 5, JYRMEKKO_VALUE_OUT_OF_RANGE, 1, 0},
     {"x 65", {1, 65, 2, 6, 1}, 5, JYRMEKKO_VALUE_OUT_OF_RANGE, 1, 0},
@@ -163,14 +176,27 @@ static const struct replay_case replay_cases[] = {
     {"due at 2^40", V2, {LAST_TICK_MINUS_6, 0, 1}, 8, 20, JYRMEKKO_IN_TIME, 20, 0,
      {0, 0, LAST_TICK_MINUS_6, LAST_TICK, LAST_TICK_MINUS_5}},
 
-    {"table misspelled", {1, 0x80, 0x00}, 3, R1, 20, JYRMEKKO_MISSPELLED, 1, 0, {0}},
+    {"table misspelled", {1, 0x80, 0x00}, 3, R1, 20, JYRMEKKO_MISSPELLED, 2, 0, {0}},
+    {"table cut off", {1}, 1, R1, 20, JYRMEKKO_MISSPELLED, 1, 0, {0}},
+    {"y of seven groups", {1, 1, ASKING_6, 1}, 9, R1, 20, JYRMEKKO_MISSPELLED, 7, 0, {0}},
     {"too many rows", {17}, 1, R1, 20, JYRMEKKO_TOO_MANY_ROWS, 0, 0, {0}},
     {"value out of range", {1, 1, 2, 6, 0}, 5, R1, 20, JYRMEKKO_VALUE_OUT_OF_RANGE, 4, 0, {0}},
     {"bytes after the last row", {0, 0}, 2, R1, 20, JYRMEKKO_EXTRA_BYTES, 1, 0, {0}},
     {"period too long", {2, 1, 0xF5, 0x08, 1, 1, 1, 0x97, 0x07, 2, 1}, 11, R1, 20, JYRMEKKO_PERIOD_TOO_LONG, 11, 0, {0}},
 
-    {"gap misspelled", V2, {0, 0, 1, 0x80, 0x00, 0, 1}, 7, 20, JYRMEKKO_SCRIPT_MISSPELLED, 3, 0, {0}},
+    {"gap misspelled", V2, {0, 0, 1, 0x80, 0x00, 0, 1}, 7, 20, JYRMEKKO_SCRIPT_MISSPELLED, 4, 0, {0}},
+    {"row number misspelled", V2, {0, 0x80, 0x80, 0x00, 1}, 5, 20, JYRMEKKO_SCRIPT_MISSPELLED, 3, 0, {0}},
+    {"cost misspelled", V2, {0, 0, 0x81, 0x00}, 4, 20, JYRMEKKO_SCRIPT_MISSPELLED, 3, 0, {0}},
+    {"cut before the row number", V2, {0}, 1, 20, JYRMEKKO_SCRIPT_MISSPELLED, 1, 0, {0}},
     {"cut before the cost", V2, {0, 0}, 2, 20, JYRMEKKO_SCRIPT_MISSPELLED, 2, 0, {0}},
+    {"cut in the gap", V2, {0x80, 0x80}, 2, 20, JYRMEKKO_SCRIPT_MISSPELLED, 2, 0, {0}},
+    {"cut in the cost", V2, {0, 0, 0x81}, 3, 20, JYRMEKKO_SCRIPT_MISSPELLED, 3, 0, {0}},
+    {"gap of seven groups", V2, {ASKING_6, 1, 0, 1}, 9, 20, JYRMEKKO_SCRIPT_MISSPELLED, 5, 0, {0}},
+    {"row number of seven groups", V2, {0, ASKING_6, 1, 1}, 9, 20, JYRMEKKO_SCRIPT_MISSPELLED, 6, 0, {0}},
+    {"cost cut off as the sixth group asks for more", V2, {0, 0, ASKING_6}, 8, 20, JYRMEKKO_SCRIPT_MISSPELLED, 7, 0, {0}},
+    {"cost cut off as the fifth group asks for more", V2, {0, 0, ASKING_5}, 7, 20, JYRMEKKO_SCRIPT_MISSPELLED, 7, 0, {0}},
+    {"cost of six groups, the last of them zero", V2, {0, 0, ASKING_5, 0}, 8, 20, JYRMEKKO_SCRIPT_MISSPELLED, 7, 0, {0}},
+    {"cost of six groups", V2, {0, 0, ASKING_5, 1}, 8, 20, JYRMEKKO_COST_OUT_OF_RANGE, 2, 0, {0}},
     {"script time above 2^40", V2, {0, 0, 1, LAST_TICK_PLUS_1}, 9, 20, JYRMEKKO_TIME_TOO_LATE, 3, 0, {0}},
     {"script time of 2^40", V2, {LAST_TICK, 0, 1}, 8, 20, JYRMEKKO_DUE_TOO_LATE, 0, 0, {0}},
     {"row number not in use", V2, {0, 1, 1}, 3, 20, JYRMEKKO_NO_SUCH_ROW, 1, 0, {0}},
@@ -232,6 +258,146 @@ static void test_places(void)
     check(all_bytes(log, MOST_LOG, 0), "65 jobs", "log, which should be zeros");
 }
 
+/* ---- damaged bytes, compared with what the rules want for them */
+
+enum { MOST_PUT_IN = 7, MOST_DAMAGED = 48 };
+
+/* So many tables and scripts were compared, by how the number is spelled that is refused in them. */
+static unsigned tables_compared[SPELLED], scripts_compared[SPELLED];
+
+static int is_wanted(struct wanted wanted, uint32_t status, const uint8_t *answer)
+{
+    return status == wanted.status && number(answer) == wanted.place && number(answer + 8) == 0;
+}
+
+static void compare_table(const char *name, const uint8_t *table, size_t length)
+{
+    static const uint8_t script[] = {0, 0, 1};
+    uint8_t log[JYRMEKKO_LOG_SIZE(sizeof script)], answer[JYRMEKKO_ANSWER_SIZE];
+    struct rows rows;
+    struct wanted wanted = wanted_of_table(table, length, &rows);
+    uint32_t status = verdict(table, length, answer, sizeof answer);
+    check(wanted.status != 0 ? is_wanted(wanted, status, answer) : status >= JYRMEKKO_PERIOD_TOO_LONG, name, "verdict");
+    status = replay(table, length, script, sizeof script, log, sizeof log, answer, sizeof answer);
+    check(wanted.status != 0 ? is_wanted(wanted, status, answer) : status >= JYRMEKKO_PERIOD_TOO_LONG, name, "replay");
+    tables_compared[wanted.spelled]++;
+}
+
+/* The rows are (64, 4096, 16384, 4096) and (1, 300, 16383, 200). */
+static const uint8_t long_rows[] = {2, 64, 0x80, 0x20, 0x80, 0x80, 0x01, 0x80, 0x20,
+                                    1, 0xAC, 0x02, 0xFF, 0x7F, 0xC8, 0x01};
+
+static void compare_script(const char *name, const uint8_t *script, size_t length)
+{
+    uint8_t log[JYRMEKKO_LOG_SIZE(MOST_DAMAGED)], answer[JYRMEKKO_ANSWER_SIZE];
+    struct rows rows;
+    struct wanted of_table = wanted_of_table(long_rows, sizeof long_rows, &rows);
+    struct wanted wanted = wanted_of_script(script, length, &rows);
+    uint32_t status = replay(long_rows, sizeof long_rows, script, length, log, sizeof log, answer, sizeof answer);
+    check(of_table.status == 0, name, "table, which should be accepted");
+    if (status == JYRMEKKO_DUE_TOO_LATE) {
+        check(number(answer) < wanted.record, name, "place of 9, which should be in an earlier record");
+    } else if (wanted.status != 0) {
+        check(is_wanted(wanted, status, answer), name, "replay");
+    } else {
+        check(status == JYRMEKKO_IN_TIME || status == JYRMEKKO_LATE ||
+                  (status == JYRMEKKO_TIME_TOO_LATE && number(answer) == length), name, "replay");
+    }
+    scripts_compared[wanted.spelled]++;
+}
+
+typedef void comparison(const char *name, const uint8_t *bytes, size_t length);
+
+struct spelled_bytes {
+    const char *name;
+    const uint8_t *bytes;
+    size_t length;
+};
+
+/* Puts groups that ask for more before a byte. After them come the rest, a zero group and the rest, or no more bytes. */
+static void put_in(const struct spelled_bytes *spelled, size_t at, comparison *compare)
+{
+    uint8_t damaged[MOST_DAMAGED];
+    char name[120];
+    size_t i;
+    for (i = 0; i <= MOST_PUT_IN; i++) {
+        size_t rest = spelled->length - at;
+        memcpy(damaged, spelled->bytes, at);
+        memset(damaged + at, i % 2 == 0 ? 0x80 : 0xFF, i);
+        sprintf(name, "%s, cut at byte %u, with %u groups that ask for more", spelled->name, (unsigned)at, (unsigned)i);
+        compare(name, damaged, at + i);
+        memcpy(damaged + at + i, spelled->bytes + at, rest);
+        sprintf(name, "%s, with %u groups that ask for more before byte %u", spelled->name, (unsigned)i, (unsigned)at);
+        compare(name, damaged, at + i + rest);
+        damaged[at + i] = 0;
+        memcpy(damaged + at + i + 1, spelled->bytes + at, rest);
+        strcat(name, " and a zero group");
+        compare(name, damaged, at + i + 1 + rest);
+    }
+}
+
+/* Replaces a byte by others, leaves it out, and doubles it. */
+static void change(const struct spelled_bytes *spelled, size_t at, comparison *compare)
+{
+    static const uint8_t others[] = {0x00, 0x01, 0x7F, 0x80, 0x81, 0xFF};
+    const uint8_t *bytes = spelled->bytes;
+    size_t length = spelled->length, i;
+    uint8_t damaged[MOST_DAMAGED];
+    char name[120];
+    memcpy(damaged, bytes, length);
+    for (i = 0; i <= COUNT(others); i++) {
+        damaged[at] = i < COUNT(others) ? others[i] : bytes[at] ^ 0x80;
+        sprintf(name, "%s, byte %u replaced by %02X", spelled->name, (unsigned)at, damaged[at]);
+        compare(name, damaged, length);
+    }
+    memcpy(damaged + at, bytes + at + 1, length - at - 1);
+    sprintf(name, "%s, byte %u left out", spelled->name, (unsigned)at);
+    compare(name, damaged, length - 1);
+    memcpy(damaged, bytes, at + 1);
+    memcpy(damaged + at + 1, bytes + at, length - at);
+    sprintf(name, "%s, byte %u doubled", spelled->name, (unsigned)at);
+    compare(name, damaged, length + 1);
+}
+
+static void damage(const char *name, const uint8_t *bytes, size_t length, comparison *compare)
+{
+    struct spelled_bytes spelled = {name, bytes, length};
+    size_t at;
+    if (length + MOST_PUT_IN + 1 > MOST_DAMAGED) {
+        check(0, name, "length, which is too long for this test");
+        return;
+    }
+    for (at = 0; at < length; at++) {
+        put_in(&spelled, at, compare);
+        change(&spelled, at, compare);
+    }
+    put_in(&spelled, length, compare);
+}
+
+/* Every byte of some tables and scripts is damaged. Their numbers have one to six groups. */
+static void test_damage(void)
+{
+    static const uint8_t no_rows[] = {0}, two_rows[] = {2, 1, 4, 4, 2, 1, 6, 6, 3};
+    static const uint8_t one_job[] = {0, 0, 1}, three_jobs[] = {0, 0, 2, 0, 1, 3, 4, 0, 2};
+    static const uint8_t long_gaps[] = {0x80, 0x01, 0, 0xAC, 0x02, 0x80, 0x80, 0x01, 1, 0xC8, 0x01,
+                                        0xFF, 0xFF, 0xFF, 0x01, 0, 1, 0x80, 0x80, 0x80, 0x80, 0x02, 0, 0x80, 0x20,
+                                        0x80, 0x80, 0x80, 0x80, 0x80, 0x01, 1, 1};
+    static const char *const names[SPELLED] = {"every number that is read can be read", "superfluous zero group",
+                                               "sixth group that asks for more", "cut off inside a number",
+                                               "cut off before a number"};
+    int i;
+    damage("no rows", no_rows, sizeof no_rows, compare_table);
+    damage("two rows", two_rows, sizeof two_rows, compare_table);
+    damage("long rows", long_rows, sizeof long_rows, compare_table);
+    damage("one job", one_job, sizeof one_job, compare_script);
+    damage("three jobs", three_jobs, sizeof three_jobs, compare_script);
+    damage("long gaps", long_gaps, sizeof long_gaps, compare_script);
+    for (i = 0; i < SPELLED; i++) {
+        printf("damaged, %s: %u tables, %u scripts\n", names[i], tables_compared[i], scripts_compared[i]);
+        check(tables_compared[i] > 0 && scripts_compared[i] > 0, names[i], "number of cases, which should not be 0");
+    }
+}
+
 /* An answer buffer that is not 16 bytes long is refused with 13 before every other test, and nothing is written. */
 static void test_answer_size(void)
 {
@@ -279,6 +445,7 @@ int main(void)
         test_replay(&replay_cases[i]);
     }
     test_places();
+    test_damage();
     test_answer_size();
     test_null();
     printf("%u passed, %u failed\n", passed, failed);

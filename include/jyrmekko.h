@@ -38,6 +38,16 @@
  * a refusal they are its place and 0. A place counts bytes from 0. For 1 to 5 it is a place in the table, and for every
  * other refusal a place in the script.
  *
+ * Bad bytes. 1 and 14 refuse a number that can't be read, and their place is the byte that is wrong:
+ *   - Where the last group of a longer number is zero, it is the byte of that group. For 80 00 it is the byte 00.
+ *   - Where the sixth group of a number asks for more, it is the sixth byte, 5 after the number's start, whether or not
+ *     more bytes follow.
+ *   - Where the bytes end inside a number, or where a number should stand, it is the length of the table or script. No
+ *     byte stands there.
+ * So the table 80 00 is refused with 1 at place 1, the table 01 01 80 80 80 80 80 80 01 with 1 at place 7, and the
+ * table 01 with 1 at place 1, its length. On a table with a row, the script 00 00 is refused with 14 at place 2, its
+ * length.
+ *
  * Example:
  *
  *     uint8_t table[] = {1, 1, 2, 6, 1}, script[] = {0, 0, 1, 4, 0, 1};
@@ -74,7 +84,8 @@ enum jyrmekko_status {
     JYRMEKKO_LATE = 23,                /* A job is late. Numbers: the log's length in bytes, and how many are late. */
 
     /* The refusals of a table, by both calls. */
-    JYRMEKKO_MISSPELLED = 1,           /* A number is misspelled, too long or cut off. Place: the number's start. */
+    JYRMEKKO_MISSPELLED = 1,           /* A number is misspelled or too long. Place: the bad byte. */
+                                       /* Or a number is cut off. Place: the table's length. */
     JYRMEKKO_TOO_MANY_ROWS = 2,        /* The row count is above 16. Place: 0, the count's start. */
     JYRMEKKO_VALUE_OUT_OF_RANGE = 3,   /* An x, y, d or c is out of its range. Place: the number's start. */
     JYRMEKKO_EXTRA_BYTES = 4,          /* There are bytes after the last row. Place: the first extra byte. */
@@ -88,7 +99,8 @@ enum jyrmekko_status {
     JYRMEKKO_TIME_TOO_LATE = 10,       /* A script time is above 2^40. Place: the gap's start. */
                                        /* Or, after the last record, the clock is at 2^40 with a job pending. Place: */
                                        /* the script's length. */
-    JYRMEKKO_SCRIPT_MISSPELLED = 14,   /* A number is misspelled, too long or cut off. Place: the number's start. */
+    JYRMEKKO_SCRIPT_MISSPELLED = 14,   /* A number is misspelled or too long. Place: the bad byte. */
+                                       /* Or a number is cut off. Place: the script's length. */
 
     /* The refusals of a buffer. */
     JYRMEKKO_NO_ROOM = 12,             /* replay(): the log is longer than its buffer. Place: the script's length. */

@@ -76,7 +76,9 @@ mod tests {
         assert_eq!(choose(&cut, &cut, LAST_TICK + 1, LAST_TICK + 1), too_late(Which::First));
         assert_eq!(choose(&cut, &cut, LAST_TICK, LAST_TICK + 1), too_late(Which::Second));
         assert_eq!(choose(&cut, &[0x80, 0x00], LAST_TICK, LAST_TICK), misspelled(Which::First, 2));
-        assert_eq!(choose(&EARLY, &[0x80, 0x00], 0, 0), misspelled(Which::Second, 0));
+        assert_eq!(choose(&EARLY, &[0x80, 0x00], 0, 0), misspelled(Which::Second, 1));
+        assert_eq!(choose(&[0, 0xff, 0xff, 0xff, 0xff, 0xff, 0xff], &cut, 0, 0), misspelled(Which::First, 6));
+        assert_eq!(choose(&EARLY, &[0, 0, 0x80, 0x80], 0, 0), misspelled(Which::Second, 4));
         assert_eq!(choose(&[], &cut, 0, 0), misspelled(Which::Second, 2));
     }
 

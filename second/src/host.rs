@@ -88,7 +88,9 @@ mod tests {
     fn verdicts_and_refusals() {
         assert_eq!(judged(&V3), (20, 0, 0));
         assert_eq!(judged(&spell(&[[1, 2, 10, 3]])), (21, 26, 27));
-        assert_eq!(judged(&[0x80, 0x00]), (1, 0, 0));
+        assert_eq!(judged(&[1]), (1, 1, 0));
+        assert_eq!(judged(&[0x80, 0x00]), (1, 1, 0));
+        assert_eq!(judged(&[1, 1, 0x80, 0x80, 0x80, 0x80, 0x80, 0x80, 1]), (1, 7, 0));
         assert_eq!(judged(&[17]), (2, 0, 0));
         assert_eq!(judged(&[1, 1, 0, 1, 1]), (3, 2, 0));
         assert_eq!(judged(&[0, 0]), (4, 1, 0));
@@ -135,8 +137,12 @@ mod tests {
     fn every_refusal_but_13_zeroes_the_log() {
         for (table, script, refusal) in [
             (&V3[..5], &R1[..], (1, 5, 0)),
+            (&[2, 1, 0x84, 0x00, 4, 2][..], &R1[..], (1, 3, 0)),
             (&[17][..], &R1[..], (2, 0, 0)),
             (&V3[..], &R1[..8], (14, 8, 0)),
+            (&[1, 1, 2, 6, 1][..], &[0, 0][..], (14, 2, 0)),
+            (&V3[..], &[0, 0, 0x82, 0x00][..], (14, 3, 0)),
+            (&V3[..], &[0, 0, 0xff, 0xff, 0xff, 0xff, 0xff, 0xff][..], (14, 7, 0)),
             (&V3[..], &[0, 2, 1][..], (6, 1, 0)),
             (&V3[..], &R1[..], (12, 9, 0)),
         ] {

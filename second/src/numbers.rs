@@ -6,16 +6,22 @@ use crate::refusal::{Reason, Refusal};
 pub const MOST_GROUPS: usize = 6;
 pub const LARGEST: u64 = (1 << (7 * MOST_GROUPS)) - 1;
 
-/// Reads the number that starts at `place`. Returns its value and the place right after it.
+/// The number that starts at `place`, and the place after it. A refusal points at the byte that is wrong: the sixth
+/// group where it asks for more, or a last group of zero after others. A number that is cut off or missing, or that
+/// starts past the end, has no such byte, and the refusal points at the end of the bytes (2.7, 2.8, 2.9).
 pub fn read(bytes: &[u8], place: usize) -> Result<(u64, usize), Refusal> {
-    let misspelled = Reason::Misspelled.at(place);
-    let rest = bytes.get(place..).ok_or(misspelled)?;
-    let last = rest.iter().take(MOST_GROUPS).position(|byte| byte & 0x80 == 0).ok_or(misspelled)?;
-    if last > 0 && rest[last] == 0 {
-        return Err(misspelled);
+    let misspelled_at = |bad| Err(Reason::Misspelled.at(bad));
+    let rest = bytes.get(place..).unwrap_or(&[]);
+    let groups = &rest[..rest.len().min(MOST_GROUPS)];
+    match groups.iter().position(|byte| byte & 0x80 == 0) {
+        None if groups.len() == MOST_GROUPS => misspelled_at(place + MOST_GROUPS - 1),
+        None => misspelled_at(bytes.len()),
+        Some(last) if last > 0 && groups[last] == 0 => misspelled_at(place + last),
+        Some(last) => {
+            let number = groups[..=last].iter().rev().fold(0, |higher, byte| higher << 7 | u64::from(byte & 0x7f));
+            Ok((number, place + last + 1))
+        }
     }
-    let number = rest[..=last].iter().rev().fold(0, |higher, byte| higher << 7 | u64::from(byte & 0x7f));
-    Ok((number, place + last + 1))
 }
 
 /// Returns the one spelling of a number.
@@ -58,20 +64,67 @@ mod tests {
     }
 
     #[test]
-    fn refuses_a_superfluous_zero_group() {
-        assert_eq!(read(&[0x80, 0x00], 0), misspelled_at(0));
-        assert_eq!(read(&[0x05, 0xac, 0x82, 0x00], 1), misspelled_at(1));
+    fn refuses_a_superfluous_zero_group_at_its_byte() {
+        assert_eq!(read(&[0x80, 0x00], 0), misspelled_at(1));
+        assert_eq!(read(&[0x80, 0x00, 0x01], 0), misspelled_at(1));
+        assert_eq!(read(&[0x05, 0xac, 0x82, 0x00], 1), misspelled_at(3));
+        assert_eq!(read(&[0x80, 0x80, 0x80, 0x80, 0x80, 0x00], 0), misspelled_at(5));
+        assert_eq!(read(&[0x80, 0x80, 0x80, 0x80, 0x80, 0x00, 0x01], 0), misspelled_at(5));
     }
 
     #[test]
-    fn refuses_a_seventh_group_and_a_cut() {
-        assert_eq!(read(&[0x81, 0x81, 0x81, 0x81, 0x81, 0x81, 0x01], 0), misspelled_at(0));
-        assert_eq!(read(&[0x81, 0x81, 0x81, 0x81, 0x81, 0x81], 0), misspelled_at(0));
-        assert_eq!(read(&[0x81, 0x81, 0x81, 0x81, 0x81], 0), misspelled_at(0));
-        assert_eq!(read(&[0x81], 0), misspelled_at(0));
-        assert_eq!(read(&[0x07], 1), misspelled_at(1));
-        assert_eq!(read(&[0x07], 9), misspelled_at(9));
+    fn refuses_a_sixth_group_that_asks_for_more_at_its_byte() {
+        assert_eq!(read(&[0x81, 0x81, 0x81, 0x81, 0x81, 0x81, 0x01], 0), misspelled_at(5));
+        assert_eq!(read(&[0x81, 0x81, 0x81, 0x81, 0x81, 0x81, 0x00], 0), misspelled_at(5));
+        assert_eq!(read(&[0x07, 0x80, 0x80, 0x80, 0x80, 0x80, 0x80], 1), misspelled_at(6));
+        assert_eq!(read(&[0xff; 6], 0), misspelled_at(5));
+        assert_eq!(read(&[0xff; 20], 3), misspelled_at(8));
+    }
+
+    #[test]
+    fn refuses_a_cut_at_the_end_of_the_bytes() {
+        assert_eq!(read(&[0x80, 0x80, 0x80, 0x80, 0x80], 0), misspelled_at(5));
+        assert_eq!(read(&[0x07, 0x80, 0x80, 0x80, 0x80, 0x80], 1), misspelled_at(6));
+        assert_eq!(read(&[0x81], 0), misspelled_at(1));
+        assert_eq!(read(&[0x05, 0x81, 0x81], 1), misspelled_at(3));
+    }
+
+    #[test]
+    fn refuses_a_missing_number_and_a_place_past_the_end_at_the_end_of_the_bytes() {
         assert_eq!(read(&[], 0), misspelled_at(0));
+        assert_eq!(read(&[0x07], 1), misspelled_at(1));
+        assert_eq!(read(&[0x07], 2), misspelled_at(1));
+        assert_eq!(read(&[0x07], 9), misspelled_at(1));
+        assert_eq!(read(&[0x07, 0x07], usize::MAX), misspelled_at(2));
+        assert_eq!(read(&[], 1), misspelled_at(0));
+    }
+
+    /// The same rule, group by group: a number is read on until a byte settles it.
+    fn read_by_groups(bytes: &[u8], start: usize) -> Result<(u64, usize), Refusal> {
+        let mut number = 0;
+        let mut place = start;
+        loop {
+            let Some(&byte) = bytes.get(place) else { return misspelled_at(bytes.len()) };
+            let group = place - start;
+            number += u64::from(byte % 128) * 128u64.pow(group as u32);
+            match (byte, group) {
+                (128.., 5) | (0, 1..) => return misspelled_at(place),
+                (128.., _) => place += 1,
+                _ => return Ok((number, place + 1)),
+            }
+        }
+    }
+
+    #[test]
+    fn agrees_with_a_reader_by_groups_on_every_pattern_of_telling_bytes() {
+        let telling = [0x00, 0x01, 0x7f, 0x80, 0xff];
+        for length in 0..=8 {
+            for pattern in 0..5usize.pow(length) {
+                let bytes: Vec<u8> = (0..length).map(|place| telling[pattern / 5usize.pow(place) % 5]).collect();
+                assert_eq!(read(&bytes, 0), read_by_groups(&bytes, 0), "{bytes:x?}");
+                assert_eq!(read(&bytes, 1), read_by_groups(&bytes, 1), "{bytes:x?} from 1");
+            }
+        }
     }
 
     #[test]

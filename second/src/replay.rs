@@ -144,8 +144,8 @@ mod tests {
         assert_eq!(play(&v2, &[0, 0]), Err((14, 2)));
         assert_eq!(play(&v2, &[0, 1]), Err((6, 1)));
         assert_eq!(play(&v2, &[0, 1, 0x80, 0x00]), Err((6, 1)));
-        assert_eq!(play(&v2, &[0, 0x80, 0x00]), Err((14, 1)));
-        assert_eq!(play(&v2, &[0x80, 0x00, 1]), Err((14, 0)));
+        assert_eq!(play(&v2, &[0, 0x80, 0x00]), Err((14, 2)));
+        assert_eq!(play(&v2, &[0x80, 0x00, 1]), Err((14, 1)));
         assert_eq!(play(&v2, &[0, 0, 0]), Err((7, 2)));
         assert_eq!(play(&v2, &[0, 0, 2]), Err((7, 2)));
         assert_eq!(play(&v2, &[0, 0, 1, 0, 0, 2]), Err((7, 5)));
@@ -155,6 +155,22 @@ mod tests {
         assert_eq!(play(&v2, &script(&[[0, 0, 1], [LAST_TICK + 1, 0, 1]])), Err((10, 3)));
         let late_then_cut = &script(&[[1, 0, 1], [LAST_TICK, 0, 1]])[..9];
         assert_eq!(play(&v2, late_then_cut), Err((10, 3)));
+    }
+
+    #[test]
+    fn a_bad_byte_is_14_at_its_place_and_a_cut_at_the_length() {
+        let v2 = [[1, 2, 6, 1]];
+        for before in [&[][..], &[0], &[0, 0], &[0, 0, 1]] {
+            let start = before.len();
+            let spelled = |bad: &[u8]| [before, bad].concat();
+            assert_eq!(play(&v2, &spelled(&[0x81, 0x00])), Err((14, start + 1)));
+            assert_eq!(play(&v2, &spelled(&[0x81, 0x80, 0x00, 1])), Err((14, start + 2)));
+            assert_eq!(play(&v2, &spelled(&[0x80, 0x80, 0x80, 0x80, 0x80, 0x00])), Err((14, start + 5)));
+            assert_eq!(play(&v2, &spelled(&[0xff; 6])), Err((14, start + 5)));
+            assert_eq!(play(&v2, &spelled(&[0xff; 9])), Err((14, start + 5)));
+            assert_eq!(play(&v2, &spelled(&[0x80; 5])), Err((14, start + 5)));
+            assert_eq!(play(&v2, &spelled(&[0x80; 3])), Err((14, start + 3)));
+        }
     }
 
     #[test]

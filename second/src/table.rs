@@ -106,13 +106,23 @@ pub mod tests {
     }
 
     #[test]
-    fn a_number_misspelled_or_missing_is_1_at_its_start() {
+    fn a_bad_byte_is_1_at_its_place() {
+        assert_eq!(refused(&[0x80, 0x00]), (1, 1));
+        assert_eq!(refused(&[1, 1, 0x82, 0x00, 6, 1]), (1, 3));
+        assert_eq!(refused(&[1, 1, 2, 6, 0x80, 0x80, 0x80, 0x80, 0x80, 0x00]), (1, 9));
+        assert_eq!(refused(&[1, 1, 0x80, 0x80, 0x80, 0x80, 0x80, 0x80, 1]), (1, 7));
+        assert_eq!(refused(&[1, 1, 0x80, 0x80, 0x80, 0x80, 0x80, 0x80]), (1, 7));
+        assert_eq!(refused(&[0xff; 6]), (1, 5));
+    }
+
+    #[test]
+    fn a_number_cut_off_or_missing_is_1_at_the_length() {
         assert_eq!(refused(&[]), (1, 0));
-        assert_eq!(refused(&[0x80, 0x00]), (1, 0));
         assert_eq!(refused(&[1]), (1, 1));
         assert_eq!(refused(&[1, 1, 2, 6]), (1, 4));
-        assert_eq!(refused(&[1, 1, 0x82]), (1, 2));
-        assert_eq!(refused(&[1, 1, 0x82, 0x00, 6, 1]), (1, 2));
+        assert_eq!(refused(&[1, 1, 0x82]), (1, 3));
+        assert_eq!(refused(&[0x80, 0x80, 0x80, 0x80, 0x80]), (1, 5));
+        assert_eq!(refused(&[1, 1, 0x80, 0x80, 0x80, 0x80, 0x80]), (1, 7));
     }
 
     #[test]
@@ -143,7 +153,7 @@ pub mod tests {
     #[test]
     fn a_bad_value_beats_what_comes_after_it() {
         assert_eq!(refused(&[1, 0, 0x80, 0x00]), (3, 1));
-        assert_eq!(refused(&[1, 0x80, 0x00, 0]), (1, 1));
+        assert_eq!(refused(&[1, 0x80, 0x00, 0]), (1, 2));
     }
 
     #[test]

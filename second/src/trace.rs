@@ -78,5 +78,7 @@ mod tests {
         let calls = [Call::Release { row: 0, cost: 1 }, Call::Tick];
         let answers = [[kind::REFUSED, 4, 1, 0], [kind::REFUSED, 6, 0, 0], [kind::IDLE, 0, 0, 0]];
         assert_eq!(trace(&[0, 0], &calls), answers);
+        assert_eq!(trace(&[1, 0x80, 0x00, 1, 1, 1], &[]), [[kind::REFUSED, 1, 2, 0]]);
+        assert_eq!(trace(&[1, 1, 0x82], &[]), [[kind::REFUSED, 1, 3, 0]]);
     }
 }

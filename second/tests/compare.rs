@@ -3,13 +3,17 @@
 
 mod support;
 
+use std::collections::BTreeSet;
 use std::process::exit;
+use support::bad_bytes::InNumber;
 use support::case::{Call, Case};
 use support::random::Random;
-use support::tally::Tally;
-use support::{edges, families, settings};
+use support::tally::{Tally, SCRIPT_MISSPELLED, TABLE_MISSPELLED};
+use support::{bad_bytes, edges, families, settings};
 
 const COMPARISONS: u64 = 200_000;
+/// One table and one script in so many comparisons are damaged at every byte.
+const DAMAGED_AT_EVERY_BYTE: u64 = 2_000;
 
 const VERDICT_STATUSES: [u32; 8] = [1, 2, 3, 4, 5, 13, 20, 21];
 const REPLAY_STATUSES: [u32; 15] = [1, 2, 3, 4, 5, 6, 7, 8, 9, 10, 12, 13, 14, 22, 23];
@@ -24,6 +28,10 @@ fn main() {
     for (name, make) in families::ALL {
         compared.family(name, std::iter::repeat_n(make, each));
     }
+    for (name, cases) in families::AT_EVERY_BYTE {
+        let cases = cases(seed, comparisons.div_ceil(DAMAGED_AT_EVERY_BYTE));
+        compared.family(name, cases.map(|case| move |_: &mut Random| case));
+    }
 
     let all = &compared.all;
     println!("{} comparisons with seed {seed}", all.total());
@@ -35,6 +43,9 @@ fn main() {
         println!("never met: statuses {missing:?}, or late witnesses");
         compared.fail();
     }
+    compared.bad_bytes("tables, verdict", Call::Verdict, TABLE_MISSPELLED, &bad_bytes::of_tables());
+    compared.bad_bytes("tables, replay", Call::Replay, TABLE_MISSPELLED, &bad_bytes::of_tables());
+    compared.bad_bytes("scripts, replay", Call::Replay, SCRIPT_MISSPELLED, &bad_bytes::of_records(families::RECORDS));
     println!("{} passed, 0 failed", compared.families + 1);
 }
 
@@ -58,11 +69,22 @@ impl Compared {
                 println!("{case}second program:\n{expected}library:\n{found}");
                 self.fail();
             }
-            tally.count(&case, expected.status);
+            tally.count(&case, &expected);
         }
         println!("{:>9} {name}", tally.total());
         self.all.add(&tally);
         self.families += 1;
+    }
+
+    /// Says which bad bytes a call met in what it was lent. All that are wanted have to be among them.
+    fn bad_bytes(&self, lent: &str, call: Call, status: u32, wanted: &BTreeSet<InNumber>) {
+        let met = self.all.bad_bytes(call, status);
+        println!("bad bytes of {lent}: {}", met.histogram(wanted));
+        let missing = met.missing(wanted);
+        if !missing.is_empty() {
+            println!("never met: bad bytes {missing:?}");
+            self.fail();
+        }
     }
 
     fn fail(&self) -> ! {

@@ -3,57 +3,16 @@
 mod support;
 
 use second::table::MOST_C;
-use second::trace::{kind, trace, Answer, Call};
+use second::trace::{kind, trace, Call};
 use std::collections::BTreeSet;
 use support::case::hex;
-use support::fenced::Fenced;
 use support::random::Random;
 use support::tables::Row;
+use support::trace::{by_library, bytes_of};
 use support::{damage, settings, tables};
 
 /// There are at least this many traces, since with fewer some answers might not be met.
 const TRACES: u64 = 20_000;
-
-/// This is all that this file knows about the library's side. Numbers have eight bytes each, the lowest byte first. A
-/// call has three numbers: 1, row and cost for a release, and 2, 0 and 0 for a tick. An answer has four numbers, as in
-/// the second program. The call returns how many answers there are.
-mod library {
-    extern "C" {
-        pub fn trace(
-            table: *const u8,
-            table_len: usize,
-            calls: *const u8,
-            calls_len: usize,
-            answers: *mut u8,
-            answers_len: usize,
-        ) -> u32;
-    }
-}
-
-fn numbers_of(call: &Call) -> [u64; 3] {
-    match *call {
-        Call::Release { row, cost } => [1, row, cost],
-        Call::Tick => [2, 0, 0],
-    }
-}
-
-fn bytes_of(numbers: impl Iterator<Item = u64>) -> Vec<u8> {
-    numbers.flat_map(u64::to_le_bytes).collect()
-}
-
-fn by_library(table: &[u8], calls: &[Call], random: &mut Random) -> (u32, Vec<u8>) {
-    let mut table = Fenced::around(table, random);
-    let mut spelled = Fenced::around(&bytes_of(calls.iter().flat_map(numbers_of)), random);
-    let mut answers = Fenced::around(&random.bytes((calls.len() + 1) * size_of::<Answer>()), random);
-    let before = [table.clone(), spelled.clone(), answers.clone()];
-    // SAFETY: each pointer and length belong to a buffer of its own, or are null and 0.
-    let count = unsafe {
-        library::trace(table.pointer(), table.len(), spelled.pointer(), spelled.len(), answers.pointer(), answers.len())
-    };
-    assert!(table.same_whole_as(&before[0]) && spelled.same_whole_as(&before[1]));
-    assert!(answers.same_fence_as(&before[2]));
-    (count, answers.content())
-}
 
 /// Makes releases and ticks by turns of random length, so that places fill up and empty again.
 fn random_calls(rows: &[Row], random: &mut Random) -> Vec<Call> {

@@ -2,20 +2,20 @@
 
 const GROUPS: usize = 6;
 
-/// Returns the number at a place and the place after it, or none where it is misspelled, too long or cut off.
-pub fn read(bytes: &[u8], at: usize) -> Option<(u64, usize)> {
+/// Returns the number at a place and the place after it, or the bad byte where it is misspelled, too long or cut off.
+pub fn read(bytes: &[u8], at: usize) -> Result<(u64, usize), usize> {
     let mut value = 0;
     for i in 0..GROUPS {
-        let byte = *bytes.get(at + i)?;
+        let byte = *bytes.get(at + i).ok_or(bytes.len())?;
         value |= u64::from(byte & 127) << (7 * i);
         if byte < 128 {
             if i > 0 && byte == 0 {
-                return None;
+                return Err(at + i);
             }
-            return Some((value, at + i + 1));
+            return Ok((value, at + i + 1));
         }
     }
-    None
+    Err(at + GROUPS - 1)
 }
 
 /// Writes a number at the start of a buffer, and returns the length of its spelling.

@@ -80,7 +80,7 @@ pub fn replay(table: &[u8], script: &[u8], log: &mut [u8]) -> Result<(usize, u64
 }
 
 fn number(script: &[u8], at: &mut usize) -> Result<u64, Refused> {
-    let (value, next) = read(script, *at).ok_or(Refused(14, *at))?;
+    let (value, next) = read(script, *at).map_err(|bad| Refused(14, bad))?;
     *at = next;
     Ok(value)
 }

@@ -4,19 +4,17 @@ use Prim.Native.Nat.{_≤_, _<_}
 use mathlib.Core.Path.{_≡_, refl, sym, ap, ap₂, _∙_}
 use mathlib.Core.Logic.{_⊎_, inl, inr, ⊎-elim}
 use lib.ListN.{length}
-use Rattle.kinds.specs.Numbering.{numbered, refusalNumber, refusedSays, NeverNumberedZero, SaysApart, refusalAt}
+use Rattle.kinds.specs.Numbering.{numbered, refusalNumber, NeverNumberedZero, SaysApart, refusalAt}
 use Rattle.kinds.proofs.Apart.{impossible}
 use Rattle.kinds.proofs.Numbering.{never-zero, refusals-apart, plain-refusals-apart, saidIn}
-use Rattle.numbers.specs.declared.NumberRead.{NumberRead}
 use Rattle.numbers.specs.declared.NumberRead.the-variants as read
 use Rattle.numbers.specs.declared.Written.{Written}
 use Rattle.numbers.specs.declared.Written.the-variants as write
 use Rattle.numbers.specs.Spelling.{maxNumber, spelling}
-use Rattle.numbers.specs.Reading.{readAt}
 use Rattle.numbers.specs.Writing.{written}
 use Rattle.numbers.specs.Answers.{numberSays, writtenSays, NumbersNeverZero, NumbersSaidApart}
 use Rattle.numbers.specs.Answers.{NumberReadSays, RefusedReadSays, NumberWrittenSays, RefusedWriteSays}
-use Rattle.numbers.specs.NumberLaws.{LengthAnswered, RefusalAnswered, LengthOfASpelling, TooBigHasNoLength, NothingPastTheEnd, RefusedAtItsStart}
+use Rattle.numbers.specs.NumberLaws.{LengthAnswered, RefusalAnswered, LengthOfASpelling, TooBigHasNoLength, NothingPastTheEnd}
 use Rattle.numbers.proofs.Spellings as case
 
 -- ---- what each answer says
@@ -88,10 +86,3 @@ too-big-has-no-length n h = ap writtenSays (case.too-big-has-no-length n h)
 
 pub nothing-past-the-end : NothingPastTheEnd
 nothing-past-the-end s at h = ap numberSays (case.nothing-past-the-end s at h)
-
-pub refused-at-its-start : RefusedAtItsStart
-refused-at-its-start s at said e = by-answer (readAt s at) refl e
-  where
-    by-answer : (v : NumberRead) → readAt s at ≡ v → numberSays v ≡ numbered said → said ≡ refusalAt 1 at
-    by-answer (read.Number n) p q = impossible cc
-    by-answer (read.Refused r) p q = sym (ap saidIn q) ∙ ap refusedSays (case.refused-at-its-start s at r p)

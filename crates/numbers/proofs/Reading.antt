@@ -35,14 +35,14 @@ abbrev behind : (value weight : ℕ) → Spelt → Spelt
 behind value weight (number n next) = cond (eqb n 0) (superfluous-zero (next - 1)) (number (value + weight * n) next)
 behind value weight (superfluous-zero place) = superfluous-zero place
 behind value weight (asks-for-more place) = asks-for-more place
-behind value weight (cut-off place) = cut-off place
+behind value weight cut-off = cut-off
 
 -- For one group, `groupBefore` and `behind` say the same.
 before-is-behind : (low : ℕ) (r : Spelt) → groupBefore low r ≡ behind low 128 r
 before-is-behind low (number n next) = refl
 before-is-behind low (superfluous-zero place) = refl
 before-is-behind low (asks-for-more place) = refl
-before-is-behind low (cut-off place) = refl
+before-is-behind low cut-off = refl
 
 -- One group more may be counted among the groups read so far.
 behind-before : (value weight low : ℕ) (r : Spelt) → behind value weight (groupBefore low r) ≡ behind (value + weight * low) (weight * 128) r
@@ -53,7 +53,7 @@ behind-before value weight low (number (suc n) next) =
     simp (ne-eqb (suc n) 0 (λ z. omega arith), e, v)
 behind-before value weight low (superfluous-zero place) = refl
 behind-before value weight low (asks-for-more place) = refl
-behind-before value weight low (cut-off place) = refl
+behind-before value weight low cut-off = refl
 
 -- Where no group is allowed any more, the group before asked for one too many.
 spelt-none : (s : List ℕ) (at : ℕ) → spelt 0 s at ≡ asks-for-more (at - 1)
@@ -61,7 +61,7 @@ unfolding spelt
 spelt-none s at = refl
 
 -- Where the bytes have ended, the number is cut off.
-pub spelt-cut : (most : ℕ) (s : List ℕ) (at : ℕ) → 1 ≤ most → length s ≤ at → spelt most (drop at s) at ≡ cut-off at
+pub spelt-cut : (most : ℕ) (s : List ℕ) (at : ℕ) → 1 ≤ most → length s ≤ at → spelt most (drop at s) at ≡ cut-off
 unfolding spelt
 spelt-cut zero s at l h = absurd (omega arith)
 spelt-cut (suc most) s at l h = rw (drop-of-length-le s h)
@@ -92,7 +92,7 @@ pub record Passed (s : List ℕ) (at value weight groups : ℕ) : Type 0 where
   pub inside : at + groups ≤ length s
   pub weighs : weight ≡ limit groups
   pub below : value < weight
-  pub answers : readAt s at ≡ answered at (behind value weight (spelt (maxGroups - groups) (drop (at + groups) s) (at + groups)))
+  pub answers : readAt s at ≡ answered (length s) (behind value weight (spelt (maxGroups - groups) (drop (at + groups) s) (at + groups)))
 
 -- After a first group that asks for another, one group has been passed.
 pub first-passed : (s : List ℕ) (at : ℕ) → at < length s → 128 ≤ getD s at 0 → getD s at 0 < 256 → Passed s at (getD s at 0 - 128) 128 1
@@ -103,19 +103,22 @@ first-passed s at h l b = record {
   weighs = refl;
   below = omega arith;
   answers =
-      ap (answered at)
+      ap (answered (length s))
       (spelt-more maxGroups s at (omega arith) h l ∙ before-is-behind (getD s at 0 - 128) (spelt (maxGroups - 1) (drop (at + 1) s) (at + 1)));
 }
 
 -- A first byte below 128 is the whole number.
 pub read-one : (s : List ℕ) (at : ℕ) → at < length s → getD s at 0 < 128
     → readAt s at ≡ answer.Number (record { value = getD s at 0; next = at + 1 })
-read-one s at h l = ap (answered at) (spelt-last maxGroups s at (omega arith) h l)
+read-one s at h l = ap (answered (length s)) (spelt-last maxGroups s at (omega arith) h l)
 
 module _ {s : List ℕ} {at value weight groups : ℕ} (p : Passed s at value weight groups) where
   -- Where six groups have been passed, the number is refused, since the sixth asked for more.
-  pub read-too-long : maxGroups ≤ groups → readAt s at ≡ misspelledAt at
-  read-too-long h = p .answers ∙ (let z : maxGroups - groups ≡ 0 = omega arith in rw (z, spelt-none))
+  pub read-too-long : maxGroups ≤ groups → readAt s at ≡ misspelledAt (at + maxGroups - 1)
+  read-too-long h =
+      let none : maxGroups - groups ≡ 0 = omega arith in
+      let all : groups ≡ maxGroups = omega (arith, p .not-too-many) in
+      p .answers ∙ rw (none, spelt-none, all)
 
   module _ (h : groups < maxGroups) where
     -- Where fewer than six groups have been passed, `weight` is at most the weight of a sixth group.
@@ -127,12 +130,14 @@ module _ {s : List ℕ} {at value weight groups : ℕ} (p : Passed s at value we
     group-fits group l = omega (arith, weight-fits, p .below, mul-le-mul-left {m = group} {n = 127} weight (omega arith))
 
     -- Where the bytes have ended, the number is refused as cut off.
-    pub read-cut : length s ≤ at + groups → readAt s at ≡ misspelledAt at
+    pub read-cut : length s ≤ at + groups → readAt s at ≡ misspelledAt (length s)
     read-cut e = p .answers ∙ rw (spelt-cut (maxGroups - groups) s (at + groups) (omega arith) e)
 
     -- Where the next group is zero and the last, it is superfluous, and the number is refused.
-    pub read-zero : at + groups < length s → getD s (at + groups) 0 ≡ 0 → readAt s at ≡ misspelledAt at
-    read-zero e z = p .answers ∙ simp (spelt-last (maxGroups - groups) s (at + groups) (omega arith) e (omega arith), z)
+    pub read-zero : at + groups < length s → getD s (at + groups) 0 ≡ 0 → readAt s at ≡ misspelledAt (at + groups)
+    read-zero e z =
+        let place : at + groups + 1 - 1 ≡ at + groups = omega arith in
+        p .answers ∙ simp (spelt-last (maxGroups - groups) s (at + groups) (omega arith) e (omega arith), z, place)
 
     -- Where the next group is the last and not zero, the number ends with it and is read.
     pub read-last : at + groups < length s → (getD s (at + groups) 0 ≡ 0 → ⊥) → getD s (at + groups) 0 < 128
@@ -154,7 +159,7 @@ module _ {s : List ℕ} {at value weight groups : ℕ} (p : Passed s at value we
           below = omega (arith, p .below, mul-le-mul-left {m = low} {n = 127} weight (omega arith));
           answers =
               p .answers
-              ∙ ap (λ r. answered at (behind value weight r)) (spelt-more (maxGroups - groups) s (at + groups) (omega arith) e l)
-              ∙ ap (answered at) (behind-before value weight low (spelt (maxGroups - groups - 1) (drop (at + groups + 1) s) (at + groups + 1)))
+              ∙ ap (λ r. answered (length s) (behind value weight r)) (spelt-more (maxGroups - groups) s (at + groups) (omega arith) e l)
+              ∙ ap (answered (length s)) (behind-before value weight low (spelt (maxGroups - groups - 1) (drop (at + groups + 1) s) (at + groups + 1)))
               ∙ rw (left, place);
         }

@@ -12,11 +12,10 @@ use lib.Seq.{getD-drop, drop-drop, drop-append-seam}
 use lib.Dec.{ltb, eqb}
 use borrow.Author.Tests.{lt-ltb, le-ltb, le-leb, lt-leb, ne-eqb}
 use Rattle.kinds.specs.declared.Refusal.{Refusal}
-use Rattle.kinds.specs.declared.Refusal.the-variants.{Misspelled, NumberTooBig, NoRoom}
+use Rattle.kinds.specs.declared.Refusal.the-variants.{NumberTooBig, NoRoom}
 use Rattle.kinds.specs.declared.RefusedAt.{RefusedAt}
 use Rattle.kinds.proofs.Apart.{impossible}
 use Rattle.numbers.specs.declared.Number.{Number}
-use Rattle.numbers.specs.declared.NumberRead.{NumberRead}
 use Rattle.numbers.specs.declared.NumberRead.the-variants as answer
 use Rattle.numbers.specs.declared.Written.the-variants.{Length, Refused}
 use Rattle.numbers.specs.Spelling.{maxGroups, maxNumber, groupsOf, spelling}
@@ -33,12 +32,12 @@ largest-number = refl
 -- ---- the groups of a number
 
 -- A number below 128 is one group.
-groups-last : (most n : ℕ) → n < 128 → groupsOf (suc most) n ≡ n ∷ []
+pub groups-last : (most n : ℕ) → n < 128 → groupsOf (suc most) n ≡ n ∷ []
 unfolding groupsOf
 groups-last most n h = simp (lt-ltb n 128 h)
 
 -- A number from 128 on is its lowest group with 128 added, and then the groups of the number divided by 128.
-groups-more : (most n : ℕ) → 128 ≤ n → groupsOf (suc most) n ≡ (n % 128 + 128) ∷ groupsOf most (n / 128)
+pub groups-more : (most n : ℕ) → 128 ≤ n → groupsOf (suc most) n ≡ (n % 128 + 128) ∷ groupsOf most (n / 128)
 unfolding groupsOf
 groups-more most n h = simp (le-ltb n 128 h)
 
@@ -78,7 +77,7 @@ pub spelling-length : SpellingLength
 spelling-length n = (groups-some (maxGroups - 1) n, groups-most maxGroups n)
 
 -- A byte put in front of bytes gives bytes.
-bytes-cons : (b : ℕ) (s : List ℕ) → b < 256 → Bytes s → Bytes (b ∷ s)
+pub bytes-cons : (b : ℕ) (s : List ℕ) → b < 256 → Bytes s → Bytes (b ∷ s)
 bytes-cons b s h k zero = h
 bytes-cons b s h k (suc i) = k i
 
@@ -175,7 +174,7 @@ before-inverse low n next (number (suc m) k) e =
     (suc m, cc, cc, omega arith)
 before-inverse low n next (superfluous-zero k) e = impossible cc
 before-inverse low n next (asks-for-more k) e = impossible cc
-before-inverse low n next (cut-off k) e = impossible cc
+before-inverse low n next cut-off e = impossible cc
 
 -- A number that is read in at most `most` groups is below `limit most`.
 spelt-small : (most : ℕ) (s : List ℕ) (at n next : ℕ) → Bytes s → spelt most s at ≡ number n next → n < limit most
@@ -193,7 +192,7 @@ spelt-small (suc most) (b ∷ s) at n next h e = elim (decLe 128 b) [
 ]
 
 -- A number that is read takes at least one byte, and ends within the bytes.
-spelt-within : (most : ℕ) (s : List ℕ) (at n next : ℕ) → spelt most s at ≡ number n next → (at < next) × (next ≤ at + length s)
+pub spelt-within : (most : ℕ) (s : List ℕ) (at n next : ℕ) → spelt most s at ≡ number n next → (at < next) × (next ≤ at + length s)
 unfolding spelt
 spelt-within zero s at n next e = impossible cc
 spelt-within (suc most) [] at n next e = impossible cc
@@ -230,20 +229,20 @@ spelt-is-groups (suc most) (b ∷ s) at n next h e = elim (decLe 128 b) [
 ]
 
 -- Where the reader answers a number, the bytes spelled that number.
-answered-number : (start : ℕ) (r : Spelt) (k : Number) → answered start r ≡ answer.Number k → r ≡ number (k .value) (k .next)
-answered-number start (number n next) k e = let v : n ≡ k .value = cc in let w : next ≡ k .next = cc in cc
-answered-number start (superfluous-zero place) k e = impossible cc
-answered-number start (asks-for-more place) k e = impossible cc
-answered-number start (cut-off place) k e = impossible cc
+answered-number : (end : ℕ) (r : Spelt) (k : Number) → answered end r ≡ answer.Number k → r ≡ number (k .value) (k .next)
+answered-number end (number n next) k e = let v : n ≡ k .value = cc in let w : next ≡ k .next = cc in cc
+answered-number end (superfluous-zero place) k e = impossible cc
+answered-number end (asks-for-more place) k e = impossible cc
+answered-number end cut-off k e = impossible cc
 
 -- Where a number is read, the place right after it is above its start, and at most the length of the bytes.
 pub read-within : (s : List ℕ) (at : ℕ) (k : Number) → readAt s at ≡ answer.Number k → (at < k .next) × (k .next ≤ length s)
 read-within s at k e =
-    let w = spelt-within maxGroups (drop at s) at (k .value) (k .next) (answered-number at (spelt maxGroups (drop at s) at) k e) in
+    let w = spelt-within maxGroups (drop at s) at (k .value) (k .next) (answered-number (length s) (spelt maxGroups (drop at s) at) k e) in
     omega (arith, w, length-drop at s)
 
 -- Where the spelling of a number in range stands at a place, and `next` is the place right after it, everything that `Spelled` says holds.
-spelled-rest : (s rest : List ℕ) (at : ℕ) (k : Number) → k .value ≤ maxNumber → drop at s ≡ spelling (k .value) ++ rest
+pub spelled-rest : (s rest : List ℕ) (at : ℕ) (k : Number) → k .value ≤ maxNumber → drop at s ≡ spelling (k .value) ++ rest
     → k .next ≡ at + length (spelling (k .value)) → Spelled s at k
 spelled-rest s rest at k h d e =
     let room : length s - at ≡ length (spelling (k .value)) + length rest = rw (← length-drop, d, length-append) in
@@ -258,24 +257,13 @@ spelled-rest s rest at k h d e =
 pub number-has-one-spelling : NumberHasOneSpelling
 number-has-one-spelling s at k h e =
     let b : Bytes (drop at s) = λ i. rw getD-drop (h (at + i)) in
-    let n = answered-number at (spelt maxGroups (drop at s) at) k e in
+    let n = answered-number (length s) (spelt maxGroups (drop at s) at) k e in
     let r = spelt-is-groups maxGroups (drop at s) at (k .value) (k .next) b n in
     spelled-rest s (r .0) at k (omega (arith, spelt-small maxGroups (drop at s) at (k .value) (k .next) b n)) (r .1) (r .2)
 
 -- A place at the end of the bytes or past it is refused with 1, at that place.
-pub nothing-past-the-end : (s : List ℕ) (at : ℕ) → length s ≤ at → readAt s at ≡ misspelledAt at
+pub nothing-past-the-end : (s : List ℕ) (at : ℕ) → length s ≤ at → readAt s at ≡ misspelledAt (length s)
 nothing-past-the-end s at h = rw (spelt-cut maxGroups s at (omega arith) h)
-
--- Each fault is answered with refusal 1, at the number's start.
-answered-refused : (start : ℕ) (r : Spelt) (q : RefusedAt) → answered start r ≡ answer.Refused q → q ≡ record { refusal = Misspelled; place = start }
-answered-refused start (number n next) q e = impossible cc
-answered-refused start (superfluous-zero place) q e = cc
-answered-refused start (asks-for-more place) q e = cc
-answered-refused start (cut-off place) q e = cc
-
--- Whatever the reader refuses it refuses with 1, at the number's start.
-pub refused-at-its-start : (s : List ℕ) (at : ℕ) (r : RefusedAt) → readAt s at ≡ answer.Refused r → r ≡ record { refusal = Misspelled; place = at }
-refused-at-its-start s at r e = answered-refused at (spelt maxGroups (drop at s) at) r e
 
 module _ {s : List ℕ} {at : ℕ} where
   -- Where the spelling of a number stands at a place, the reader reads that number.
@@ -283,14 +271,6 @@ module _ {s : List ℕ} {at : ℕ} where
   spelled-read {n} p =
       read-here s at (n .value) (drop (n .next) s) (p .in-range) (p .stands-here)
       ∙ ap (λ next. answer.Number (record { value = n .value; next = next })) (sym (p .ends))
-
-  -- Where no number's spelling stands at a place, the reader refuses the place with 1.
-  pub none-read : Bytes s → NoNumber s at → readAt s at ≡ misspelledAt at
-  none-read b none = go (readAt s at) refl
-    where
-      go : (v : NumberRead) → readAt s at ≡ v → v ≡ misspelledAt at
-      go (answer.Number n) e = absurd (none n (number-has-one-spelling s at n b e))
-      go (answer.Refused r) e = ap answer.Refused (refused-at-its-start s at r e)
 
   -- Where the reader refuses a place, no number's spelling stands there.
   pub refused-none : {r : RefusedAt} → readAt s at ≡ answer.Refused r → NoNumber s at

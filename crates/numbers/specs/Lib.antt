@@ -4,3 +4,4 @@ pub mod Writing
 pub mod SpelledNumbers
 pub mod NumberLaws
 pub mod Answers
+pub mod BadByte

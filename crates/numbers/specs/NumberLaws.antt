@@ -63,10 +63,6 @@ SpelledInBytes = (n : ℕ) → Bytes (spelling n)
 abbrev pub SpellingsDiffer : Type 0
 SpellingsDiffer = (m n : ℕ) (s t : List ℕ) → m ≤ maxNumber → n ≤ maxNumber → spelling m ++ s ≡ spelling n ++ t → (m ≡ n) × (s ≡ t)
 
--- A place at the end of the bytes or past it is refused with 1, at the place that was handed in. (2.8, 2.9)
+-- A place at the end or past it is refused with 1, at the length of the bytes. (2.8, 2.9)
 abbrev pub NothingPastTheEnd : Type 0
-NothingPastTheEnd = (s : List ℕ) (at : ℕ) → length s ≤ at → numberSays (readAt s at) ≡ refusedWith 1 at
-
--- Whatever the reader refuses it refuses with 1, at the place that was handed in, which is the number's start. (2.7, 2.9)
-abbrev pub RefusedAtItsStart : Type 0
-RefusedAtItsStart = (s : List ℕ) (at : ℕ) (said : Said) → numberSays (readAt s at) ≡ numbered said → said ≡ refusalAt 1 at
+NothingPastTheEnd = (s : List ℕ) (at : ℕ) → length s ≤ at → numberSays (readAt s at) ≡ refusedWith 1 (length s)

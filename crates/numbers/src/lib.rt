@@ -59,12 +59,13 @@ fn misspelled(place: usize) -> NumberRead
     })
 }
 
-// Reads the number that starts at a place. Answers its value and the place right after it, or refusal 1 at the place where it starts. (2.6 to 2.9)
+// The number at a place and the place after it, or refusal 1 at the bad byte: the superfluous zero group, the sixth group that asks for more, or the end of the
+// bytes where the number is cut off. (2.7, 2.8)
 pub fn read(bytes: &[u8], at: usize) -> NumberRead
     ensures { λ r. ⌜ r ≡ readAt (now (bytes .entry)) at ⌝ }
 {
     if at >= bytes.len() {
-        return misspelled(at);
+        return misspelled(bytes.len());
     }
     let first = bytes[at] as u64;
     if first < 128 {
@@ -79,11 +80,11 @@ pub fn read(bytes: &[u8], at: usize) -> NumberRead
     while groups < Number::MAX_GROUPS {
         let i = at + groups;
         if i >= bytes.len() {
-            return misspelled(at);
+            return misspelled(bytes.len());
         }
         let group = bytes[i] as u64;
         if group == 0 {
-            return misspelled(at);
+            return misspelled(i);
         }
         if group < 128 {
             return NumberRead::Number(Number {
@@ -95,7 +96,7 @@ pub fn read(bytes: &[u8], at: usize) -> NumberRead
         weight *= 128;
         groups += 1;
     }
-    misspelled(at)
+    misspelled(at + Number::MAX_GROUPS - 1)
 }
 
 // The length in bytes of the spelling of a number of at most 2^42 − 1.

@@ -11,3 +11,4 @@ pub mod WholePlays
 pub mod Lengths
 pub mod Refusing
 pub mod Stopping
+pub mod BadBytes

@@ -1,6 +1,6 @@
 -- What one record of a script does to a play: the first test that the record does not pass stops it, or the record's job is accepted. (docs/RULES.md, sections
 -- 8.2 and 8.5.)
-use Prim.Native.Nat.{ℕ, _+_, _-_, _≤_, _<_}
+use Prim.Native.Nat.{ℕ, _+_, _-_, _<_}
 use mathlib.Core.Path.{_≡_, refl, sym, ap, ap₂, subst, _∙_}
 use mathlib.Core.Logic.{_⊎_}
 use mathlib.Core.List.{List}
@@ -14,8 +14,9 @@ use Rattle.kinds.proofs.Apart.{impossible}
 use Rattle.kinds.proofs.Numbering.{numbers-differ}
 use Rattle.numbers.specs.declared.Number.{Number}
 use Rattle.numbers.specs.declared.NumberRead.the-variants as number
-use Rattle.numbers.specs.Reading.{readAt}
-use Rattle.numbers.proofs.Spellings.{read-within}
+use Rattle.numbers.specs.Reading.{readAt, misspelledAt}
+use Rattle.numbers.specs.Answers.{numberSays}
+use Rattle.numbers.proofs.Answers.{numbers-said-apart}
 use Rattle.table.specs.declared.Table.{Table}
 use Rattle.table.specs.Tables.{rowsOf}
 use Rattle.table.specs.Costs.{costLimits}
@@ -28,7 +29,7 @@ use Rattle.run.specs.ManyTicks.{ticks}
 use Rattle.run.specs.Answers.{refused, releaseSays}
 use Rattle.run.proofs.Answers.{runs-said-apart}
 use Rattle.script.specs.Records.{scriptNumber}
-use Rattle.script.proofs.Records.{number-stands, number-unreadable, number-read}
+use Rattle.script.proofs.Records.{number-stands, number-misspelled, number-refused-there, number-read}
 use Rattle.records.specs.declared.Numbers.{Numbers}
 use Rattle.records.specs.declared.Ready.{Ready}
 use Rattle.records.specs.declared.Tested.{Tested}
@@ -54,12 +55,13 @@ limit-of-row t row h = limit-is-its-c t row (omega (arith, length-take (t .count
 
 -- ---- numbers of a script
 
--- Where the number of a script at a place is refused, no number can be read there, and the refusal is 14 at that place.
-unread : (s : List ℕ) (at : ℕ) → at ≤ length s → (r : RefusedAt) → scriptNumber s at ≡ number.Refused r
-    → Unreadable s at × (r ≡ record { refusal = ScriptMisspelled; place = at })
-unread s at h r e =
-    let none : Unreadable s at = λ n f. let there = number-stands s at f in impossible cc in
-    (none, let so = number-unreadable s at h none in cc)
+-- A number of a script that was refused can't be read, and is refused with 14 where the number reader refuses it.
+unread : (s : List ℕ) (at : ℕ) (r : RefusedAt) → scriptNumber s at ≡ number.Refused r → Unreadable s at (r .place) × (r .refusal ≡ ScriptMisspelled)
+unread s at r e = let w = number-refused-there s at e in (ap numberSays (w .1), w .0)
+
+-- A number that can't be read is refused with 14, where the number reader refuses it.
+unread-stands : (s : List ℕ) (at place : ℕ) → Unreadable s at place → scriptNumber s at ≡ number.Refused (record { refusal = ScriptMisspelled; place = place })
+unread-stands s at place e = number-misspelled s at (numbers-said-apart .0 (readAt s at) (misspelledAt place) e)
 
 -- Where a release says a refusal's number, it was refused with that refusal.
 pub said-refused : (a : Released) {n : ℕ} → releaseSays a ≡ refused n 0 → (r : Refusal) × (a ≡ release.Refused r) × (refusalNumber r ≡ n)
@@ -158,49 +160,37 @@ module _ (s : List ℕ) (at : ℕ) (p : Progress) where
         allowed = rw (limit-of-row table (row .value) (c .row-passed .in-use)) (c .allowed);
         asks-for = refl;
       })
+      -- Where a test refuses the record's numbers, the rules of a record refuse it.
 
-  module _ (inside : at ≤ length s) where
-    -- A number that can't be read is refused with 14, at its start.
-    unread-stands : (place : ℕ) → place ≤ length s → Unreadable s place
-        → scriptNumber s place ≡ number.Refused (record { refusal = ScriptMisspelled; place = place })
-    unread-stands place h none = number-unreadable s place h none
+  numbers-refused : {k place : ℕ} → NumbersRefused limits time its k place → RecordRefused s at p k place
+  numbers-refused (NumbersRefused.no-gap r e) = let u = unread s at r e in rw (u .1) (no-gap (u .0))
+  numbers-refused (NumbersRefused.too-late gap e late) = too-late gap (number-read s at gap e) late
+  numbers-refused (NumbersRefused.no-row-number gap f r e) =
+      let g = gap-passed f in
+      let u = unread s (gap .next) r (sym (row-there (f .gap-read) .1) ∙ e) in
+      rw (u .1) (no-row-number gap g (u .0))
+  numbers-refused (NumbersRefused.no-such-row gap row f e unused) =
+      rw (row-there (f .gap-read) .0)
+      (no-such-row gap row (gap-passed f) (number-read s (gap .next) row (row-read (f .gap-read) e)) (omega (arith, limits-of-rows table)))
+  numbers-refused (NumbersRefused.no-cost gap row f r e) =
+      let q = row-passed f in
+      let g = f .gap-fits .gap-read in
+      let u = unread s (row .next) r (sym (cost-there g (row-read g (f .row-read)) .1) ∙ e) in
+      rw (u .1) (no-cost gap row q (u .0))
+  numbers-refused (NumbersRefused.cost-out-of-range gap row cost f e out) =
+      let q = row-passed f in
+      let g = f .gap-fits .gap-read in
+      let above : (cost .value < 1) ⊎ (costLimit table (row .value) < cost .value) = rw (limit-of-row table (row .value) (q .in-use)) at out in
+      rw (cost-there g (row-read g (f .row-read)) .0)
+      (cost-out-of-range gap row cost q (number-read s (row .next) cost (cost-read f e)) above)
+      -- Where a test refuses the record's numbers, the play stops.
 
-    gap-within : {gap : Number} → GapPassed s at p gap → gap .next ≤ length s
-    gap-within {gap} g = read-within s at gap (g .read) .1
-
-    row-within : {gap row : Number} → RowPassed s at p gap row → row .next ≤ length s
-    row-within {gap} {row} q = read-within s (gap .next) row (q .read) .1
-
-    -- Where a test refuses the record's numbers, the rules of a record refuse it.
-    numbers-refused : {k place : ℕ} → NumbersRefused limits time its k place → RecordRefused s at p k place
-    numbers-refused (NumbersRefused.no-gap r e) = let u = unread s at inside r e in rw (u .1) (no-gap (u .0))
-    numbers-refused (NumbersRefused.too-late gap e late) = too-late gap (number-read s at gap e) late
-    numbers-refused (NumbersRefused.no-row-number gap f r e) =
-        let g = gap-passed f in
-        let u = unread s (gap .next) (gap-within g) r (sym (row-there (f .gap-read) .1) ∙ e) in
-        rw (u .1) (no-row-number gap g (u .0))
-    numbers-refused (NumbersRefused.no-such-row gap row f e unused) =
-        rw (row-there (f .gap-read) .0)
-        (no-such-row gap row (gap-passed f) (number-read s (gap .next) row (row-read (f .gap-read) e)) (omega (arith, limits-of-rows table)))
-    numbers-refused (NumbersRefused.no-cost gap row f r e) =
-        let q = row-passed f in
-        let g = f .gap-fits .gap-read in
-        let u = unread s (row .next) (row-within q) r (sym (cost-there g (row-read g (f .row-read)) .1) ∙ e) in
-        rw (u .1) (no-cost gap row q (u .0))
-    numbers-refused (NumbersRefused.cost-out-of-range gap row cost f e out) =
-        let q = row-passed f in
-        let g = f .gap-fits .gap-read in
-        let above : (cost .value < 1) ⊎ (costLimit table (row .value) < cost .value) = rw (limit-of-row table (row .value) (q .in-use)) at out in
-        rw (cost-there g (row-read g (f .row-read)) .0)
-        (cost-out-of-range gap row cost q (number-read s (row .next) cost (cost-read f e)) above)
-
-    -- Where a test refuses the record's numbers, the play stops.
-    refused-stops : {k place : ℕ} → NumbersRefused limits time its k place
-        → (r : RefusedAt) × (stepped p its ≡ stops r) × (refusalNumber (r .refusal) ≡ k) × (r .place ≡ place)
-    unfolding stepped
-    refused-stops n =
-        let found = refused-so limits time its n in
-        (found .0, ap (afterTests at p) (found .1), found .2, found .3)
+  refused-stops : {k place : ℕ} → NumbersRefused limits time its k place
+      → (r : RefusedAt) × (stepped p its ≡ stops r) × (refusalNumber (r .refusal) ≡ k) × (r .place ≡ place)
+  unfolding stepped
+  refused-stops n =
+      let found = refused-so limits time its n in
+      (found .0, ap (afterTests at p) (found .1), found .2, found .3)
 
   -- `there` is the play at the record's script time, and `said` is what the release answers there.
   abbrev there : Number → Progress
@@ -242,15 +232,15 @@ module _ (s : List ℕ) (at : ℕ) (p : Progress) where
   by-release gap row cost passed (release.Refused r) e = release-refused gap row cost passed (refusalNumber r) (ap releaseSays e)
 
   -- The tests come in their order, and then the release. There is no other way for a record to stop a play.
-  pub step-means : at ≤ length s → SteppedSo (stepped p its)
+  pub step-means : SteppedSo (stepped p its)
   unfolding stepped
-  step-means inside = by-tests (testedNumbers table time its) (tests-mean limits time its)
+  step-means = by-tests (testedNumbers table time its) (tests-mean limits time its)
     where
       by-tests : (v : Tested) → TestedSo limits time its v → SteppedSo (afterTests at p v)
       by-tests (tested.Ready r) w =
           rw (w .asks-for)
           (subst SteppedSo (sym (after-ready (w .gap) (w .row) (w .cost))) (by-release (w .gap) (w .row) (w .cost) (cost-passed w) _ refl))
-      by-tests (tested.Refused r) n = numbers-refused inside n
+      by-tests (tested.Refused r) n = numbers-refused n
 
   -- The play goes on where the record's job is accepted.
   taken-goes-on : (q : Progress) (next : ℕ) → RecordTaken s at p q next → stepped p its ≡ goes-on q next
@@ -262,40 +252,40 @@ module _ (s : List ℕ) (at : ℕ) (p : Progress) where
       ∙ rw (← (w .run-then), ← (w .late-then), ← (w .finished-then), ← (w .one-job-more), ← (w .right-after))
 
   -- The play stops where the record is refused, with the same number and place.
-  stops-where : at ≤ length s → {n place : ℕ} → RecordRefused s at p n place
+  stops-where : {n place : ℕ} → RecordRefused s at p n place
       → (r : RefusedAt) × (stepped p its ≡ stops r) × (refusalNumber (r .refusal) ≡ n) × (r .place ≡ place)
-  stops-where inside (no-gap none) = refused-stops inside (NumbersRefused.no-gap _ (unread-stands inside at inside none))
-  stops-where inside (too-late gap e late) = refused-stops inside (NumbersRefused.too-late gap (number-stands s at e) late)
-  stops-where inside (no-row-number gap g none) =
+  stops-where (no-gap none) = refused-stops (NumbersRefused.no-gap _ (unread-stands s at _ none))
+  stops-where (too-late gap e late) = refused-stops (NumbersRefused.too-late gap (number-stands s at e) late)
+  stops-where (no-row-number gap g none) =
       let f = gap-fits g in
-      refused-stops inside
-      (NumbersRefused.no-row-number gap f _ (row-there (f .gap-read) .1 ∙ unread-stands inside (gap .next) (gap-within inside g) none))
-  stops-where inside (no-such-row gap row g e unused) =
+      refused-stops
+      (NumbersRefused.no-row-number gap f _ (row-there (f .gap-read) .1 ∙ unread-stands s (gap .next) _ none))
+  stops-where (no-such-row gap row g e unused) =
       let f = gap-fits g in
-      let found = refused-stops inside
+      let found = refused-stops
       (NumbersRefused.no-such-row gap row f (row-there (f .gap-read) .1 ∙ number-stands s (gap .next) e) (omega (arith, limits-of-rows table))) in
       (found .0, found .1, found .2, found .3 ∙ row-there (f .gap-read) .0)
-  stops-where inside (no-cost gap row q none) =
+  stops-where (no-cost gap row q none) =
       let f = row-fits q in
       let g = f .gap-fits .gap-read in
-      refused-stops inside
+      refused-stops
       (NumbersRefused.no-cost gap row f _
-      (cost-there g (row-read g (f .row-read)) .1 ∙ unread-stands inside (row .next) (row-within inside q) none))
-  stops-where inside (cost-out-of-range gap row cost q e out) =
+      (cost-there g (row-read g (f .row-read)) .1 ∙ unread-stands s (row .next) _ none))
+  stops-where (cost-out-of-range gap row cost q e out) =
       let f = row-fits q in
       let g = f .gap-fits .gap-read in
       let above : (cost .value < 1) ⊎ (getD limits (row .value) 0 < cost .value) = rw (limit-of-row table (row .value) (q .in-use)) out in
-      let found = refused-stops inside (NumbersRefused.cost-out-of-range gap row cost f (cost-stands f e) above) in
+      let found = refused-stops (NumbersRefused.cost-out-of-range gap row cost f (cost-stands f e) above) in
       (found .0, found .1, found .2, found .3 ∙ cost-there g (row-read g (f .row-read)) .0)
-  stops-where inside (release-refused gap row cost q number e) =
+  stops-where (release-refused gap row cost q number e) =
       let r = said-refused (said gap row cost) e in
       (record { refusal = r .0; place = at }, reaches-release q ∙ ap (afterRelease at (ready gap row cost) (there gap)) (r .1), r .2, refl)
 
 pub record-stops : RecordStops
-record-stops s at p r inside = (
-  λ e. subst (SteppedSo s at p) e (step-means s at p inside),
+record-stops s at p r = (
+  λ e. subst (SteppedSo s at p) e (step-means s at p),
   λ refused.
-      let found = stops-where s at p inside refused in
+      let found = stops-where s at p refused in
       found .1 ∙ ap stops (same-refusal (found .0) r (found .2) (found .3)),
 )
 

@@ -8,7 +8,8 @@ use native.Mathlib.Omega.{arith}
 use lib.Dec.{leb, ltb}
 use lib.ListN.{length}
 use borrow.Author.Tests.{eq-eqb, ne-eqb}
-use Rattle.kinds.specs.Numbering.{maxTime}
+use Rattle.kinds.specs.Numbering.{maxTime, refusalNumber}
+use Rattle.kinds.specs.declared.Refusal.{Refusal}
 use Rattle.kinds.specs.declared.Refusal.the-variants.{TimeTooLate}
 use Rattle.kinds.specs.declared.RefusedAt.{RefusedAt}
 use Rattle.numbers.specs.SpelledNumbers.{Bytes}
@@ -38,6 +39,7 @@ use Rattle.run.specs.Runs.{freshRun, rowAt, keptOf}
 use Rattle.run.specs.Sound.{soundOf}
 use Rattle.run.specs.Release.{atDue, atCost, released}
 use Rattle.run.specs.ManyTicks.{ticks}
+use Rattle.run.specs.Answers.{ReleaseSays, releaseSays}
 use Rattle.run.proofs.Ticking.{Good}
 use Rattle.run.proofs.ManyTicks.{ticks-keep-good}
 use Rattle.run.proofs.Release.{release-keeps-sound}
@@ -63,7 +65,7 @@ passed-forward : (s : List ℕ) (at : ℕ) (p : Progress) (gap row cost : Number
     → (at < cost .next) × (cost .next ≤ length s)
 passed-forward s at p gap row cost bytes inside passed =
     let found : RecordAt = record { release = record { gap = gap .value; row = record { 0 = row .value }; cost = cost .value }; next = cost .next } in
-    let there : recordAt s at ≡ read.Record found = record-read s at inside gap (number-stands s at (passed .row-passed .gap-passed .read))
+    let there : recordAt s at ≡ read.Record found = record-read s at (λ z. omega arith) gap (number-stands s at (passed .row-passed .gap-passed .read))
     row (number-stands s (gap .next) (passed .row-passed .read)) cost (number-stands s (row .next) (passed .read)) in
     let spelled = record-is-spelled s at found bytes there in
     (spelled .forward, spelled .within)
@@ -138,7 +140,7 @@ unfolding played
 stopped-for t s r bytes (the-table e) = rw (tables-said-apart (tableRead t .answer) (answer.Refused r) e)
 stopped-for t s r bytes (a-record at p c more refused) =
     let rest = comes-to t s at p bytes c in
-    record-stops-it t s at p r rest more (record-stops s at p r (rest .inside) .1 refused)
+    record-stops-it t s at p r rest more (record-stops s at p r .1 refused)
 stopped-for t s r bytes (the-clock p c some ten place) =
     at-the-end t s p bytes c ∙ clock-stops-it (length s) p some ∙ ap stopped (same-refusal _ r (sym ten) (sym place))
 
@@ -158,7 +160,7 @@ module _ (t s : List ℕ) (bytes : Bytes s) where
   step-ends : (at : ℕ) (p : Progress) → ComesTo t s at p → at ≤ length s → at ≢ length s → (k : Progress → (next : ℕ) → Played) (x : Step) → stepped p (numbersAt s at) ≡ x
       → ((q : Progress) (next : ℕ) → stepped p (numbersAt s at) ≡ goes-on q next → EndsSo (k q next)) → EndsSo (andThen x k)
   step-ends at p c inside more k (goes-on q next) e rest = rest q next e
-  step-ends at p c inside more k (stops r) e rest = a-record at p c more (record-stops s at p r inside .0 e)
+  step-ends at p c inside more k (stops r) e rest = a-record at p c more (record-stops s at p r .0 e)
 
   script-ends : (n at : ℕ) (p : Progress) → ComesTo t s at p → at ≤ length s → length s ≤ at + n → EndsSo (playedFrom n s at p)
   unfolding playedFrom
@@ -190,21 +192,25 @@ whole-means t s q bytes = (
 
 -- ---- the refusals that stop a play
 
--- An answer is no refusal, or it is one that can stop a play.
+-- A refusal is numbered 2 to 10.
+abbrev TwoToTen : Refusal → Type 0
+TwoToTen r = (2 ≤ refusalNumber r) × (refusalNumber r ≤ 10)
+
+-- Each answer that may be a refusal: if it is, it is numbered 2 to 10.
 abbrev DueStops : Due → Type 0
 DueStops (due.At t) = Unit {0}
-DueStops (due.Refused r) = CanStop r
+DueStops (due.Refused r) = TwoToTen r
 
 abbrev ReleaseStops : Released → Type 0
 ReleaseStops (release.Accepted a) = Unit {0}
-ReleaseStops (release.Refused r) = CanStop r
+ReleaseStops (release.Refused r) = TwoToTen r
 
--- The refusals of a due time are among those that can stop a play.
+-- A due time that is refused is refused with 2 to 10.
 due-stops : (k : Kept) (r : Row) (t cost : ℕ) → DueStops (dueOf k r t cost)
 unfolding dueOf
 due-stops k r t cost = by-test (rowInRange r)
-    (λ y. rw y (by-test (leb (dueTime (r .x) (r .y) (r .d) (earlier k) t) maxTime) (λ y₂. rw y₂ tt) (λ no. rw no (inl (omega arith)))))
-    (λ no. rw no (inl (omega arith)))
+    (λ y. rw y (by-test (leb (dueTime (r .x) (r .y) (r .d) (earlier k) t) maxTime) (λ y₂. rw y₂ tt) (λ no. rw no (omega arith, omega arith))))
+    (λ no. rw no (omega arith, omega arith))
 
 release-stops : (run : Run) (row cost : ℕ) → soundOf run ≡ true → ReleaseStops (released run row cost .answer)
 unfolding released
@@ -215,19 +221,28 @@ release-stops run row cost sound = rw sound (by-cost _ (cost-tested (costLimits 
     by-due (due.Refused r) h = h
 
     by-cost : (a : CostAnswer) → CostTested (costLimits (run .table)) row cost a → ReleaseStops (atCost run row cost a .answer)
-    by-cost a (CostTested.not-in-use h) = inl (omega arith)
-    by-cost a (CostTested.out-of-range h o) = inl (omega arith)
+    by-cost a (CostTested.not-in-use h) = (omega arith, omega arith)
+    by-cost a (CostTested.out-of-range h o) = (omega arith, omega arith)
     by-cost a (CostTested.allowed h l m) = by-test (ltb (run .pending .count) maxPlaces)
         (λ room. rw room (by-due (dueOf (keptOf run row) (rowAt (run .table) row) (run .clock .0) cost) (due-stops _ _ _ _)))
-        (λ full. rw full (inl (omega arith)))
+        (λ full. rw full (omega arith, omega arith))
 
 -- The run of a play is sound at every place that the play comes to.
-comes-sound : (t s : List ℕ) (at : ℕ) (p : Progress) → Bytes t → ComesTo t s at p → Good (p .so-far .run)
+pub comes-sound : (t s : List ℕ) (at : ℕ) (p : Progress) → Bytes t → ComesTo t s at p → Good (p .so-far .run)
 comes-sound t s at p table (begins period e) = started-is-sound t table
 comes-sound t s at p table (goes-further {at = from} {p = before} c more q next e) =
     let w = record-goes-on s from before q next .0 e in
     let sound = ticks-keep-good (w .gap .value) (before .so-far) (comes-sound t s from before table c) in
     rw (w .run-then) (release-keeps-sound (ticks (w .gap .value) (before .so-far) .run) (w .row .value) (w .cost .value) (sound .1) (sound .0))
+
+-- A release at a record's time that is refused is refused with 2 to 10.
+pub release-two-to-ten : (p : Progress) (gap row cost number : ℕ) → Good (p .so-far .run)
+    → releaseSays (released (ticks gap (p .so-far) .run) row cost .answer) ≡ ReleaseSays.refused number 0 → (2 ≤ number) × (number ≤ 10)
+release-two-to-ten p gap row cost number good e =
+    let run = ticks gap (p .so-far) .run in
+    let r = said-refused (released run row cost .answer) e in
+    let so : TwoToTen (r .0) = subst ReleaseStops (r .1) (release-stops run row cost (ticks-keep-good gap (p .so-far) good .0)) in
+    rw (r .2) at so
 
 -- The refusals of a record are among those that can stop a play.
 record-can-stop : (s : List ℕ) (at : ℕ) (p : Progress) {n place : ℕ} → Good (p .so-far .run) → RecordRefused s at p n place → (n ≤ 10) ⊎ (n ≡ 14)
@@ -238,10 +253,7 @@ record-can-stop s at p good (no-such-row gap row g e unused) = inl (omega arith)
 record-can-stop s at p good (no-cost gap row q none) = inr refl
 record-can-stop s at p good (cost-out-of-range gap row cost q e out) = inl (omega arith)
 record-can-stop s at p good (release-refused gap row cost q number e) =
-    let run = ticks (gap .value) (p .so-far) .run in
-    let r = said-refused (released run (row .value) (cost .value) .answer) e in
-    let stops-it : CanStop (r .0) = subst ReleaseStops (r .1) (release-stops run (row .value) (cost .value) (ticks-keep-good (gap .value) (p .so-far) good .0)) in
-    rw (r .2) at stops-it
+    inl (release-two-to-ten p (gap .value) (row .value) (cost .value) number good e .1)
 
 stops-so : (t s : List ℕ) (r : RefusedAt) → Bytes t → StoppedFor t s r → CanStop (r .refusal)
 stops-so t s r table (the-table e) =

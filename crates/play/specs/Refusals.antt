@@ -10,6 +10,7 @@ use Rattle.kinds.specs.declared.RefusedAt.{RefusedAt}
 use Rattle.numbers.specs.declared.Number.{Number}
 use Rattle.numbers.specs.declared.NumberRead.the-variants as number
 use Rattle.numbers.specs.Reading.{readAt}
+use Rattle.numbers.specs.Answers.{numberSays}
 use Rattle.table.specs.Tables.{tableRead, rowsOf}
 use Rattle.table.specs.Answers.{tableSays}
 use Rattle.run.specs.Runs.{freshRun, costLimit}
@@ -41,18 +42,18 @@ pub record CostPassed (s : List ℕ) (at : ℕ) (p : Progress) (gap row cost : N
   pub some-cost : 1 ≤ cost .value
   pub allowed : cost .value ≤ costLimit (p .so-far .run .table) (row .value)
 
--- No number can be read at a place of the script. (7.6)
-abbrev pub Unreadable : List ℕ → (at : ℕ) → Type 0
-Unreadable s at = (n : Number) → readAt s at ≢ number.Number n
+-- No number can be read that starts at `at`: the number reader refuses it with 1, at its bad byte, which is at `place`. (2.7)
+abbrev pub Unreadable : List ℕ → (at place : ℕ) → Type 0
+Unreadable s at place = numberSays (readAt s at) ≡ refusedWith 1 place
 
 -- The record at a place is refused with a number and a place, by the first test that it does not pass. (8.5)
 pub data RecordRefused (s : List ℕ) (at : ℕ) (p : Progress) : (number place : ℕ) → Type 0 where
-  no-gap : Unreadable s at → RecordRefused s at p 14 at
+  no-gap : {place : ℕ} → Unreadable s at place → RecordRefused s at p 14 place
   too-late : (gap : Number) → readAt s at ≡ number.Number gap → 2 ^ 40 < p .so-far .run .clock .0 + gap .value → RecordRefused s at p 10 at
-  no-row-number : (gap : Number) → GapPassed s at p gap → Unreadable s (gap .next) → RecordRefused s at p 14 (gap .next)
+  no-row-number : (gap : Number) → GapPassed s at p gap → {place : ℕ} → Unreadable s (gap .next) place → RecordRefused s at p 14 place
   no-such-row : (gap row : Number) → GapPassed s at p gap → readAt s (gap .next) ≡ number.Number row → length (rowsOf (p .so-far .run .table)) ≤ row .value
       → RecordRefused s at p 6 (gap .next)
-  no-cost : (gap row : Number) → RowPassed s at p gap row → Unreadable s (row .next) → RecordRefused s at p 14 (row .next)
+  no-cost : (gap row : Number) → RowPassed s at p gap row → {place : ℕ} → Unreadable s (row .next) place → RecordRefused s at p 14 place
   cost-out-of-range : (gap row cost : Number) → RowPassed s at p gap row → readAt s (row .next) ≡ number.Number cost
       → (cost .value < 1) ⊎ (costLimit (p .so-far .run .table) (row .value) < cost .value) → RecordRefused s at p 7 (row .next)
   -- The release at the record's script time is refused, at the record's start. (8.5, steps 7 and 8)

@@ -1,5 +1,5 @@
 -- The laws of what stops a play and how it comes to its end: each refusal comes exactly where its rule says. (docs/RULES.md, sections 8.1 to 8.7, 8.12 and 10.)
-use Prim.Native.Nat.{ℕ, _-_, _≤_}
+use Prim.Native.Nat.{ℕ, _-_}
 use mathlib.Core.Path.{_≡_}
 use mathlib.Core.Logic.{_↔_}
 use mathlib.Core.List.{List}
@@ -7,15 +7,16 @@ use lib.ListN.{length}
 use Rattle.kinds.specs.Numbering.{refusalNumber}
 use Rattle.kinds.specs.declared.RefusedAt.{RefusedAt}
 use Rattle.numbers.specs.SpelledNumbers.{Bytes}
+use Rattle.numbers.specs.BadByte.{FirstBadByte}
 use Rattle.records.specs.Numbers.{numbersAt}
 use Rattle.play.specs.Play.{Progress, goes-on, stops, stepped, whole, stopped, played}
 use Rattle.play.specs.Refusals.{CanStop, RecordRefused, RecordTaken, ComesTo, atLast, leftAtLast, StoppedFor}
 
--- ---- what is proved about records and plays (proofs/Refusing.antt and Stopping.antt)
+-- ---- what is proved about records and plays (proofs/Refusing.antt, Stopping.antt and BadBytes.antt)
 
--- At any place up to the script's length, the record there stops the play exactly where it is refused, and with the same refusal and place. (8.5, 10.1)
+-- At any place, the record there stops the play exactly where it is refused, and with the same refusal and place. (8.5, 10.1)
 abbrev pub RecordStops : Type 0
-RecordStops = (s : List ℕ) (at : ℕ) (p : Progress) (r : RefusedAt) → at ≤ length s
+RecordStops = (s : List ℕ) (at : ℕ) (p : Progress) (r : RefusedAt)
     → (stepped p (numbersAt s at) ≡ stops r) ↔ RecordRefused s at p (refusalNumber (r .refusal)) (r .place)
 
 -- The play goes on after a record exactly where the record passed its tests and its job was accepted. (8.2, 8.5)
@@ -25,6 +26,14 @@ RecordGoesOn = (s : List ℕ) (at : ℕ) (p q : Progress) (next : ℕ) → (step
 -- A play is stopped with a refusal and a place exactly where a rule gives that refusal there and no test before it refuses. (10.1)
 abbrev pub StoppedMeans : Type 0
 StoppedMeans = (t s : List ℕ) (r : RefusedAt) → Bytes s → (played t s ≡ stopped r) ↔ StoppedFor t s r
+
+-- A play that is stopped with 1 is stopped at the table's first bad byte. (3.8, 8.1)
+abbrev pub StoppedInTheTable : Type 0
+StoppedInTheTable = (t s : List ℕ) (r : RefusedAt) → Bytes t → Bytes s → played t s ≡ stopped r → refusalNumber (r .refusal) ≡ 1 → FirstBadByte t (r .place)
+
+-- A play that is stopped with 14 is stopped at the script's first bad byte. (7.6, 8.5)
+abbrev pub StoppedInTheScript : Type 0
+StoppedInTheScript = (t s : List ℕ) (r : RefusedAt) → Bytes t → Bytes s → played t s ≡ stopped r → refusalNumber (r .refusal) ≡ 14 → FirstBadByte s (r .place)
 
 -- A play comes to its end exactly where it comes to the script's end and nothing is pending after the final ticks. (8.3, 8.7)
 abbrev pub WholeMeans : Type 0

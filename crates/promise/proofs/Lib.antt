@@ -22,3 +22,4 @@ pub mod Examples
 pub mod Spelling
 pub mod Instances
 pub mod Cheats
+pub mod BadByte

@@ -13,3 +13,4 @@ pub mod Examples
 pub mod Spelling
 pub mod Instances
 pub mod Cheats
+pub mod BadByte

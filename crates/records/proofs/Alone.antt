@@ -7,12 +7,11 @@ use mathlib.Core.Bool.{Bool, true, false, cond}
 use mathlib.Core.List.{List, [], _∷_}
 use native.Mathlib.Omega.{arith}
 use native.Mathlib.Decide.{decLe}
-use lib.Dec.{leb, ltb, eqb}
+use lib.Dec.{leb, eqb}
 use lib.ListN.{length, getD}
 use borrow.Author.Tests.{le-leb, lt-leb}
 use Rattle.kinds.specs.Numbering.{Says, maxTime, values, refusedWith}
 use Rattle.kinds.specs.declared.Refusal.{Refusal}
-use Rattle.kinds.specs.declared.RefusedAt.{RefusedAt}
 use Rattle.kinds.specs.declared.Refusal.the-variants as refusal
 use Rattle.kinds.proofs.Apart.{impossible}
 use Rattle.kinds.proofs.Numbering.{saidIn}
@@ -191,12 +190,10 @@ number-before : (v : NumberRead) (k : Number → RecordRead) (found : RecordAt) 
 number-before (number.Number n) k found e = (n, refl, e)
 number-before (number.Refused r) k found e = impossible cc
 
--- Where a record was read, its place is not the script's end, and not past it.
-not-ended : (t u : Bool) (r : RefusedAt) (then : RecordRead) (found : RecordAt) → cond t (read.Refused r) (cond u read.End then) ≡ read.Record found
-    → then ≡ read.Record found
-not-ended true u r then found e = impossible cc
-not-ended false true r then found e = impossible cc
-not-ended false false r then found e = e
+-- Where a record was read, the script had not ended.
+not-ended : (t : Bool) (then : RecordRead) (found : RecordAt) → cond t read.End then ≡ read.Record found → then ≡ read.Record found
+not-ended true then found e = impossible cc
+not-ended false then found e = e
 
 -- The row number of a record is read right after the gap, and the cost right after the row number.
 row-after : (s : List ℕ) (at : ℕ) {gap row : Number} → scriptNumber s at ≡ number.Number gap → scriptNumber s (gap .next) ≡ number.Number row
@@ -213,7 +210,7 @@ one-record e = cc
 
 pub tested-in-a-script : TestedInAScript
 tested-in-a-script limits time s at found e =
-    let gap = number-before (scriptNumber s at) _ found (not-ended (ltb (length s) at) (eqb at (length s)) _ _ found e) in
+    let gap = number-before (scriptNumber s at) _ found (not-ended (eqb at (length s)) _ found e) in
     let row = number-before (scriptNumber s (gap .0 .next)) _ found (gap .2) in
     let cost = number-before (scriptNumber s (row .0 .next)) _ found (row .2) in
     tested-alike limits time (numbersAt s at) (gap .0) (row .0) (cost .0) (gap .1) (row-after s at (gap .1) (row .1))

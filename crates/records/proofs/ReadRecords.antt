@@ -2,6 +2,7 @@
 use Prim.Native.Nat.{ℕ, _<_}
 use mathlib.Core.Path.{_≡_, subst}
 use mathlib.Core.List.{List}
+use native.Mathlib.Omega.{arith}
 use lib.ListN.{length}
 use Rattle.numbers.specs.declared.NumberRead.the-variants as number
 use Rattle.script.specs.declared.RecordRead.the-variants as read
@@ -25,4 +26,4 @@ passed-is-read s at inside p =
     let gap : scriptNumber s at ≡ number.Number (p .gap) = p .row-fits .gap-fits .gap-read in
     let row : scriptNumber s (p .gap .next) ≡ number.Number (p .row) = rw gap at (p .row-fits .row-read) in
     let cost : scriptNumber s (p .row .next) ≡ number.Number (p .cost) = rw (gap, row) at (p .cost-read) in
-    rw (p .asks-for) (record-read s at inside (p .gap) gap (p .row) row (p .cost) cost)
+    rw (p .asks-for) (record-read s at (λ z. omega arith) (p .gap) gap (p .row) row (p .cost) cost)

@@ -3,16 +3,17 @@
 use Prim.Native.Nat.{ℕ}
 use mathlib.Core.Path.{_≡_, refl, sym, ap, ap₂, _∙_}
 use native.Mathlib.Omega.{arith}
-use Rattle.kinds.specs.Numbering.{Said, numbered, refusedSays, NeverNumberedZero, SaysApart, refusalAt}
+use Rattle.kinds.specs.Numbering.{Said, numbered, refusedSays, NeverNumberedZero, SaysApart, refusalAt, refusedWith}
 use Rattle.kinds.specs.declared.RefusedAt.{RefusedAt}
 use Rattle.kinds.proofs.Apart.{impossible}
 use Rattle.kinds.proofs.Numbering.{never-zero, numbers-differ, saidIn, refusals-apart}
 use Rattle.numbers.specs.declared.Number.{Number}
 use Rattle.numbers.specs.declared.NumberRead.{NumberRead}
 use Rattle.numbers.specs.declared.NumberRead.the-variants as number
-use Rattle.numbers.specs.Reading.{readAt}
+use Rattle.numbers.specs.Reading.{readAt, misspelledAt}
 use Rattle.numbers.specs.Answers.{numberSays}
-use Rattle.numbers.proofs.Spellings.{refused-at-its-start}
+use Rattle.numbers.proofs.Spellings.{spelled-read}
+use Rattle.numbers.proofs.BadByte.{bad-read, refused-at-the-bad-byte}
 use Rattle.numbers.proofs.Answers.{numbers-said-apart}
 use Rattle.script.specs.declared.RecordAt.{RecordAt}
 use Rattle.script.specs.declared.RecordRead.{RecordRead}
@@ -21,11 +22,14 @@ use Rattle.script.specs.declared.Which.{Which}
 use Rattle.script.specs.declared.Which.the-variants as which
 use Rattle.script.specs.declared.RefusedIn.{RefusedIn}
 use Rattle.script.specs.declared.Chosen.the-variants as answer
-use Rattle.script.specs.Records.{asScripts, scriptNumber, recordAt}
+use Rattle.script.specs.Records.{scriptNumber, recordAt}
 use Rattle.script.specs.Answers.{recordSays, whichNumber, chosenSays, ScriptsNeverZero, ScriptsSaidApart}
 use Rattle.script.specs.Answers.{RecordReadSays, EndSays, RefusedRecordSays, FirstNextSays, SecondNextSays, EndedSays, RefusedInFirstSays, RefusedInSecondSays}
-use Rattle.script.specs.ScriptLaws.{EndIsTheLength, PastTheEnd, RefusedAtANumber, NumberIsRead, NumberRefused, NumberPastTheEnd}
-use Rattle.script.proofs.Records.{number-past-end, number-inside, number-stands, number-read, record-past-end, record-end, end-is-length, no-number-of}
+use Rattle.script.specs.SpelledScripts.{no-gap, no-row, no-cost}
+use Rattle.script.specs.ScriptLaws.{EndIsTheLength, PastTheEnd, RefusedAtANumber, RefusedIfNoNumber}
+use Rattle.script.specs.ScriptLaws.{NumberIsRead, NumberRefused, NumberRefusedAtTheBadByte, NumberPastTheEnd}
+use Rattle.script.proofs.Records.{number-past-end, number-stands, number-misspelled, number-refused-there, number-read}
+use Rattle.script.proofs.Records.{gap-refused, row-refused, cost-refused, record-past-end, record-end, end-is-length, no-number-of}
 
 -- ---- what each answer says
 
@@ -140,6 +144,16 @@ refused-at-a-number s at said b inside e =
     let none = no-number-of s at r b inside is in
     rw says (ap (λ k. refusedSays (record { refusal = k; place = r .place })) (none .0), none .1)
 
+pub refused-if-no-number : RefusedIfNoNumber
+refused-if-no-number s at place b inside (no-gap bad) =
+    ap recordSays (gap-refused s at (λ z. omega arith) _ (number-misspelled s at (bad-read b bad)))
+refused-if-no-number s at place b inside (no-row gap g bad) =
+    ap recordSays (row-refused s at (λ z. omega arith) gap (number-stands s at (spelled-read g)) _ (number-misspelled s (gap .next) (bad-read b bad)))
+refused-if-no-number s at place b inside (no-cost gap row g n bad) =
+    ap recordSays
+    (cost-refused s at (λ z. omega arith) gap (number-stands s at (spelled-read g)) row (number-stands s (gap .next) (spelled-read n)) _
+    (number-misspelled s (row .next) (bad-read b bad)))
+
 pub number-is-read : NumberIsRead
 number-is-read s at n next =
     let k : Number = record { value = n; next = next } in
@@ -149,11 +163,24 @@ number-is-read s at n next =
     )
 
 pub number-refused : NumberRefused
-number-refused s at said h e = by-answer (readAt s at) refl (rw (number-inside s at h) at e)
+number-refused s at said = (λ e. by-answer (scriptNumber s at) refl e, λ p. there (p .0) (p .1))
   where
-    by-answer : (v : NumberRead) → readAt s at ≡ v → numberSays (asScripts v) ≡ numbered said → said ≡ refusalAt 14 at
+    by-answer : (v : NumberRead) → scriptNumber s at ≡ v → numberSays v ≡ numbered said
+        → (said ≡ refusalAt 14 (said .first)) × (numberSays (readAt s at) ≡ refusedWith 1 (said .first))
     by-answer (number.Number n) p q = impossible cc
-    by-answer (number.Refused r) p q = sym (ap saidIn q) ∙ ap (λ (k : RefusedAt). refusalAt 14 (k .place)) (refused-at-its-start s at r p)
+    by-answer (number.Refused r) p q =
+        let w = number-refused-there s at p in
+        let same : said ≡ refusalAt 14 (r .place) = sym (ap saidIn q) ∙ ap (λ kind. refusedSays (record { refusal = kind; place = r .place })) (w .0) in
+        rw same (refl, ap numberSays (w .1))
+
+    there : said ≡ refusalAt 14 (said .first) → numberSays (readAt s at) ≡ refusedWith 1 (said .first) → numberSays (scriptNumber s at) ≡ numbered said
+    there is e = ap numberSays (number-misspelled s at (numbers-said-apart .0 (readAt s at) (misspelledAt (said .first)) e)) ∙ ap numbered (sym is)
+
+pub number-refused-at-the-bad-byte : NumberRefusedAtTheBadByte
+number-refused-at-the-bad-byte s at place b h = (
+  λ e. refused-at-the-bad-byte s at place b h .0 (number-refused s at (refusalAt 14 place) .0 e .1),
+  λ p. number-refused s at (refusalAt 14 place) .1 (refl, refused-at-the-bad-byte s at place b h .1 p),
+)
 
 pub number-past-the-end : NumberPastTheEnd
 number-past-the-end s at h = ap numberSays (number-past-end s at h)

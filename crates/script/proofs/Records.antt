@@ -2,13 +2,13 @@
 -- (docs/RULES.md, section 7.)
 use Prim.Native.Nat.{ℕ, _+_, _≤_, _<_}
 use native.Mathlib.Omega.{arith}
-use mathlib.Core.Path.{_≡_, refl, sym, ap, _∙_}
+use mathlib.Core.Path.{_≡_, refl, sym, ap, ap₂, _∙_}
 use mathlib.Core.Bool.{Bool, true, false, cond}
 use mathlib.Core.List.{List, _++_, append-assoc}
 use lib.ListN.{length, drop, length-append, length-drop}
 use lib.Seq.{drop-drop, drop-append-seam}
-use lib.Dec.{ltb, eqb}
-use borrow.Author.Tests.{lt-ltb, le-ltb, eq-eqb, ne-eqb, eqb-true}
+use lib.Dec.{eqb}
+use borrow.Author.Tests.{eq-eqb, ne-eqb, eqb-true}
 use Rattle.kinds.specs.declared.RefusedAt.{RefusedAt}
 use Rattle.kinds.specs.declared.Refusal.the-variants.{ScriptMisspelled}
 use Rattle.kinds.proofs.Apart.{impossible}
@@ -16,103 +16,101 @@ use Rattle.numbers.specs.declared.Number.{Number}
 use Rattle.numbers.specs.declared.NumberRead.{NumberRead}
 use Rattle.numbers.specs.declared.NumberRead.the-variants as number
 use Rattle.numbers.specs.Spelling.{maxNumber, spelling}
-use Rattle.numbers.specs.Reading.{readAt}
-use Rattle.numbers.specs.SpelledNumbers.{Bytes, Spelled, NoNumber}
-use Rattle.numbers.proofs.Spellings.{read-here, read-within, number-has-one-spelling, spelling-length, refused-at-its-start, refused-none}
+use Rattle.numbers.specs.Reading.{readAt, misspelledAt}
+use Rattle.numbers.specs.SpelledNumbers.{Bytes, Spelled}
+use Rattle.numbers.specs.BadByte.{BadByteAt}
+use Rattle.numbers.proofs.Spellings.{read-here, number-has-one-spelling, spelling-length, nothing-past-the-end}
+use Rattle.numbers.proofs.BadByte.{refused-between, refused-bad}
 use Rattle.script.specs.declared.Record.{Record}
 use Rattle.script.specs.declared.RecordAt.{RecordAt}
 use Rattle.script.specs.declared.RecordRead.{RecordRead}
 use Rattle.script.specs.declared.RecordRead.the-variants as read
-use Rattle.script.specs.Records.{asScripts, refusedAtLength, scriptNumber, afterNumber, recordAt}
+use Rattle.script.specs.Records.{asScripts, scriptNumber, afterNumber, recordAt}
 use Rattle.script.specs.SpelledScripts.{spelledRecord, CanBeSpelled, SpelledHere, NoNumberOf, no-gap, no-row, no-cost}
 
 -- ---- the answers of the number reader and the record reader
 
--- A number at a place past the end is refused at the script's length.
-pub number-past-end : (s : List ℕ) (at : ℕ) → length s < at → scriptNumber s at ≡ number.Refused (refusedAtLength (length s))
-unfolding scriptNumber
-number-past-end s at h = rw (lt-ltb (length s) at h)
-
--- A number at a place up to the end is read by the number reader.
-pub number-inside : (s : List ℕ) (at : ℕ) → at ≤ length s → scriptNumber s at ≡ asScripts (readAt s at)
-unfolding scriptNumber
-number-inside s at h = rw (le-ltb (length s) at h)
-
 -- A number that the number reader reads is the script's number at that place.
 pub number-stands : (s : List ℕ) (at : ℕ) {n : Number} → readAt s at ≡ number.Number n → scriptNumber s at ≡ number.Number n
-number-stands s at {n} e = number-inside s at (omega (arith, read-within s at n e)) ∙ rw e
+unfolding scriptNumber
+number-stands s at e = rw e
 
 -- A number that can't be read is refused with 14, at the place where the number reader refuses it.
-pub number-misspelled : (s : List ℕ) (at : ℕ) {r : RefusedAt} → at ≤ length s → readAt s at ≡ number.Refused r
+pub number-misspelled : (s : List ℕ) (at : ℕ) {r : RefusedAt} → readAt s at ≡ number.Refused r
     → scriptNumber s at ≡ number.Refused (record { refusal = ScriptMisspelled; place = r .place })
-number-misspelled s at h e = number-inside s at h ∙ rw e
+unfolding scriptNumber
+number-misspelled s at e = rw e
+
+-- A number at a place past the end is refused at the script's length.
+pub number-past-end : (s : List ℕ) (at : ℕ) → length s < at → scriptNumber s at ≡ number.Refused (record { refusal = ScriptMisspelled; place = length s })
+number-past-end s at h = number-misspelled s at (nothing-past-the-end s at (omega arith))
 
 -- A property of every number and of every refusal with 14 is a property of what is read as a script's number.
 pub number-or-14 : (P : NumberRead → Type 0) (s : List ℕ) (at : ℕ) → ((n : Number) → P (number.Number n))
     → ((place : ℕ) → P (number.Refused (record { refusal = ScriptMisspelled; place = place }))) → P (scriptNumber s at)
 unfolding scriptNumber
-number-or-14 P s at reads refuses = by-test (ltb (length s) at) (readAt s at)
+number-or-14 P s at reads refuses = by-answer (readAt s at)
   where
-    by-test : (past : Bool) (v : NumberRead) → P (cond past (number.Refused (refusedAtLength (length s))) (asScripts v))
-    by-test true v = refuses (length s)
-    by-test false (number.Number n) = reads n
-    by-test false (number.Refused r) = refuses (r .place)
+    by-answer : (v : NumberRead) → P (asScripts v)
+    by-answer (number.Number n) = reads n
+    by-answer (number.Refused r) = refuses (r .place)
 
--- Where no number can be read, the answer is refusal 14 at that place.
-pub number-unreadable : (s : List ℕ) (at : ℕ) → at ≤ length s → ((n : Number) → readAt s at ≡ number.Number n → ⊥)
-    → scriptNumber s at ≡ number.Refused (record { refusal = ScriptMisspelled; place = at })
-number-unreadable s at h none = by-answer (readAt s at) refl
+-- A script's number that is refused is refused with 14, where the number reader refuses it with 1.
+pub number-refused-there : (s : List ℕ) (at : ℕ) {r : RefusedAt} → scriptNumber s at ≡ number.Refused r
+    → (r .refusal ≡ ScriptMisspelled) × (readAt s at ≡ misspelledAt (r .place))
+unfolding scriptNumber
+number-refused-there s at {r} e = by-answer (readAt s at) refl e
   where
-    by-answer : (v : NumberRead) → readAt s at ≡ v → scriptNumber s at ≡ number.Refused (record { refusal = ScriptMisspelled; place = at })
-    by-answer (number.Number n) e = absurd (none n e)
-    by-answer (number.Refused r) e = number-misspelled s at h e ∙ rw (refused-at-its-start s at r e)
-
--- A record at a place past the end is refused at the script's length.
-pub record-past-end : (s : List ℕ) (at : ℕ) → length s < at
-    → recordAt s at ≡ read.Refused (refusedAtLength (length s))
-record-past-end s at h = rw (lt-ltb (length s) at h)
+    by-answer : (v : NumberRead) → readAt s at ≡ v → asScripts v ≡ number.Refused r → (r .refusal ≡ ScriptMisspelled) × (readAt s at ≡ misspelledAt (r .place))
+    by-answer (number.Number n) f g = impossible cc
+    by-answer (number.Refused q) f g =
+        let one = refused-between s at q f .0 in
+        let same : q .place ≡ r .place = cc in
+        (cc, f ∙ ap₂ (λ kind place. number.Refused (record { refusal = kind; place = place })) one same)
 
 -- At its length a script has ended.
 pub record-end : (s : List ℕ) (at : ℕ) → at ≡ length s → recordAt s at ≡ read.End
-record-end s at e = rw (le-ltb (length s) at (omega arith), eq-eqb at (length s) e)
+record-end s at e = rw (eq-eqb at (length s) e)
 
-module _ (s : List ℕ) (at : ℕ) (inside : at < length s) where
-  -- Before the script's end neither test of the place settles the answer.
-  before-end : (past then : RecordRead) → cond (ltb (length s) at) past (cond (eqb at (length s)) read.End then) ≡ then
-  before-end past then = rw (le-ltb (length s) at (omega arith), ne-eqb at (length s) (λ z. omega arith))
+module _ (s : List ℕ) (at : ℕ) (elsewhere : at ≡ length s → ⊥) where
+  -- Elsewhere than at its end the script has not ended.
+  before-end : (then : RecordRead) → cond (eqb at (length s)) read.End then ≡ then
+  before-end then = rw (ne-eqb at (length s) elsewhere)
 
   -- Where the gap is refused, the record is refused with it.
   pub gap-refused : (r : RefusedAt) → scriptNumber s at ≡ number.Refused r → recordAt s at ≡ read.Refused r
-  gap-refused r e = before-end _ _ ∙ rw e
+  gap-refused r e = before-end _ ∙ rw e
 
   module _ (gap : Number) (g : scriptNumber s at ≡ number.Number gap) where
     -- Where the row number after the gap is refused, the record is refused with it.
     pub row-refused : (r : RefusedAt) → scriptNumber s (gap .next) ≡ number.Refused r → recordAt s at ≡ read.Refused r
-    row-refused r e = before-end _ _ ∙ rw (g, e)
+    row-refused r e = before-end _ ∙ rw (g, e)
 
     module _ (row : Number) (n : scriptNumber s (gap .next) ≡ number.Number row) where
       -- Where the cost after the row number is refused, the record is refused with it.
       pub cost-refused : (r : RefusedAt) → scriptNumber s (row .next) ≡ number.Refused r → recordAt s at ≡ read.Refused r
-      cost-refused r e = before-end _ _ ∙ rw (g, n, e)
+      cost-refused r e = before-end _ ∙ rw (g, n, e)
 
       -- Where three numbers are read, they are the record.
       pub record-read : (cost : Number) → scriptNumber s (row .next) ≡ number.Number cost
           → recordAt s at
           ≡ read.Record (record { release = record { gap = gap .value; row = record { 0 = row .value }; cost = cost .value }; next = cost .next })
-      record-read cost e = before-end _ _ ∙ rw (g, n, e)
+      record-read cost e = before-end _ ∙ rw (g, n, e)
+
+-- A record at a place past the end is refused at the script's length.
+pub record-past-end : (s : List ℕ) (at : ℕ) → length s < at → recordAt s at ≡ read.Refused (record { refusal = ScriptMisspelled; place = length s })
+record-past-end s at h = gap-refused s at (λ z. omega arith) _ (number-past-end s at h)
 
 -- ---- where a record was read
 
 -- A number that was read as a script's is what the number reader reads there.
 pub number-read : (s : List ℕ) (at : ℕ) (n : Number) → scriptNumber s at ≡ number.Number n → readAt s at ≡ number.Number n
 unfolding scriptNumber
-number-read s at n e = by-test (ltb (length s) at) (readAt s at) e
+number-read s at n e = by-answer (readAt s at) e
   where
-    by-test : (past : Bool) (v : NumberRead) → cond past (number.Refused (refusedAtLength (length s))) (asScripts v) ≡ number.Number n → v ≡ number.Number n
-    by-test false (number.Number m) q = q
-    by-test false (number.Refused r) q = impossible cc
-    by-test true (number.Number m) q = impossible cc
-    by-test true (number.Refused r) q = impossible cc
+    by-answer : (v : NumberRead) → asScripts v ≡ number.Number n → v ≡ number.Number n
+    by-answer (number.Number m) q = q
+    by-answer (number.Refused r) q = impossible cc
 
 -- Where a record was read, the number that it was to begin with was read.
 number-before : (v : NumberRead) (k : Number → RecordRead) (found : RecordAt) → afterNumber v k ≡ read.Record found
@@ -120,12 +118,10 @@ number-before : (v : NumberRead) (k : Number → RecordRead) (found : RecordAt) 
 number-before (number.Number n) k found e = (n, refl, e)
 number-before (number.Refused r) k found e = impossible cc
 
--- Where a record was read, neither test of the place settled the answer.
-not-ended : (t u : Bool) (r : RefusedAt) (then : RecordRead) (found : RecordAt) → cond t (read.Refused r) (cond u read.End then) ≡ read.Record found
-    → then ≡ read.Record found
-not-ended true u r then found e = impossible cc
-not-ended false true r then found e = impossible cc
-not-ended false false r then found e = e
+-- Where a record was read, the script had not ended.
+not-ended : (t : Bool) (then : RecordRead) (found : RecordAt) → cond t read.End then ≡ read.Record found → then ≡ read.Record found
+not-ended true then found e = impossible cc
+not-ended false then found e = e
 
 -- The three numbers of a record that was read, one after the other.
 record ThreeNumbers (s : List ℕ) (at : ℕ) (found : RecordAt) : Type 0 where
@@ -140,7 +136,7 @@ record ThreeNumbers (s : List ℕ) (at : ℕ) (found : RecordAt) : Type 0 where
 -- A record that was read consists of three numbers that were read.
 three-numbers : (s : List ℕ) (at : ℕ) (found : RecordAt) → recordAt s at ≡ read.Record found → ThreeNumbers s at found
 three-numbers s at found e =
-    let gap = number-before _ _ found (not-ended (ltb (length s) at) (eqb at (length s)) _ _ found e) in
+    let gap = number-before _ _ found (not-ended (eqb at (length s)) _ found e) in
     let row = number-before _ _ found (gap .2) in
     let cost = number-before _ _ found (row .2) in
     record {
@@ -170,24 +166,24 @@ record-stands s at found b e =
 
 -- ---- where a record was refused
 
--- Where what begins with a number is refused, there are two cases. The number was read and what comes after it is refused, or no number is there and its place
--- is refused with 14.
+-- Where what begins with a number was refused, the number was read and what comes after it refused, or its bad byte was refused with 14.
 refused-there : {G : Type 0} (s : List ℕ) (at : ℕ) (k : Number → RecordRead) (r : RefusedAt) → Bytes s → at ≤ length s
     → afterNumber (scriptNumber s at) k ≡ read.Refused r
-    → (NoNumber s at → r ≡ record { refusal = ScriptMisspelled; place = at } → G) → ((n : Number) → Spelled s at n → k n ≡ read.Refused r → G) → G
-refused-there {G} s at k r b inside e none later = go (readAt s at) refl (rw (number-inside s at inside) at e)
+    → (r .refusal ≡ ScriptMisspelled → BadByteAt s at (r .place) → G) → ((n : Number) → Spelled s at n → k n ≡ read.Refused r → G) → G
+unfolding scriptNumber
+refused-there {G} s at k r b inside e none later = go (readAt s at) refl e
   where
     go : (v : NumberRead) → readAt s at ≡ v → afterNumber (asScripts v) k ≡ read.Refused r → G
     go (number.Number n) f g = later n (number-has-one-spelling s at n b f) g
-    go (number.Refused q) f g = let start = refused-at-its-start s at q f in none (refused-none f) cc
+    go (number.Refused q) f g = let same : q .place ≡ r .place = cc in none (cc) (rw same at (refused-bad b inside f .1))
 
 -- Where a record is refused, the place is that of the first of its three numbers that can't be read.
 pub no-number-of : (s : List ℕ) (at : ℕ) (r : RefusedAt) → Bytes s → at < length s → recordAt s at ≡ read.Refused r
     → (r .refusal ≡ ScriptMisspelled) × NoNumberOf s at (r .place)
 no-number-of s at r b inside e =
-    refused-there s at _ r b (omega arith) (sym (before-end s at inside _ _) ∙ e) (λ none is. rw is (refl, no-gap none)) λ gap g f.
-    refused-there s (gap .next) _ r b (g .within) f (λ none is. rw is (refl, no-row gap g none)) λ row n h.
-    refused-there s (row .next) _ r b (n .within) h (λ none is. rw is (refl, no-cost gap row g n none)) λ cost c made. impossible cc
+    refused-there s at _ r b (omega arith) (sym (before-end s at (λ z. omega arith) _) ∙ e) (λ is bad. (is, no-gap bad)) λ gap g f.
+    refused-there s (gap .next) _ r b (g .within) f (λ is bad. (is, no-row gap g bad)) λ row n h.
+    refused-there s (row .next) _ r b (n .within) h (λ is bad. (is, no-cost gap row g n bad)) λ cost c made. impossible cc
 
 -- ---- where a script has ended
 
@@ -201,11 +197,9 @@ no-end-after (number.Number n) k h e = h n e
 no-end-after (number.Refused r) k h e = impossible cc
 
 -- Where the end is answered, the test for the script's length has passed.
-length-passed : (t u : Bool) (past : RefusedAt) (then : RecordRead) → (then ≡ read.End → ⊥)
-    → cond t (read.Refused past) (cond u read.End then) ≡ read.End → u ≡ true
-length-passed true u past then h e = impossible cc
-length-passed false true past then h e = refl
-length-passed false false past then h e = absurd (h e)
+length-passed : (t : Bool) (then : RecordRead) → (then ≡ read.End → ⊥) → cond t read.End then ≡ read.End → t ≡ true
+length-passed true then h e = refl
+length-passed false then h e = absurd (h e)
 
 -- Where the end is answered, the place is the script's length.
 pub end-is-length : (s : List ℕ) (at : ℕ) → recordAt s at ≡ read.End → at ≡ length s
@@ -214,7 +208,7 @@ end-is-length s at e =
     no-end-after (scriptNumber s at) _ λ gap.
     no-end-after (scriptNumber s (gap .next)) _ λ row.
     no-end-after (scriptNumber s (row .next)) _ λ cost. no-end _ in
-    eqb-true at (length s) (length-passed (ltb (length s) at) (eqb at (length s)) _ _ three-numbers-are-none e)
+    eqb-true at (length s) (length-passed (eqb at (length s)) _ three-numbers-are-none e)
 
 -- ---- where a spelling stands
 
@@ -255,5 +249,5 @@ record-here {s} {at} r rest can p =
     let gap-read = number-here (r .gap) (row ++ (cost ++ rest)) (can .gap) gap-stands in
     let row-read = number-here (r .row .0) (cost ++ rest) (can .row) row-stands in
     let cost-read = number-here (r .cost) rest (can .cost) cost-stands in
-    record-read s at inside _ gap-read _ row-read _ cost-read
+    record-read s at (λ z. omega arith) _ gap-read _ row-read _ cost-read
     ∙ ap (λ (n : ℕ). read.Record (record { release = r; next = n })) (omega (arith, length-append gap (row ++ cost), length-append row cost))

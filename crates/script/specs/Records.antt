@@ -2,10 +2,9 @@
 use Prim.Native.Nat.{ℕ}
 use mathlib.Core.Bool.{cond}
 use mathlib.Core.List.{List}
-use lib.Dec.{ltb, eqb}
+use lib.Dec.{eqb}
 use lib.ListN.{length}
 use Rattle.kinds.specs.declared.Refusal.the-variants.{ScriptMisspelled}
-use Rattle.kinds.specs.declared.RefusedAt.{RefusedAt}
 use Rattle.numbers.specs.declared.Number.{Number}
 use Rattle.numbers.specs.declared.NumberRead.{NumberRead}
 use Rattle.numbers.specs.declared.NumberRead.the-variants as number
@@ -18,26 +17,21 @@ abbrev pub asScripts : NumberRead → NumberRead
 asScripts (number.Number n) = number.Number n
 asScripts (number.Refused r) = number.Refused (record { refusal = ScriptMisspelled; place = r .place })
 
--- Refusal 14 at the script's length, for a place past the end of the script. (7.5)
-abbrev pub refusedAtLength : (length : ℕ) → RefusedAt
-refusedAtLength length = record { refusal = ScriptMisspelled; place = length }
-
--- The number of a script at a place, or refusal 14: at the script's length for a place past the end, and else at the number's start. (2.10, 7.5, 7.6)
+-- The number of a script at a place. A place past the end is refused at the script's length, since the number reader refuses it there. (2.9, 2.10, 7.5)
 unfoldable pub scriptNumber : List ℕ → (at : ℕ) → NumberRead
-scriptNumber s at = cond (ltb (length s) at) (number.Refused (refusedAtLength (length s))) (asScripts (readAt s at))
+scriptNumber s at = asScripts (readAt s at)
 
 -- Reading goes on after a number that was read. A number that was refused makes the whole record refused, at the same place. (7.6)
 abbrev pub afterNumber : NumberRead → (Number → RecordRead) → RecordRead
 afterNumber (number.Number n) k = k n
 afterNumber (number.Refused r) k = read.Refused r
 
--- The record at a place: its gap, its row number and its cost, read from left to right, and the place right after it. The script's length is the end, and a
--- place past the end is refusal 14 at the script's length. Places count from the start of the bytes that were lent. (7.1, 7.4 to 7.6, 7.15)
+-- The record at a place: its gap, its row number and its cost, read from left to right, and the place right after it. The script's length is the end, and at a
+-- place past it the gap is refused with 14 at the script's length. Places count from the start of the bytes that were lent. (7.1, 7.4 to 7.6, 7.15)
 abbrev pub recordAt : List ℕ → (at : ℕ) → RecordRead
 recordAt s at =
-    cond (ltb (length s) at) (read.Refused (refusedAtLength (length s)))
-    (cond (eqb at (length s)) read.End
+    cond (eqb at (length s)) read.End
     (afterNumber (scriptNumber s at) λ gap.
     afterNumber (scriptNumber s (gap .next)) λ row.
     afterNumber (scriptNumber s (row .next)) λ cost.
-    read.Record (record { release = record { gap = gap .value; row = record { 0 = row .value }; cost = cost .value }; next = cost .next })))
+    read.Record (record { release = record { gap = gap .value; row = record { 0 = row .value }; cost = cost .value }; next = cost .next }))

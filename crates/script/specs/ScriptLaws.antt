@@ -6,6 +6,7 @@ use mathlib.Core.List.{List, [], _∷_, _++_}
 use lib.ListN.{length}
 use Rattle.kinds.specs.Numbering.{Said, numbered, values, refusalAt, refusedWith}
 use Rattle.numbers.specs.SpelledNumbers.{Bytes}
+use Rattle.numbers.specs.BadByte.{BadByteAt}
 use Rattle.numbers.specs.Reading.{readAt}
 use Rattle.numbers.specs.Answers.{numberSays}
 use Rattle.script.specs.declared.Record.{Record}
@@ -35,10 +36,15 @@ EndIsTheLength = (s : List ℕ) (at : ℕ) → (recordSays (recordAt s at) ≡ v
 abbrev pub PastTheEnd : Type 0
 PastTheEnd = (s : List ℕ) (at : ℕ) → length s < at → recordSays (recordAt s at) ≡ refusedWith 14 (length s)
 
--- Before the script's end, a record is refused with 14, at the start of the first of its three numbers that can't be read. (7.6)
+-- Before the script's end, a record is refused with 14, at the bad byte of the first of its three numbers that can't be read. (7.6)
 abbrev pub RefusedAtANumber : Type 0
 RefusedAtANumber = (s : List ℕ) (at : ℕ) (said : Said) → Bytes s → at < length s → recordSays (recordAt s at) ≡ numbered said
     → (said ≡ refusalAt 14 (said .first)) × NoNumberOf s at (said .first)
+
+-- A record is refused with 14 wherever the first of its three numbers that can't be read has its bad byte. (7.6)
+abbrev pub RefusedIfNoNumber : Type 0
+RefusedIfNoNumber = (s : List ℕ) (at place : ℕ) → Bytes s → at < length s → NoNumberOf s at place
+    → recordSays (recordAt s at) ≡ refusedWith 14 place
 
 -- ---- what is proved about a number of a script (proofs/Answers.antt)
 
@@ -47,9 +53,15 @@ abbrev pub NumberIsRead : Type 0
 NumberIsRead = (s : List ℕ) (at n next : ℕ)
     → (numberSays (scriptNumber s at) ≡ values (n ∷ next ∷ [])) ↔ (numberSays (readAt s at) ≡ values (n ∷ next ∷ []))
 
--- At a place up to the script's length, a number that can't be read is refused with 14, at its start. (2.10, 7.6)
+-- A script's number is refused with 14 exactly where the number reader refuses it with 1, and at the same place. (2.10)
 abbrev pub NumberRefused : Type 0
-NumberRefused = (s : List ℕ) (at : ℕ) (said : Said) → at ≤ length s → numberSays (scriptNumber s at) ≡ numbered said → said ≡ refusalAt 14 at
+NumberRefused = (s : List ℕ) (at : ℕ) (said : Said) → (numberSays (scriptNumber s at) ≡ numbered said)
+    ↔ ((said ≡ refusalAt 14 (said .first)) × (numberSays (readAt s at) ≡ refusedWith 1 (said .first)))
+
+-- For a number that starts at the script's end or before it, the place of the 14 is exactly the number's bad byte. (7.6)
+abbrev pub NumberRefusedAtTheBadByte : Type 0
+NumberRefusedAtTheBadByte = (s : List ℕ) (at place : ℕ) → Bytes s → at ≤ length s
+    → (numberSays (scriptNumber s at) ≡ refusedWith 14 place) ↔ BadByteAt s at place
 
 -- A number at a place past the end is refused with 14, at the script's length. (2.10, 7.5)
 abbrev pub NumberPastTheEnd : Type 0

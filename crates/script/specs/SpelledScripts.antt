@@ -4,7 +4,8 @@ use mathlib.Core.Path.{_≡_}
 use mathlib.Core.List.{List, [], _∷_, _++_, flatten, map, List·Memᴰ}
 use lib.ListN.{length, drop}
 use Rattle.numbers.specs.declared.Number.{Number}
-use Rattle.numbers.specs.SpelledNumbers.{Spelled, NoNumber}
+use Rattle.numbers.specs.SpelledNumbers.{Spelled}
+use Rattle.numbers.specs.BadByte.{BadByteAt}
 use Rattle.numbers.specs.Spelling.{maxNumber, spelling}
 use Rattle.script.specs.declared.Record.{Record}
 use Rattle.script.specs.declared.RecordAt.{RecordAt}
@@ -34,12 +35,12 @@ pub record SpelledHere (s : List ℕ) (at : ℕ) (found : RecordAt) : Type 0 whe
   pub forward : at < found .next
   pub within : found .next ≤ length s
 
--- `place` is the start of the first of a record's three numbers that can't be read, for a record that starts at `at`. This is the gap, or the row number after
--- a gap that can be read, or the cost after both. (7.6)
-pub data NoNumberOf (s : List ℕ) (at : ℕ) : (place : ℕ) → Type 0 where
-  no-gap : NoNumber s at → NoNumberOf s at at
-  no-row : (gap : Number) → Spelled s at gap → NoNumber s (gap .next) → NoNumberOf s at (gap .next)
-  no-cost : (gap row : Number) → Spelled s at gap → Spelled s (gap .next) row → NoNumber s (row .next) → NoNumberOf s at (row .next)
+-- The first of a record's three numbers that can't be read has its bad byte at `place`, for a record that starts at `at`. This is the gap, or the row number
+-- after a gap that can be read, or the cost after both. (7.6)
+pub data NoNumberOf (s : List ℕ) (at place : ℕ) : Type 0 where
+  no-gap : BadByteAt s at place → NoNumberOf s at place
+  no-row : (gap : Number) → Spelled s at gap → BadByteAt s (gap .next) place → NoNumberOf s at place
+  no-cost : (gap row : Number) → Spelled s at gap → Spelled s (gap .next) row → BadByteAt s (row .next) place → NoNumberOf s at place
 
 -- Each of these records can be spelled.
 abbrev pub AllCanBeSpelled : List Record → Type 0

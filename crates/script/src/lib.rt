@@ -58,16 +58,11 @@ pub enum Chosen {
     Refused(RefusedIn),
 }
 
-// The number of a script at a place, or refusal 14: at the script's length for a place past the end, and else at the number's start. (2.10, 7.5, 7.6)
+// A number of a script: refusal 14 where it can't be read, at the place where the number reader refuses it. So a place past the end is refused at the script's
+// length. (2.9, 2.10, 7.5)
 pub fn number_at(script: &[u8], at: usize) -> NumberRead
     ensures { λ r. ⌜ r ≡ scriptNumber (now (script .entry)) at ⌝ }
 {
-    if script.len() < at {
-        return NumberRead::Refused(RefusedAt {
-            refusal: Refusal::ScriptMisspelled,
-            place: script.len(),
-        });
-    }
     match numbers::read(script, at) {
         NumberRead::Number(n) => NumberRead::Number(n),
         NumberRead::Refused(r) => NumberRead::Refused(RefusedAt {
@@ -82,12 +77,6 @@ pub fn number_at(script: &[u8], at: usize) -> NumberRead
 pub fn record_at(script: &[u8], at: usize) -> RecordRead
     ensures { λ r. ⌜ r ≡ recordAt (now (script .entry)) at ⌝ }
 {
-    if script.len() < at {
-        return RecordRead::Refused(RefusedAt {
-            refusal: Refusal::ScriptMisspelled,
-            place: script.len(),
-        });
-    }
     if at == script.len() {
         return RecordRead::End;
     }

@@ -1,5 +1,5 @@
--- How a value, a row and several rows are refused: good values stand up to a bad one, and the refusal is that of the bad one, at its start. Rows are proved
--- from a row, and a row from a value, each in both directions. (docs/RULES.md, 3.7, 3.8 and 3.10.)
+-- A value, a row or rows that are refused: good values stand up to a bad one, and the refusal is that of the bad one. Each level is shown from
+-- the one below, both ways. (docs/RULES.md, 3.7, 3.8 and 3.10.)
 use Prim.Native.Nat.{ℕ, zero, suc, _≤_, _<_}
 use native.Mathlib.Decide.{decLe}
 use native.Mathlib.Omega.{arith}
@@ -18,8 +18,10 @@ use Rattle.numbers.specs.declared.NumberRead.{NumberRead}
 use Rattle.numbers.specs.declared.NumberRead.the-variants as number
 use Rattle.numbers.specs.Spelling.{maxNumber, spelling}
 use Rattle.numbers.specs.Reading.{readAt}
-use Rattle.numbers.specs.SpelledNumbers.{Bytes, Spelled, NoNumber}
-use Rattle.numbers.proofs.Spellings.{number-has-one-spelling, spelled-read, none-read, refused-none}
+use Rattle.numbers.specs.SpelledNumbers.{Bytes, Spelled}
+use Rattle.numbers.specs.BadByte.{BadByteAt}
+use Rattle.numbers.proofs.Spellings.{number-has-one-spelling, spelled-read}
+use Rattle.numbers.proofs.BadByte.{bad-read, refused-bad}
 use Rattle.table.specs.declared.Row.{Row}
 use Rattle.table.specs.declared.RowRead.{RowRead}
 use Rattle.table.specs.declared.RowRead.the-variants as row
@@ -28,19 +30,19 @@ use Rattle.table.specs.Tables.{Rows, rows, refused, inFront, afterRow, r
 use Rattle.table.specs.SpelledTables.{spelledRow}
 use Rattle.table.specs.Refusals.{PartStands, valueLimits, FirstValues, BadValue, misspelled, out-of-range}
 use Rattle.table.proofs.Each.{each-none, each-cons, each-head, each-tail}
-use Rattle.table.proofs.Spelling.{parted, joined, spelled-stands, value-read, RowStands, row-read, row-stands, RowsStand}
+use Rattle.table.proofs.Spelling.{parted, joined, ends-inside, spelled-stands, value-read, RowStands, row-read, row-stands, RowsStand}
 
 -- ---- a value
 
--- Reading a value answers the value, if it is from 1 to its limit, or a refusal at its start.
+-- What a value is answered with: itself, from 1 to its limit, or the refusal of what is wrong with it.
 data ValueAnswer (s : List ℕ) (at most : ℕ) : NumberRead → Type 0 where
   good : {n : Number} → Spelled s at n → 1 ≤ n .value → n .value ≤ most → ValueAnswer s at most (number.Number n)
-  bad : (r : Refusal) → BadValue s at most (refusalNumber r) → ValueAnswer s at most (number.Refused (record { refusal = r; place = at }))
+  bad : (r : RefusedAt) → BadValue s at most (refusalNumber (r .refusal)) (r .place) → ValueAnswer s at most (number.Refused r)
 
--- A value that can't be read is refused with 1.
-misspelled-refused : {s : List ℕ} {at : ℕ} (most : ℕ) → Bytes s → NoNumber s at
-    → readValue (withinLimit most) s at ≡ number.Refused (record { refusal = Misspelled; place = at })
-misspelled-refused most b none = simp (none-read b none)
+-- A value that can't be read is refused with 1, at its bad byte.
+misspelled-refused : {s : List ℕ} {at place : ℕ} (most : ℕ) → Bytes s → BadByteAt s at place
+    → readValue (withinLimit most) s at ≡ number.Refused (record { refusal = Misspelled; place = place })
+misspelled-refused most b p = simp (bad-read b p)
 
 module _ {s : List ℕ} {at most : ℕ} where
   -- A value in its range is answered.
@@ -59,11 +61,13 @@ module _ {s : List ℕ} {at most : ℕ} where
       o
 
   -- Reading a value always answers as `ValueAnswer` says.
-  value-answer : Bytes s → ValueAnswer s at most (readValue (withinLimit most) s at)
-  value-answer b = go (readAt s at) refl
+  value-answer : Bytes s → at ≤ length s → ValueAnswer s at most (readValue (withinLimit most) s at)
+  value-answer b inside = go (readAt s at) refl
     where
       outside : (n : Number) → readAt s at ≡ number.Number n → (n .value ≡ 0) ⊎ (most < n .value) → ValueAnswer s at most (readValue (withinLimit most) s at)
-      outside n e o = let p = number-has-one-spelling s at n b e in rw (outside-refused n p o) (bad ValueOutOfRange (out-of-range n p o))
+      outside n e o =
+          let p = number-has-one-spelling s at n b e in
+          rw (outside-refused n p o) (bad (record { refusal = ValueOutOfRange; place = at }) (out-of-range n p o))
 
       go : (v : NumberRead) → readAt s at ≡ v → ValueAnswer s at most (readValue (withinLimit most) s at)
       go (number.Number n) e = elim (decLe 1 (n .value)) [
@@ -73,17 +77,19 @@ module _ {s : List ℕ} {at most : ℕ} where
         ]
         | no l ↦ outside n e (inl (omega arith))
       ]
-      go (number.Refused r) e = let none : NoNumber s at = refused-none e in rw (misspelled-refused most b none) (bad Misspelled (misspelled none))
+      go (number.Refused r) e =
+          let p = refused-bad b inside e .1 in
+          rw (misspelled-refused most b p) (bad (record { refusal = Misspelled; place = r .place }) (misspelled p))
 
--- A value that begins at the place `at` is refused there, with a refusal of the number n.
-pub record ValueRefused (s : List ℕ) (at most n : ℕ) : Type 0 where
+-- A value that begins at `at` is refused with a refusal of that number, at that place.
+pub record ValueRefused (s : List ℕ) (at most n place : ℕ) : Type 0 where
   pub kind : Refusal
   pub its-number : refusalNumber kind ≡ n
-  pub answer : readValue (withinLimit most) s at ≡ number.Refused (record { refusal = kind; place = at })
+  pub answer : readValue (withinLimit most) s at ≡ number.Refused (record { refusal = kind; place = place })
 
 -- A bad value is refused at its start, with the number of `BadValue`.
-pub bad-refused : {s : List ℕ} {at most n : ℕ} → Bytes s → BadValue s at most n → ValueRefused s at most n
-bad-refused {most = most} b (misspelled none) = record { kind = Misspelled; its-number = refl; answer = misspelled-refused most b none }
+pub bad-refused : {s : List ℕ} {at most n place : ℕ} → Bytes s → BadValue s at most n place → ValueRefused s at most n place
+bad-refused {most = most} b (misspelled p) = record { kind = Misspelled; its-number = refl; answer = misspelled-refused most b p }
 bad-refused b (out-of-range n p o) = record { kind = ValueOutOfRange; its-number = refl; answer = outside-refused n p o }
 
 -- ---- a row
@@ -122,24 +128,20 @@ first-less first = record { fewer = omega (arith, first .fewer); within = λ i h
 pub record EndsBadly (limits s : List ℕ) (at : ℕ) (r : RefusedAt) : Type 0 where
   pub values : List ℕ
   pub next : ℕ
-  pub kind : Refusal
   pub first : FirstValues limits values
   pub stand : PartStands s at (flatten (map spelling values)) next
-  pub wrong : BadValue s next (getD limits (length values) 0) (refusalNumber kind)
-  pub is : r ≡ record { refusal = kind; place = next }
+  pub wrong : BadValue s next (getD limits (length values) 0) (refusalNumber (r .refusal)) (r .place)
 
 -- Values end badly where the first is bad.
-bad-first : {most : ℕ} {limits s : List ℕ} {at : ℕ} {r : RefusedAt} (kind : Refusal) → BadValue s at most (refusalNumber kind)
-    → r ≡ record { refusal = kind; place = at } → EndsBadly (most ∷ limits) s at r
+bad-first : {most : ℕ} {limits s : List ℕ} {at : ℕ} {r : RefusedAt} → BadValue s at most (refusalNumber (r .refusal)) (r .place)
+    → EndsBadly (most ∷ limits) s at r
 unfolding flatten
-bad-first {at} kind w e = record {
+bad-first {at} w = record {
   values = [];
   next = at;
-  kind = kind;
   first = record { fewer = omega arith; within = λ i h. absurd (omega arith) };
   stand = record { here = refl; ends = omega arith };
   wrong = w;
-  is = e;
 }
 
 -- Values end badly where the first is good and the others end badly.
@@ -149,33 +151,32 @@ unfolding flatten
 good-first {n} p l h e = record {
   values = n .value ∷ e .values;
   next = e .next;
-  kind = e .kind;
   first = first-more l h (e .first);
   stand = joined (spelled-stands p) (e .stand);
   wrong = e .wrong;
-  is = e .is;
 }
 
 -- Values that end in a refusal end badly.
-ends-badly : (limits : List ℕ) {s : List ℕ} (at : ℕ) (k : List ℕ → ℕ → RowRead) {r : RefusedAt} → Bytes s
+ends-badly : (limits : List ℕ) {s : List ℕ} (at : ℕ) (k : List ℕ → ℕ → RowRead) {r : RefusedAt} → Bytes s → at ≤ length s
     → ((values : List ℕ) (next : ℕ) → k values next ≡ row.Refused r → ⊥) → fromValues limits s at k ≡ row.Refused r → EndsBadly limits s at r
 unfolding fromValues
-ends-badly [] at k b made e = absurd (made [] at e)
-ends-badly (most ∷ limits) {s} at k {r} b made e =
-    go (readValue (withinLimit most) s at) (value-answer b) e
-    (λ n f. ends-badly limits (n .next) (λ values next. k (n .value ∷ values) next) b (λ values next. made (n .value ∷ values) next) f)
+ends-badly [] at k b inside made e = absurd (made [] at e)
+ends-badly (most ∷ limits) {s} at k {r} b inside made e =
+    go (readValue (withinLimit most) s at) (value-answer b inside) e
+    (λ n h f. ends-badly limits (n .next) (λ values next. k (n .value ∷ values) next) b h (λ values next. made (n .value ∷ values) next) f)
   where
     go : (v : NumberRead) → ValueAnswer s at most v
         → afterValue v (λ n. fromValues limits s (n .next) (λ values next. k (n .value ∷ values) next)) ≡ row.Refused r
-        → ((n : Number) → fromValues limits s (n .next) (λ values next. k (n .value ∷ values) next) ≡ row.Refused r → EndsBadly limits s (n .next) r)
+        → ((n : Number) → n .next ≤ length s → fromValues limits s (n .next) (λ values next. k (n .value ∷ values) next) ≡ row.Refused r
+        → EndsBadly limits s (n .next) r)
         → EndsBadly (most ∷ limits) s at r
-    go (number.Number n) (good p l h) f more = good-first p l h (more n f)
-    go (number.Refused q) (bad kind w) f more = bad-first kind w cc
+    go (number.Number n) (good p l h) f more = good-first p l h (more n (p .within) f)
+    go (number.Refused q) (bad how w) f more = let same : q ≡ r = cc in bad-first (rw same at w)
 
 -- If good values stand up to one that is refused, and every limit can be spelled, reading the values ends in that refusal.
-badly-refused : (limits values : List ℕ) {s : List ℕ} (at : ℕ) (k : List ℕ → ℕ → RowRead) {next number : ℕ} → ((i : ℕ) → getD limits i 0 ≤ maxNumber)
-    → FirstValues limits values → PartStands s at (flatten (map spelling values)) next → (wrong : ValueRefused s next (getD limits (length values) 0) number)
-    → fromValues limits s at k ≡ row.Refused (record { refusal = wrong .kind; place = next })
+badly-refused : (limits values : List ℕ) {s : List ℕ} (at : ℕ) (k : List ℕ → ℕ → RowRead) {next number place : ℕ} → ((i : ℕ) → getD limits i 0 ≤ maxNumber)
+    → FirstValues limits values → PartStands s at (flatten (map spelling values)) next → (wrong : ValueRefused s next (getD limits (length values) 0) number place)
+    → fromValues limits s at k ≡ row.Refused (record { refusal = wrong .kind; place = place })
 unfolding fromValues flatten
 badly-refused [] values at k small first stand wrong = absurd (omega (arith, first .fewer))
 badly-refused (most ∷ limits) [] {s} at k {next} small first stand wrong =
@@ -188,7 +189,7 @@ badly-refused (most ∷ limits) (v ∷ values) {s} at k small first stand wrong 
     (badly-refused limits values (t .0) (λ others after. k (v ∷ others) after) (λ i. small (suc i)) (first-less first) (t .2) wrong)
 
 -- The limits of a row's values can be spelled.
-limits-small : (i : ℕ) → getD valueLimits i 0 ≤ maxNumber
+pub limits-small : (i : ℕ) → getD valueLimits i 0 ≤ maxNumber
 limits-small zero = omega arith
 limits-small (suc zero) = omega arith
 limits-small (suc (suc zero)) = omega arith
@@ -196,15 +197,16 @@ limits-small (suc (suc (suc zero))) = omega arith
 limits-small (suc (suc (suc (suc i)))) = omega arith
 
 -- A row is refused where a value of it is.
-row-refused : {s : List ℕ} {at next number : ℕ} (values : List ℕ) → FirstValues valueLimits values → PartStands s at (flatten (map spelling values)) next
-    → (wrong : ValueRefused s next (getD valueLimits (length values) 0) number) → readRow s at ≡ row.Refused (record { refusal = wrong .kind; place = next })
+row-refused : {s : List ℕ} {at next number place : ℕ} (values : List ℕ) → FirstValues valueLimits values → PartStands s at (flatten (map spelling values)) next
+    → (wrong : ValueRefused s next (getD valueLimits (length values) 0) number place)
+    → readRow s at ≡ row.Refused (record { refusal = wrong .kind; place = place })
 row-refused {s} {at} values first stand wrong = row-from-values s at ∙ badly-refused valueLimits values at ofFour limits-small first stand wrong
 
 -- If a row is refused, its values end badly.
-row-ends-badly : {s : List ℕ} {at : ℕ} {r : RefusedAt} → Bytes s → readRow s at ≡ row.Refused r → EndsBadly valueLimits s at r
+row-ends-badly : {s : List ℕ} {at : ℕ} {r : RefusedAt} → Bytes s → at ≤ length s → readRow s at ≡ row.Refused r → EndsBadly valueLimits s at r
 unfolding ofFour
-row-ends-badly {s} {at} b e =
-    ends-badly valueLimits at ofFour b (λ values next made. impossible cc) (sym (row-from-values s at) ∙ e)
+row-ends-badly {s} {at} b inside e =
+    ends-badly valueLimits at ofFour b inside (λ values next made. impossible cc) (sym (row-from-values s at) ∙ e)
 
 -- ---- rows
 
@@ -245,20 +247,23 @@ behind-front q (rows rs next) e = impossible cc
 behind-front q (refused at) e = e
 
 -- Rows that are refused end badly.
-pub rows-end-badly : (n : ℕ) {s : List ℕ} (at : ℕ) {r : RefusedAt} → Bytes s → readRows n s at ≡ refused r → RowsEndBadly n s at r
+pub rows-end-badly : (n : ℕ) {s : List ℕ} (at : ℕ) {r : RefusedAt} → Bytes s → at ≤ length s → readRows n s at ≡ refused r → RowsEndBadly n s at r
 unfolding readRows
-rows-end-badly zero at b e = impossible cc
-rows-end-badly (suc n) {s} at {r} b e = go (readRow s at) refl e (λ next f. rows-end-badly n next b f)
+rows-end-badly zero at b inside e = impossible cc
+rows-end-badly (suc n) {s} at {r} b inside e = go (readRow s at) refl e (λ next h f. rows-end-badly n next b h f)
   where
     go : (v : RowRead) → readRow s at ≡ v → afterRow v (λ q after. inFront q (readRows n s after)) ≡ refused r
-        → ((next : ℕ) → readRows n s next ≡ refused r → RowsEndBadly n s next r) → RowsEndBadly (suc n) s at r
-    go (row.Row q) f g more = later-ends-badly (row-stands at q b f) (more (q .next) (behind-front (q .row) (readRows n s (q .next)) g))
-    go (row.Refused q) f g more = let same : q ≡ r = cc in first-ends-badly (row-ends-badly b (f ∙ ap row.Refused same))
+        → ((next : ℕ) → next ≤ length s → readRows n s next ≡ refused r → RowsEndBadly n s next r) → RowsEndBadly (suc n) s at r
+    go (row.Row q) f g more =
+        let one = row-stands at q b f in
+        later-ends-badly one (more (q .next) (ends-inside (one .stands) inside) (behind-front (q .row) (readRows n s (q .next)) g))
+    go (row.Refused q) f g more = let same : q ≡ r = cc in first-ends-badly (row-ends-badly b inside (f ∙ ap row.Refused same))
 
 -- If fewer than n rows stand up to a row with a refused value, reading n rows ends in that refusal.
-pub rows-refused : (n : ℕ) {s : List ℕ} (at : ℕ) (before : List Row) {mid next number : ℕ} (values : List ℕ) → length before < n
+pub rows-refused : (n : ℕ) {s : List ℕ} (at : ℕ) (before : List Row) {mid next number place : ℕ} (values : List ℕ) → length before < n
     → RowsStand s at before mid → FirstValues valueLimits values → PartStands s mid (flatten (map spelling values)) next
-    → (wrong : ValueRefused s next (getD valueLimits (length values) 0) number) → readRows n s at ≡ refused (record { refusal = wrong .kind; place = next })
+    → (wrong : ValueRefused s next (getD valueLimits (length values) 0) number place)
+    → readRows n s at ≡ refused (record { refusal = wrong .kind; place = place })
 unfolding readRows flatten
 rows-refused zero at before values fewer p first stand wrong = absurd (omega arith)
 rows-refused (suc n) {s} at [] {mid} values fewer p first stand wrong =

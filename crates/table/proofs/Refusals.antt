@@ -1,10 +1,10 @@
 -- Bytes are refused exactly as the rules say: for their row count, for a bad value, for bytes after the rows, or for their H. (docs/RULES.md, 3.7 to 3.12.)
-use Prim.Native.Nat.{ℕ, _+_, _-_, _≤_}
+use Prim.Native.Nat.{ℕ, _+_, _≤_}
 use native.Mathlib.Decide.{decLe}
 use native.Mathlib.Omega.{arith}
 use mathlib.Core.Path.{_≡_, refl, ap, _∙_}
 use mathlib.Core.List.{List, _++_, flatten, map}
-use lib.ListN.{length, getD, length-append, length-drop}
+use lib.ListN.{length, getD}
 use borrow.Author.Tests.{le-leb, lt-leb, lt-ltb, le-ltb}
 use Rattle.kinds.specs.Numbering.{refusalNumber, refusedWith}
 use Rattle.kinds.specs.declared.Refusal.the-variants.{Misspelled, TooManyRows, ExtraBytes, PeriodTooLong}
@@ -16,7 +16,8 @@ use Rattle.numbers.specs.declared.NumberRead.the-variants as number
 use Rattle.numbers.specs.Spelling.{spelling}
 use Rattle.numbers.specs.Reading.{readAt}
 use Rattle.numbers.specs.SpelledNumbers.{Bytes}
-use Rattle.numbers.proofs.Spellings.{number-has-one-spelling, refused-at-its-start, spelled-read, none-read, refused-none}
+use Rattle.numbers.proofs.Spellings.{number-has-one-spelling, spelled-read}
+use Rattle.numbers.proofs.BadByte.{bad-read, refused-bad}
 use Rattle.table.specs.declared.TableAnswer.the-variants.{Accepted, Refused}
 use Rattle.table.specs.Limits.{maxRows, maxPeriod}
 use Rattle.table.specs.Content.{Content}
@@ -26,7 +27,7 @@ use Rattle.table.specs.Answers.{tableSays}
 use Rattle.table.specs.SpelledTables.{spelledRow}
 use Rattle.table.specs.Refusals.{PartStands, valueLimits, ValueNext, RowsEnd, ContentEnds, BadValue, misspelled, out-of-range}
 use Rattle.table.specs.Refusals.{RowsRefusedSo, no-count, too-large-count, bad-value, RefusedSo, bad-rows, bytes-after, long-period}
-use Rattle.table.proofs.Spelling.{parted, joined, number-stands, RowsStand, count-then, rows-then, rows-end}
+use Rattle.table.proofs.Spelling.{parted, joined, ends-inside, number-stands, RowsStand, count-then, rows-then, rows-end}
 use Rattle.table.proofs.BadValues.{RowsEndBadly, rows-end-badly, bad-refused, rows-refused}
 
 -- ---- rows
@@ -40,8 +41,8 @@ record RowsRefused (s : List ℕ) (from number place : ℕ) : Type 0 where
 
 -- If the rules refuse the rows, reading them is refused so.
 rows-refused-if-so : {s : List ℕ} {from number place : ℕ} → Bytes s → RowsRefusedSo s from number place → RowsRefused s from number place
-rows-refused-if-so {from = from} b (no-count none) =
-    record { how = record { refusal = Misspelled; place = from }; its-number = refl; its-place = refl; answer = simp (none-read b none) }
+rows-refused-if-so {place = place} b (no-count p) =
+    record { how = record { refusal = Misspelled; place = place }; its-number = refl; its-place = refl; answer = simp (bad-read b p) }
 rows-refused-if-so {from = from} b (too-large-count n p l) = record {
   how = record { refusal = TooManyRows; place = from };
   its-number = refl;
@@ -77,25 +78,27 @@ badly-behind-count {s} {from} {n = n} few p e =
       its-limit = refl;
       before = joined p (joined (e .stand .stand) (values .stand));
     } in
-    rw (values .is) (bad-value next (values .wrong))
+    bad-value next (values .wrong)
 
 -- If reading the rows is refused, the rules refuse them so.
-rows-so-if-refused : {s : List ℕ} (from : ℕ) {r : RefusedAt} → Bytes s → rowsFrom s from ≡ refused r
+rows-so-if-refused : {s : List ℕ} (from : ℕ) {r : RefusedAt} → Bytes s → from ≤ length s → rowsFrom s from ≡ refused r
     → RowsRefusedSo s from (refusalNumber (r .refusal)) (r .place)
-rows-so-if-refused {s} from {r} b e = count (readAt s from) refl e
+rows-so-if-refused {s} from {r} b inside e = count (readAt s from) refl e
   where
     count : (v : NumberRead) → readAt s from ≡ v → afterCount s from v ≡ refused r → RowsRefusedSo s from (refusalNumber (r .refusal)) (r .place)
     count (number.Number n) f g = elim (decLe (n .value) maxRows) [
       | yes few ↦
-          badly-behind-count few (number-stands from n b f) (rows-end-badly (n .value) (n .next) b (simp (le-leb (n .value) maxRows few) at g))
+          badly-behind-count few (number-stands from n b f)
+          (rows-end-badly (n .value) (n .next) b (number-has-one-spelling s from n b f .within) (simp (le-leb (n .value) maxRows few) at g))
       | no many ↦
           let h = simp (lt-leb (n .value) maxRows (omega arith)) at g in
           let is : r ≡ record { refusal = TooManyRows; place = from } = cc in
           rw is (too-large-count n (number-has-one-spelling s from n b f) (omega arith))
     ]
     count (number.Refused q) f g =
-        let is : r ≡ record { refusal = Misspelled; place = from } = cc (g, refused-at-its-start s from q f) in
-        rw is (no-count (refused-none f))
+        let w = refused-bad b inside f in
+        let is : r ≡ record { refusal = Misspelled; place = q .place } = cc (g, w .0) in
+        rw is (no-count (w .1))
 
 -- ---- a table
 
@@ -106,18 +109,12 @@ says-refused-if-so {s} b (bytes-after {at} p l) = rw (rows-then p, lt-ltb at (le
 says-refused-if-so {s} b (long-period {content} p l) =
     rw (rows-then p, le-ltb (length s) (length s) (omega arith), lt-leb (periodOf content) maxPeriod l)
 
--- A part that stands at the start of the bytes ends inside them.
-ends-inside : {s part : List ℕ} {next : ℕ} → PartStands s 0 part next → next ≤ length s
-ends-inside {s} {part} {next} p =
-    let long : length s ≡ length part + (length s - next) = ap length (p .here) ∙ rw (length-append, length-drop) in
-    omega (arith, p .ends)
-
 -- After the rows, only extra bytes and an H above its limit are refused.
 refused-at-end : {s : List ℕ} {at : ℕ} {content : Content} {r : RefusedAt} → ContentEnds s at content → atEnd s content at .answer ≡ Refused r
     → RefusedSo s (refusalNumber (r .refusal)) (r .place)
 refused-at-end {s} {at} {content} {r} p e = elim (decLe (length s) at) [
   | yes l ↦
-      let end : at ≡ length s = omega (arith, ends-inside (p .before)) in
+      let end : at ≡ length s = omega (arith, ends-inside (p .before) (omega arith)) in
       elim (decLe (periodOf content) maxPeriod) [
         | yes h ↦
             let z : Accepted (periodOf content) ≡ Refused r = simp (le-ltb at (length s) l, le-leb (periodOf content) maxPeriod h) at e in
@@ -139,7 +136,7 @@ so-if-refused s r b e = after (rowsFrom s 0) refl e
   where
     after : (v : Rows) → rowsFrom s 0 ≡ v → afterRows s v .answer ≡ Refused r → RefusedSo s (refusalNumber (r .refusal)) (r .place)
     after (rows rs at) f g = refused-at-end {content = record { rows = rs }} (rows-end 0 b f) g
-    after (refused q) f g = let same : q ≡ r = cc in bad-rows (rows-so-if-refused 0 b (f ∙ ap refused same))
+    after (refused q) f g = let same : q ≡ r = cc in bad-rows (rows-so-if-refused 0 b (omega arith) (f ∙ ap refused same))
 
 -- The rules refuse bytes with the numbers 1 to 5 only.
 pub one-to-five : {s : List ℕ} {number place : ℕ} → RefusedSo s number place → (1 ≤ number) × (number ≤ 5)
@@ -147,7 +144,7 @@ one-to-five (bad-rows (no-count none)) = (omega arith, omega arith)
 one-to-five (bad-rows (too-large-count n read many)) = (omega arith, omega arith)
 one-to-five (bad-rows (bad-value next bad)) = of-a-value bad
   where
-    of-a-value : {s : List ℕ} {at most number : ℕ} → BadValue s at most number → (1 ≤ number) × (number ≤ 5)
+    of-a-value : {s : List ℕ} {at most number place : ℕ} → BadValue s at most number place → (1 ≤ number) × (number ≤ 5)
     of-a-value (misspelled none) = (omega arith, omega arith)
     of-a-value (out-of-range n read outside) = (omega arith, omega arith)
 one-to-five (bytes-after ended more) = (omega arith, omega arith)

@@ -1,10 +1,10 @@
 -- A value, a row, and rows one after another are read at a place exactly when their spelling stands there and they are within their limits. Rows are proved
 -- from a row, and a row from a value, each in both directions. (docs/RULES.md, section 3.)
-use Prim.Native.Nat.{ℕ, zero, suc, _+_, _≤_}
+use Prim.Native.Nat.{ℕ, zero, suc, _+_, _-_, _≤_}
 use native.Mathlib.Omega.{arith}
 use mathlib.Core.Path.{_≡_, refl, sym, ap, _∙_}
 use mathlib.Core.List.{List, [], _∷_, _++_, flatten, map, append-assoc, append-nil}
-use lib.ListN.{length, drop, length-append}
+use lib.ListN.{length, drop, length-append, length-drop}
 use lib.Seq.{drop-drop, drop-length, drop-append-seam}
 use borrow.Author.Tests.{le-leb}
 use Rattle.kinds.proofs.Apart.{impossible}
@@ -46,6 +46,12 @@ module _ {s : List ℕ} {at next : ℕ} where
         record { here = p .here ∙ rw (append-assoc, later); ends = refl },
         record { here = later; ends = omega (arith, length-append a b) },
       )
+
+-- What stands from a place of the bytes on ends inside them.
+pub ends-inside : {s part : List ℕ} {at next : ℕ} → PartStands s at part next → at ≤ length s → next ≤ length s
+ends-inside {s} {part} {at} {next} p inside =
+    let long : length s - at ≡ length part + (length s - next) = sym (length-drop at s) ∙ ap length (p .here) ∙ rw (length-append, length-drop) in
+    omega (arith, p .ends)
 
 -- ---- a number, and a value
 

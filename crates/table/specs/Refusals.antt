@@ -6,7 +6,8 @@ use mathlib.Core.Logic.{_↔_, _⊎_}
 use mathlib.Core.List.{List, [], _∷_, _++_, flatten, map, List·Memᴰ}
 use lib.ListN.{length, drop, getD}
 use Rattle.numbers.specs.declared.Number.{Number}
-use Rattle.numbers.specs.SpelledNumbers.{Bytes, Spelled, NoNumber}
+use Rattle.numbers.specs.SpelledNumbers.{Bytes, Spelled}
+use Rattle.numbers.specs.BadByte.{BadByteAt, FirstBadByte}
 use Rattle.numbers.specs.Spelling.{spelling}
 use Rattle.table.specs.declared.Row.{Row}
 use Rattle.table.specs.Limits.{maxRows, maxX, maxY, maxD, maxC, maxPeriod}
@@ -49,19 +50,19 @@ pub record RowsEnd (s : List ℕ) (from at : ℕ) (rows : List Row) : Type 0 whe
   pub rows-within : (r : Row) → List·Memᴰ r rows → WithinLimits r
   pub before : PartStands s from (spelledRows rows) at
 
--- A value that begins at a place is refused with 1 if it can't be read, and with 3 if it is out of its range. (3.8, 3.10)
-pub data BadValue (s : List ℕ) (at most : ℕ) : (number : ℕ) → Type 0 where
-  misspelled : NoNumber s at → BadValue s at most 1
-  out-of-range : (n : Number) → Spelled s at n → (n .value ≡ 0) ⊎ (most < n .value) → BadValue s at most 3
+-- A value that begins at `at` is refused with 1, at its bad byte, if it can't be read, and with 3, at its start, if it is out of its range. (3.8, 3.10)
+pub data BadValue (s : List ℕ) (at most : ℕ) : (number place : ℕ) → Type 0 where
+  misspelled : {place : ℕ} → BadByteAt s at place → BadValue s at most 1 place
+  out-of-range : (n : Number) → Spelled s at n → (n .value ≡ 0) ⊎ (most < n .value) → BadValue s at most 3 at
 
 -- The rules refuse the rows whose count stands at the place `from`, with this number and at this place. (3.7 to 3.10)
 pub data RowsRefusedSo (s : List ℕ) (from : ℕ) : (number place : ℕ) → Type 0 where
-  -- If the row count can't be read, that is refusal 1, at its start. (3.8)
-  no-count : NoNumber s from → RowsRefusedSo s from 1 from
+  -- If the row count can't be read, that is refusal 1, at its bad byte. (3.8)
+  no-count : {place : ℕ} → BadByteAt s from place → RowsRefusedSo s from 1 place
   -- If the row count is above 16, that is refusal 2, at its start, whatever follows. (3.9)
   too-large-count : (n : Number) → Spelled s from n → maxRows < n .value → RowsRefusedSo s from 2 from
-  -- If a value can't be read or is out of its range, that is refusal 1 or 3, at its start. (3.8, 3.10)
-  bad-value : {number at most : ℕ} → ValueNext s from at most → BadValue s at most number → RowsRefusedSo s from number at
+  -- If a value can't be read, that is refusal 1, at its bad byte. If it is out of its range, that is refusal 3, at its start. (3.8, 3.10)
+  bad-value : {number place at most : ℕ} → ValueNext s from at most → BadValue s at most number place → RowsRefusedSo s from number place
 
 -- ---- tables
 
@@ -78,12 +79,16 @@ pub data RefusedSo (s : List ℕ) : (number place : ℕ) → Type 0 where
   -- If H is above 1,048,576, that is refusal 5, at the table's length. (3.12)
   long-period : {content : Content} → ContentEnds s (length s) content → maxPeriod < periodOf content → RefusedSo s 5 (length s)
 
--- ---- what is proved (proofs/TableAnswers.antt)
+-- ---- what is proved (proofs/TableAnswers.antt and BadBytes.antt)
 
 -- Reading bytes answers a refusal, with its number and its place, exactly when the rules refuse the bytes so. All other bytes are accepted, since an answer is
 -- one or the other. (3.7 to 3.13)
 abbrev pub RefusedExactly : Type 0
 RefusedExactly = (s : List ℕ) (number place : ℕ) → Bytes s → SaysRefused s number place ↔ RefusedSo s number place
+
+-- Bytes that are refused with 1 are refused at their first bad byte. (3.8)
+abbrev pub RefusedAtTheFirstBadByte : Type 0
+RefusedAtTheFirstBadByte = (s : List ℕ) (place : ℕ) → Bytes s → SaysRefused s 1 place → FirstBadByte s place
 
 -- Bytes are refused as a table with the numbers 1 to 5 only. (10.4)
 abbrev pub RefusedWithOneToFive : Type 0

@@ -49,6 +49,13 @@ pub struct Outcome {
     pub fences_stand: bool,
 }
 
+impl Outcome {
+    /// The place of a refusal, the first number of the answer.
+    pub fn place(&self) -> usize {
+        u64::from_le_bytes(self.answer[..8].try_into().unwrap()) as usize
+    }
+}
+
 impl Case {
     pub fn verdict(table: Vec<u8>, answer: Vec<u8>) -> Case {
         Case { call: Call::Verdict, table, script: vec![], log: vec![], answer }

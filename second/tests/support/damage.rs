@@ -58,3 +58,22 @@ pub fn mutate(good: &[u8], random: &mut Random) -> Vec<u8> {
     }
     bytes
 }
+
+/// The damages to one byte: another in its place, its top bit turned, removed, doubled, or cut off with all after it.
+pub fn at(good: &[u8], place: usize) -> Vec<Vec<u8>> {
+    let byte = good[place];
+    let others = [0x00, 0x80, 0xff, byte ^ 0x80].into_iter().filter(|&other| other != byte);
+    let mut all: Vec<Vec<u8>> = others.map(|other| replaced(good, place, &[other])).collect();
+    all.extend([replaced(good, place, &[]), replaced(good, place, &[byte, byte]), good[..place].to_vec()]);
+    all
+}
+
+/// The damages to every byte, one byte at a time.
+pub fn everywhere(good: &[u8]) -> Vec<Vec<u8>> {
+    (0..good.len()).flat_map(|place| at(good, place)).collect()
+}
+
+/// The bytes with others in the place of one of them.
+pub fn replaced(bytes: &[u8], place: usize, by: &[u8]) -> Vec<u8> {
+    [&bytes[..place], by, &bytes[place + 1..]].concat()
+}

@@ -1,6 +1,7 @@
 //! The named cases: every example, and each limit from both sides. They reach every status without any luck.
 
 use super::case::Case;
+use super::damage::replaced;
 use super::scripts::{self, Record};
 use super::tables::{self, Row};
 use second::run::LAST_TICK;
@@ -108,10 +109,6 @@ fn misspellings() -> [Vec<u8>; 8] {
         vec![0xff, 0xff, 0xff, 0xff, 0xff, 0x7f],
         vec![0x80, 0x80, 0x80, 0x80, 0x80, 0x01],
     ]
-}
-
-fn replaced(bytes: &[u8], place: usize, by: &[u8]) -> Vec<u8> {
-    [&bytes[..place], by, &bytes[place + 1..]].concat()
 }
 
 fn edge_scripts() -> Vec<(Vec<Row>, Vec<u8>)> {

@@ -2,8 +2,14 @@
 
 use super::case::Case;
 use super::random::Random;
-use super::{damage, scripts, tables};
+use super::{bad_bytes, damage, scripts, tables};
 use second::{replay, table};
+
+/// As many lengths as a program that looks at every length can be waited for.
+const PATIENCE: u64 = 20_000;
+
+/// As many records as a script has that is damaged at every byte.
+pub const RECORDS: usize = 5;
 
 pub type Family = (&'static str, fn(&mut Random) -> Case);
 
@@ -72,9 +78,31 @@ pub const ALL: [Family; 11] = [
     }),
 ];
 
+pub type Exhaustive = (&'static str, fn(u64, u64) -> Box<dyn Iterator<Item = Case>>);
+
+/// Each byte of a table or script damaged in turn, from a seed and for so many random ones. The answer buffer has its
+/// right size and the log is long enough, so that every bad byte is answered.
+pub const AT_EVERY_BYTE: [Exhaustive; 3] = [
+    ("verdicts of tables damaged at every byte", |seed, count| {
+        let quick = bad_bytes::tables(seed, count).filter(|table| tables::lengths_to_look_at(table) <= PATIENCE);
+        Box::new(quick.map(|table| Case::verdict(table, vec![0x5a; 16])))
+    }),
+    ("replays on tables damaged at every byte", |seed, count| {
+        Box::new(bad_bytes::tables(seed, count).map(|table| play_whole(table, vec![0, 0, 1])))
+    }),
+    ("replays of scripts damaged at every byte", |seed, count| {
+        Box::new(bad_bytes::scripts(RECORDS, seed, count).map(|(table, script)| play_whole(table, script)))
+    }),
+];
+
+fn play_whole(table: Vec<u8>, script: Vec<u8>) -> Case {
+    let log = vec![0xa5; 10 * script.len()];
+    Case::replay(table, script, log, vec![0x5a; 16])
+}
+
 /// Makes a verdict where a program that looks at every length ends soon, and otherwise a replay on the same table.
 fn judge(table: Vec<u8>, random: &mut Random) -> Case {
-    let patience = if random.one_in(200) { 1_100_000 } else { 20_000 };
+    let patience = if random.one_in(200) { 1_100_000 } else { PATIENCE };
     if tables::lengths_to_look_at(&table) <= patience {
         Case::verdict(table, answer(random))
     } else {

@@ -4,7 +4,9 @@
 // Each comparison is a program of its own and uses only some of these parts.
 #![allow(dead_code)]
 
+pub mod bad_bytes;
 pub mod case;
+pub mod chooser;
 pub mod damage;
 pub mod edges;
 pub mod families;
@@ -14,3 +16,4 @@ pub mod scripts;
 pub mod settings;
 pub mod tables;
 pub mod tally;
+pub mod trace;

@@ -58,8 +58,8 @@ shared-slice-read-first c = omega arith
 cast-first : tie.Need-cast-first Inv-loop μ-loop
 cast-first c = omega (arith, c .shared-slice-known2 .given (c .before .before .before .args .at))
 
-add-t13 : tie.Need-add-t13 Inv-loop μ-loop
-add-t13 c = omega arith
+add-t14 : tie.Need-add-t14 Inv-loop μ-loop
+add-t14 c = omega arith
 
 returns-2 : tie.Need-returns-2 Inv-loop μ-loop
 returns-2 c = sym (read-one _ _ (c .before .before .if1 .left) (c .if2 .taken))
@@ -95,14 +95,14 @@ returns-4 c =
     let t = here .before in
     c .misspelled3 .ensures ∙ sym (read-zero (t .before .loop .inv) (t .loop-test .taken) (here .if3 .left) (c .before .if4 .taken))
 
-mul-t19 : tie.Need-mul-t19 Inv-loop μ-loop
-mul-t19 c = omega (arith, last-fits c)
+mul-t21 : tie.Need-mul-t21 Inv-loop μ-loop
+mul-t21 c = omega (arith, last-fits c)
 
-add-t20 : tie.Need-add-t20 Inv-loop μ-loop
-add-t20 c = omega (arith, last-fits c)
+add-t22 : tie.Need-add-t22 Inv-loop μ-loop
+add-t22 c = omega (arith, last-fits c)
 
-add-t21 : tie.Need-add-t21 Inv-loop μ-loop
-add-t21 c = omega arith
+add-t23 : tie.Need-add-t23 Inv-loop μ-loop
+add-t23 c = omega arith
 
 returns-5 : tie.Need-returns-5 Inv-loop μ-loop
 returns-5 c =
@@ -134,6 +134,12 @@ loop-again c =
     let b = c .before .before .shared-slice-known3 .given (place t) in
     next-passed (t .before .loop .inv) (t .loop-test .taken) (here .if3 .left) (c .if5 .left) (b .fits)
 
+add-misspelled : tie.Need-add-misspelled Inv-loop μ-loop
+add-misspelled c = omega (arith, c .before .loop .inv .inside)
+
+sub-misspelled : tie.Need-sub-misspelled Inv-loop μ-loop
+sub-misspelled c = omega arith
+
 misspelled-requires-4 : tie.Need-misspelled-requires-4 Inv-loop μ-loop
 misspelled-requires-4 c κs = search needs
 
@@ -150,7 +156,7 @@ read-spec =
     returns
     shared-slice-read-first
     cast-first
-    add-t13
+    add-t14
     returns-2
     loop-holds
     add-i
@@ -160,9 +166,9 @@ read-spec =
     cast-group
     misspelled-requires-3
     returns-4
-    mul-t19
-    add-t20
-    add-t21
+    mul-t21
+    add-t22
+    add-t23
     returns-5
     mul-value
     add-value
@@ -170,5 +176,7 @@ read-spec =
     add-groups
     loop-less
     loop-again
+    add-misspelled
+    sub-misspelled
     misspelled-requires-4
     returns-6)

@@ -1,9 +1,7 @@
--- `script::number_at` meets its contract. A place past the end is refused at the script's length. Otherwise a number that can be read is the number there, and
--- any other is refused with 14.
+-- `script::number_at` meets its contract: a number that can be read is the number there, and any other is refused with 14.
 use mathlib.Core.Path.{sym, _∙_}
-use native.Mathlib.Omega.{arith}
 use borrow.Author.Needs.{needs}
-use Rattle.script.proofs.Records.{number-past-end, number-stands, number-misspelled}
+use Rattle.script.proofs.Records.{number-stands, number-misspelled}
 use Rattle.script.proofs.number_at.Statement.{statement}
 use Rattle.script.proofs.number_at.Tie as tie
 
@@ -17,15 +15,10 @@ enum-known-r : tie.Need-enum-known-r
 enum-known-r c = search needs
 
 returns : tie.Need-returns
-returns c = sym (number-past-end (c .before .before .args .script .now) _ (c .if1 .taken))
+returns c = sym (number-stands _ _ (sym (c .before .before .before .read .ensures) ∙ c .before .n .given .1))
 
 returns-2 : tie.Need-returns-2
-returns-2 c = sym (number-stands _ _ (sym (c .before .before .before .read .ensures) ∙ c .before .n .given .1))
-
-returns-3 : tie.Need-returns-3
-returns-3 c =
-    let read = c .before .before .before in
-    sym (number-misspelled _ _ (omega (arith, read .before .if1 .left)) (sym (read .read .ensures) ∙ c .before .r .given .1))
+returns-2 c = sym (number-misspelled _ _ (sym (c .before .before .before .read .ensures) ∙ c .before .r .given .1))
 
 pub number-at-spec : {M : Type 1} → statement M
-number-at-spec = tie.close (tie.spec returns read-requires enum-known-n enum-known-r returns-2 returns-3)
+number-at-spec = tie.close (tie.spec read-requires enum-known-n enum-known-r returns returns-2)

@@ -1,0 +1,131 @@
+/*
+ * The refusals that the rules want for a table and a script, worked out from the bytes alone (docs/RULES.md, 10.3 and
+ * 10.4). The tests compare the two calls with it. It shares no code with the library or with the technician's program.
+ */
+#ifndef WANTED_H
+#define WANTED_H
+
+#include "jyrmekko.h"
+
+/* How a number is spelled: it can be read, or it is refused for one of the causes in docs/RULES.md, 2.7 and 2.8. */
+enum spelled { READABLE, ZERO_GROUP, SIXTH_GROUP, CUT_INSIDE, MISSING, SPELLED };
+
+struct found {
+    enum spelled spelled;
+    uint64_t value;
+    size_t place; /* The place right after a readable number, or else the place of the bad byte. */
+};
+
+static inline struct found find_number(const uint8_t *bytes, size_t length, size_t start)
+{
+    struct found found = {READABLE, 0, 0};
+    size_t asking = 0, group;
+    while (start + asking < length && bytes[start + asking] > 127) {
+        asking++;
+    }
+    if (asking > 5) {
+        found.spelled = SIXTH_GROUP;
+        found.place = start + 5;
+    } else if (start + asking == length) {
+        found.spelled = asking > 0 ? CUT_INSIDE : MISSING;
+        found.place = length;
+    } else if (asking > 0 && bytes[start + asking] == 0) {
+        found.spelled = ZERO_GROUP;
+        found.place = start + asking;
+    } else {
+        for (group = asking + 1; group > 0; group--) {
+            found.value = 128 * found.value + bytes[start + group - 1] % 128;
+        }
+        found.place = start + asking + 1;
+    }
+    return found;
+}
+
+/* A refusal that is wanted, or none, with status 0. */
+struct wanted {
+    uint32_t status;
+    size_t place;
+    enum spelled spelled; /* With 1 and 14 this is how the number is spelled. */
+    size_t record;        /* In a script this is the start of the refused record. With none it is the length. */
+};
+
+static inline struct wanted wanted_at(uint32_t status, size_t place, enum spelled spelled, size_t record)
+{
+    struct wanted wanted = {status, place, spelled, record};
+    return wanted;
+}
+
+/* The rows of a table that wants no refusal: how many they are, and the most that a job of each may cost. */
+struct rows {
+    uint64_t count;
+    uint64_t cost[JYRMEKKO_MOST_ROWS];
+};
+
+/* Returns which of 1 to 4 is wanted. 5 is left out. */
+static inline struct wanted wanted_of_table(const uint8_t *table, size_t length, struct rows *rows)
+{
+    enum { COST = 3, VALUES = 4 };
+    static const uint64_t most[VALUES] = {64, 4096, 16384, 4096};
+    struct found found = find_number(table, length, 0);
+    size_t i;
+    rows->count = 0;
+    if (found.spelled != READABLE) {
+        return wanted_at(JYRMEKKO_MISSPELLED, found.place, found.spelled, 0);
+    }
+    if (found.value > JYRMEKKO_MOST_ROWS) {
+        return wanted_at(JYRMEKKO_TOO_MANY_ROWS, 0, READABLE, 0);
+    }
+    rows->count = found.value;
+    for (i = 0; i < VALUES * rows->count; i++) {
+        size_t start = found.place;
+        found = find_number(table, length, start);
+        if (found.spelled != READABLE) {
+            return wanted_at(JYRMEKKO_MISSPELLED, found.place, found.spelled, 0);
+        }
+        if (found.value < 1 || found.value > most[i % VALUES]) {
+            return wanted_at(JYRMEKKO_VALUE_OUT_OF_RANGE, start, READABLE, 0);
+        }
+        if (i % VALUES == COST) {
+            rows->cost[i / VALUES] = found.value;
+        }
+    }
+    if (found.place < length) {
+        return wanted_at(JYRMEKKO_EXTRA_BYTES, found.place, READABLE, 0);
+    }
+    return wanted_at(0, 0, READABLE, 0);
+}
+
+/* Returns which of 14, 10, 6 and 7 is wanted where no release before it is refused with 8 or 9. */
+static inline struct wanted wanted_of_script(const uint8_t *script, size_t length, const struct rows *rows)
+{
+    enum { GAP, ROW, COST, NUMBERS };
+    const uint64_t last_tick = (uint64_t)1 << 40;
+    uint64_t time = 0, row = 0;
+    size_t i, start = 0, record = 0;
+    for (i = 0; i % NUMBERS != GAP || start < length; i++) {
+        struct found found = find_number(script, length, start);
+        if (i % NUMBERS == GAP) {
+            record = start;
+        }
+        if (found.spelled != READABLE) {
+            return wanted_at(JYRMEKKO_SCRIPT_MISSPELLED, found.place, found.spelled, record);
+        }
+        if (i % NUMBERS == GAP) {
+            time += found.value;
+            if (time > last_tick) {
+                return wanted_at(JYRMEKKO_TIME_TOO_LATE, start, READABLE, record);
+            }
+        } else if (i % NUMBERS == ROW) {
+            row = found.value;
+            if (row >= rows->count) {
+                return wanted_at(JYRMEKKO_NO_SUCH_ROW, start, READABLE, record);
+            }
+        } else if (found.value < 1 || found.value > rows->cost[row]) {
+            return wanted_at(JYRMEKKO_COST_OUT_OF_RANGE, start, READABLE, record);
+        }
+        start = found.place;
+    }
+    return wanted_at(0, 0, READABLE, length);
+}
+
+#endif

@@ -1,0 +1,76 @@
+-- Bytes that are refused with 1 as a table are refused at their first bad byte: all that stands before the bad number is numbers. (docs/RULES.md, 3.8.)
+use Prim.Native.Nat.{ℕ, suc, _≤_, _<_}
+use native.Mathlib.Omega.{arith}
+use mathlib.Core.Path.{_≡_, refl, subst}
+use mathlib.Core.List.{List, [], _∷_, _++_, flatten, map, List·Memᴰ}
+use lib.ListN.{length, drop, getD}
+use Rattle.numbers.specs.Spelling.{maxNumber, spelling}
+use Rattle.numbers.specs.BadByte.{NumbersBetween, nothing-between, number-first, FirstBadByte}
+use Rattle.numbers.proofs.Spellings.{spelled-rest}
+use Rattle.numbers.proofs.BadByte.{numbers-joined}
+use Rattle.table.specs.declared.Row.{Row}
+use Rattle.table.specs.SpelledTables.{WithinLimits, spelledRow}
+use Rattle.table.specs.Refusals.{PartStands, ValueNext, misspelled, out-of-range}
+use Rattle.table.specs.Refusals.{no-count, too-large-count, bad-value, RefusedSo, bad-rows, bytes-after, long-period}
+use Rattle.table.specs.Refusals.{RefusedAtTheFirstBadByte}
+use Rattle.table.proofs.Each.{each-head, each-tail}
+use Rattle.table.proofs.Spelling.{parted}
+use Rattle.table.proofs.BadValues.{limits-small}
+use Rattle.table.proofs.TableAnswers.{refused-exactly}
+
+module _ {s : List ℕ} where
+  -- Where the spelling of a number stands, the number stands.
+  number-there : {at next : ℕ} (v : ℕ) → v ≤ maxNumber → PartStands s at (spelling v) next → NumbersBetween s at next
+  number-there {at} {next} v h p =
+      number-first (record { value = v; next = next }) (spelled-rest s (drop next s) at (record { value = v; next = next }) h (p .here) (p .ends)) nothing-between
+
+  -- Where the spellings of values stand, one after another, numbers stand.
+  values-there : {at next : ℕ} (values : List ℕ) → ((i : ℕ) → i < length values → getD values i 0 ≤ maxNumber) → PartStands s at (flatten (map spelling values)) next
+      → NumbersBetween s at next
+  unfolding flatten
+  values-there {at} {next} [] small p = let same : at ≡ next = omega (arith, p .ends) in subst (λ end. NumbersBetween s at end) same nothing-between
+  values-there (v ∷ values) small p =
+      let t = parted (spelling v) (flatten (map spelling values)) p in
+      numbers-joined (number-there v (small 0 (omega arith)) (t .1)) (values-there values (λ i h. small (suc i) (omega arith)) (t .2))
+
+  -- Where the spelling of a row stands, four numbers stand.
+  row-there : {at next : ℕ} (r : Row) → WithinLimits r → PartStands s at (spelledRow r) next → NumbersBetween s at next
+  row-there r w p =
+      let x = parted (spelling (r .x)) (spelling (r .y) ++ (spelling (r .d) ++ spelling (r .c))) p in
+      let y = parted (spelling (r .y)) (spelling (r .d) ++ spelling (r .c)) (x .2) in
+      let d = parted (spelling (r .d)) (spelling (r .c)) (y .2) in
+      numbers-joined (number-there (r .x) (omega (arith, w .most-x)) (x .1))
+      (numbers-joined (number-there (r .y) (omega (arith, w .most-y)) (y .1))
+      (numbers-joined (number-there (r .d) (omega (arith, w .most-d)) (d .1)) (number-there (r .c) (omega (arith, w .most-c)) (d .2))))
+
+  -- Where the spellings of rows stand, numbers stand.
+  rows-there : {at next : ℕ} (rows : List Row) → ((r : Row) → List·Memᴰ r rows → WithinLimits r) → PartStands s at (flatten (map spelledRow rows)) next
+      → NumbersBetween s at next
+  unfolding flatten
+  rows-there {at} {next} [] each p = let same : at ≡ next = omega (arith, p .ends) in subst (λ end. NumbersBetween s at end) same nothing-between
+  rows-there (r ∷ rows) each p =
+      let t = parted (spelledRow r) (flatten (map spelledRow rows)) p in
+      numbers-joined (row-there r (each-head each) (t .1)) (rows-there rows (each-tail each) (t .2))
+
+  -- Up to a value that is next, numbers stand.
+  numbers-before : {from at most : ℕ} → ValueNext s from at most → NumbersBetween s from at
+  numbers-before p =
+      let rest = flatten (map spelling (p .values)) in
+      let t = parted (spelling (p .count)) (flatten (map spelledRow (p .rows)) ++ rest) (p .before) in
+      let u = parted (flatten (map spelledRow (p .rows))) rest (t .2) in
+      let small : (i : ℕ) → i < length (p .values) → getD (p .values) i 0 ≤ maxNumber =
+      λ i h. omega (arith, p .first-values .within i h, limits-small i) in
+      numbers-joined (number-there (p .count) (omega (arith, p .few-rows)) (t .1))
+      (numbers-joined (rows-there (p .rows) (p .rows-within) (u .1)) (values-there (p .values) small (u .2)))
+
+  -- What is to be refused with 1 has its first bad byte there.
+  first-bad : {number place : ℕ} → RefusedSo s number place → number ≡ 1 → FirstBadByte s place
+  first-bad (bad-rows (no-count p)) one = record { start = 0; before = nothing-between; bad = p }
+  first-bad (bad-rows (too-large-count n read many)) one = absurd (omega arith)
+  first-bad (bad-rows (bad-value {at} next (misspelled p))) one = record { start = at; before = numbers-before next; bad = p }
+  first-bad (bad-rows (bad-value next (out-of-range n p o))) one = absurd (omega arith)
+  first-bad (bytes-after p l) one = absurd (omega arith)
+  first-bad (long-period p l) one = absurd (omega arith)
+
+pub refused-at-the-first-bad-byte : RefusedAtTheFirstBadByte
+refused-at-the-first-bad-byte s place b e = first-bad (refused-exactly s 1 place b .0 e) refl
