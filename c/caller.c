@@ -23,7 +23,7 @@ struct lent {
     uint8_t fill;
 };
 
-enum { GUARD = 64 };
+enum { GUARD = 64, SCRIPT_NUMBERS = 3 };
 
 static struct lent lend(size_t length, uint8_t fill)
 {
@@ -153,6 +153,10 @@ static void expect_script_answer(struct answer answer, struct bytes table, struc
         expect(answer.second == 0, "the second number beside a refusal is 0");
     if (answer.status == JYRMEKKO_PLACES_FULL || answer.status == JYRMEKKO_DUE_TOO_LATE) {
         expect(answer.first < wanted.record, "the place of 8 and 9 is in a record before the first other refusal");
+        struct bytes before = {script.at, (size_t)answer.first};
+        if (answer.status == JYRMEKKO_PLACES_FULL)
+            expect(count_numbers(before) / SCRIPT_NUMBERS >= JYRMEKKO_MOST_PENDING,
+                   "8 is answered only after as many releases as jobs may be pending");
     } else if (wanted.status != 0) {
         expect(answer.status == wanted.status, "6, 7, 10 and 14 are answered exactly when their rules say");
         if (wanted.status == JYRMEKKO_SCRIPT_MISSPELLED)
@@ -167,25 +171,44 @@ static void expect_script_answer(struct answer answer, struct bytes table, struc
     }
 }
 
+/* Expects that no more jobs were ever pending than may be. Releases are ordered by serial, and finishes by time. */
+static void expect_places(const uint64_t *releases, const uint64_t *finishes, uint64_t jobs)
+{
+    uint64_t finished = 0;
+    for (uint64_t serial = 0; serial < jobs; serial++) {
+        while (finished < jobs && finishes[finished] <= releases[serial])
+            finished++;
+        expect(serial + 1 - finished <= JYRMEKKO_MOST_PENDING, "no more jobs are pending at a time than may be");
+    }
+}
+
 /* Expects one log record for each job, in the order of finishing, and as many late ones as the answer says. */
 static void expect_log(struct bytes log, struct bytes script, uint64_t late_answered)
 {
     enum { SERIAL, ROW, RELEASE, DUE, FINISH, NUMBERS };
-    uint64_t jobs = count_numbers(script) / 3, records = 0, late = 0, last_finish = 0;
+    uint64_t jobs = count_numbers(script) / SCRIPT_NUMBERS, records = 0, late = 0, last_finish = 0;
+    uint64_t *releases = allocate(jobs * sizeof *releases), *finishes = allocate(jobs * sizeof *finishes);
     size_t at = 0;
+    for (uint64_t i = 0; i < jobs; i++)
+        releases[i] = UINT64_MAX;
     while (at < log.length) {
         uint64_t job[NUMBERS];
         for (int i = 0; i < NUMBERS; i++)
             expect(read_number(log, &at, &job[i]), "the log is whole records of well spelled numbers");
-        expect(job[SERIAL] < jobs, "serials are below the number of jobs");
+        expect(job[SERIAL] < jobs && releases[job[SERIAL]] == UINT64_MAX,
+               "serials are below the number of jobs, and no two are equal");
         expect(job[RELEASE] < job[DUE] && job[RELEASE] < job[FINISH], "jobs are due, and finish, after their release");
         expect(job[FINISH] > last_finish, "at most one job finishes in a tick");
         last_finish = job[FINISH];
         late += job[FINISH] > job[DUE];
-        records++;
+        releases[job[SERIAL]] = job[RELEASE];
+        finishes[records++] = job[FINISH];
     }
     expect(last_finish <= UINT64_C(1) << 40, "the clock is at most 2^40");
     expect(records == jobs, "each job of the script has its record in the log");
+    expect_places(releases, finishes, jobs);
+    free(releases);
+    free(finishes);
     expect(late == late_answered, "the answer counts as many late jobs as the log has");
 }
 
@@ -244,12 +267,12 @@ static struct answer replay_with(struct bytes table, struct bytes script, size_t
  */
 static uint64_t search_of(struct bytes table)
 {
-    enum { X, Y, D, C, VALUES, MOST_ROWS = 16, LONGEST_PERIOD = 1048576 };
+    enum { X, Y, D, C, VALUES, LONGEST_PERIOD = 1048576 };
     static const uint64_t most[VALUES] = {64, 4096, 16384, 4096};
-    uint64_t rows[MOST_ROWS][VALUES];
+    uint64_t rows[JYRMEKKO_MOST_ROWS][VALUES];
     uint64_t count, period = 1, longest = 0, per_period = 0, spared = 0;
     size_t at = 0;
-    if (!read_number(table, &at, &count) || count > MOST_ROWS)
+    if (!read_number(table, &at, &count) || count > JYRMEKKO_MOST_ROWS)
         return 0;
     for (uint64_t i = 0; i < count; i++) {
         for (int value = X; value < VALUES; value++)

@@ -33,6 +33,11 @@ finish() {
   [ "$failed" -eq 0 ]
 }
 
+# macro NAME: prints the number that a macro of jyrmekko.h stands for. The test runs in the folder above include/.
+macro() {
+  echo "$1" | "${CC:-cc}" -E -P -include include/jyrmekko.h -x c - | tail -n 1
+}
+
 # bytes HEX..: writes these bytes to standard output.
 bytes() {
   local all

@@ -9,6 +9,10 @@
 #include <inttypes.h>
 #include <stdlib.h>
 
+/* The number of a macro, as text. */
+#define DIGITS(number) #number
+#define TEXT_OF(macro) DIGITS(macro)
+
 /*
  * The refusals of the two calls. Each has the file that its place is in, and says when it is given in the words of the
  * rules (docs/RULES.md, 10.3). Where these words are null, what stands at the place says it.
@@ -19,13 +23,13 @@ static const struct refusal {
     const char *why;
 } refusals[] = {
     {JYRMEKKO_MISSPELLED, "table", NULL},
-    {JYRMEKKO_TOO_MANY_ROWS, "table", "the row count is above 16"},
+    {JYRMEKKO_TOO_MANY_ROWS, "table", "the row count is above " TEXT_OF(JYRMEKKO_MOST_ROWS)},
     {JYRMEKKO_VALUE_OUT_OF_RANGE, "table", "an x, y, d or c is out of its range"},
     {JYRMEKKO_EXTRA_BYTES, "table", "there are bytes after the last row"},
     {JYRMEKKO_PERIOD_TOO_LONG, "table", "H, the least common multiple of all y, is above 1,048,576"},
     {JYRMEKKO_NO_SUCH_ROW, "script", "the row number is not in use"},
     {JYRMEKKO_COST_OUT_OF_RANGE, "script", "the cost is 0 or above the row's c"},
-    {JYRMEKKO_PLACES_FULL, "script", "64 jobs are pending at this release"},
+    {JYRMEKKO_PLACES_FULL, "script", TEXT_OF(JYRMEKKO_MOST_PENDING) " jobs are pending at this release"},
     {JYRMEKKO_DUE_TOO_LATE, "script", "the due time would be above 2^40"},
     {JYRMEKKO_TIME_TOO_LATE, "script", "a script time is above 2^40, or a job is pending at 2^40 after the script"},
     {JYRMEKKO_NO_ROOM, "script", "the log is longer than its buffer"},

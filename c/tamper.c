@@ -21,7 +21,8 @@ static bool tampering(const char *name)
     static const char *const names[] = {"nothing", "status", "answer-past-its-end", "answer-beside-13", "second-number",
                                         "place", "answer-from-before", "table-written", "always-feasible",
                                         "log-before-its-start", "log-past-its-length", "log-kept", "log-cut",
-                                        "log-too-long", "number-start", "byte-before", "byte-after", "end-for-byte"};
+                                        "log-too-long", "number-start", "byte-before", "byte-after", "end-for-byte",
+                                        "fewer-rows", "fewer-places"};
     const char *chosen = getenv("TAMPER");
     for (size_t i = 0; chosen != NULL && i < sizeof names / sizeof names[0]; i++)
         if (strcmp(chosen, names[i]) == 0)
@@ -32,6 +33,20 @@ static bool tampering(const char *name)
 static bool is_refusal(uint32_t status)
 {
     return status < JYRMEKKO_FEASIBLE || status > JYRMEKKO_LATE;
+}
+
+static bool has_most_rows(const uint8_t *table, size_t table_len)
+{
+    return table_len > 0 && table[0] == JYRMEKKO_MOST_ROWS;
+}
+
+/* Answers a refusal at a place, where the answer buffer has its right length. */
+static uint32_t refused(uint32_t status, size_t place, uint8_t *answer)
+{
+    memset(answer, 0, JYRMEKKO_ANSWER_SIZE);
+    for (int i = FIRST; i < SECOND; i++, place >>= 8)
+        answer[i] = (uint8_t)(place & 0xFF);
+    return status;
 }
 
 /* Moves the place of 1 in the table, or of 14 in the script. TAMPER_STATUS says which of the two is moved. */
@@ -75,6 +90,8 @@ static uint32_t tampered(uint32_t status, const uint8_t *table, size_t table_len
             answer[SECOND - 1] = 1;
         if (status == JYRMEKKO_MISSPELLED)
             move_place(status, table, table_len, answer);
+        if (tampering("fewer-rows") && has_most_rows(table, table_len))
+            return refused(JYRMEKKO_TOO_MANY_ROWS, 0, answer);
         if (tampering("status"))
             return (uint32_t)strtoul(getenv("TAMPER_STATUS"), NULL, 10);
     }
@@ -110,6 +127,12 @@ uint32_t __wrap_replay(const uint8_t *table, size_t table_len, const uint8_t *sc
             answer[FIRST]--;
         if (tampering("log-too-long") && !is_refusal(status))
             answer[SECOND - 1] = 1;
+        if (tampering("fewer-rows") && has_most_rows(table, table_len))
+            memset(log, 0, log_len);
+        if (tampering("fewer-places") && !is_refusal(status) && script_len == 3 * JYRMEKKO_MOST_PENDING) {
+            memset(log, 0, log_len);
+            return refused(JYRMEKKO_PLACES_FULL, 3 * (JYRMEKKO_MOST_PENDING - 1), answer);
+        }
     }
     return tampered(status, table, table_len, answer, answer_len, before);
 }

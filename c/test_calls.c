@@ -25,7 +25,8 @@
 #define ASKING_5 0x80, 0x80, 0x80, 0x80, 0x80
 #define ASKING_6 ASKING_5, 0x80
 
-enum { FENCE = 16, MOST_LOG = 400 };
+/* Any log of the scripts here fits. */
+enum { FENCE = 16, MOST_LOG = JYRMEKKO_LOG_SIZE(3 * (JYRMEKKO_MOST_PENDING + 2)) };
 
 static unsigned passed, failed;
 
@@ -121,7 +122,7 @@ static const struct verdict_case verdict_cases[] = {
     {"y of five groups, cut off as the fifth asks for more", {1, 1, ASKING_5}, 7, JYRMEKKO_MISSPELLED, 7, 0},
     {"y of six groups, the last of them zero", {1, 1, ASKING_5, 0x00, 1, 1}, 10, JYRMEKKO_MISSPELLED, 7, 0},
     {"y of six groups", {1, 1, ASKING_5, 0x01, 1, 1}, 10, JYRMEKKO_VALUE_OUT_OF_RANGE, 2, 0},
-    {"17 rows", {17}, 1, JYRMEKKO_TOO_MANY_ROWS, 0, 0},
+    {"one row too many", {JYRMEKKO_MOST_ROWS + 1}, 1, JYRMEKKO_TOO_MANY_ROWS, 0, 0},
     {"x 0", {1, 0, 2, 6, 1}, 5, JYRMEKKO_VALUE_OUT_OF_RANGE, 1, 0},
     {"x 65", {1, 65, 2, 6, 1}, 5, JYRMEKKO_VALUE_OUT_OF_RANGE, 1, 0},
     {"y 4097", {1, 1, 0x81, 0x20, 1, 1}, 6, JYRMEKKO_VALUE_OUT_OF_RANGE, 2, 0},
@@ -179,7 +180,7 @@ static const struct replay_case replay_cases[] = {
     {"table misspelled", {1, 0x80, 0x00}, 3, R1, 20, JYRMEKKO_MISSPELLED, 2, 0, {0}},
     {"table cut off", {1}, 1, R1, 20, JYRMEKKO_MISSPELLED, 1, 0, {0}},
     {"y of seven groups", {1, 1, ASKING_6, 1}, 9, R1, 20, JYRMEKKO_MISSPELLED, 7, 0, {0}},
-    {"too many rows", {17}, 1, R1, 20, JYRMEKKO_TOO_MANY_ROWS, 0, 0, {0}},
+    {"one row too many", {JYRMEKKO_MOST_ROWS + 1}, 1, R1, 20, JYRMEKKO_TOO_MANY_ROWS, 0, 0, {0}},
     {"value out of range", {1, 1, 2, 6, 0}, 5, R1, 20, JYRMEKKO_VALUE_OUT_OF_RANGE, 4, 0, {0}},
     {"bytes after the last row", {0, 0}, 2, R1, 20, JYRMEKKO_EXTRA_BYTES, 1, 0, {0}},
     {"period too long", {2, 1, 0xF5, 0x08, 1, 1, 1, 0x97, 0x07, 2, 1}, 11, R1, 20, JYRMEKKO_PERIOD_TOO_LONG, 11, 0, {0}},
@@ -236,26 +237,148 @@ static void test_replay(const struct replay_case *c)
     check(same_bytes(script, c->script, sizeof script), c->name, "script afterwards");
 }
 
-/* The 64th pending job is accepted, and the 65th is refused with 8. */
+/* ---- the limit of rows and the limit of pending jobs */
+
+enum {
+    MOST_ROWS = JYRMEKKO_MOST_ROWS,
+    MOST_PENDING = JYRMEKKO_MOST_PENDING,
+    ROW_LEN = 4,    /* Each number of a row has one group here. */
+    RECORD_LEN = 3, /* So has each number of a record. */
+    LONGEST_SPELLED = 1 + ROW_LEN * (MOST_ROWS + 1) + 1
+};
+
+/* Spells a table of so many equal rows (1, MOST_ROWS, d, 1). Returns its length. */
+static size_t spell_rows(uint8_t *table, size_t count, uint8_t d)
+{
+    size_t i;
+    table[0] = (uint8_t)count;
+    for (i = 0; i < count; i++) {
+        uint8_t *row = table + 1 + ROW_LEN * i;
+        row[0] = 1;
+        row[1] = MOST_ROWS;
+        row[2] = d;
+        row[3] = 1;
+    }
+    return 1 + ROW_LEN * count;
+}
+
+/* Checks what both calls say about a table. The script releases one job of the row with this number. */
+static void check_table(const char *name, const uint8_t *table, size_t table_len, uint8_t row, uint32_t judged,
+                        uint64_t first, uint64_t second, uint32_t replayed, uint64_t replayed_first)
+{
+    struct fenced answer_buffer, log_buffer;
+    uint8_t *answer = untouched(&answer_buffer), *log = untouched(&log_buffer);
+    uint8_t script[RECORD_LEN] = {0, 0, 1};
+    script[1] = row;
+    check(verdict(table, table_len, answer, JYRMEKKO_ANSWER_SIZE) == judged, name, "verdict");
+    check_answer(name, answer, first, second);
+    check(replay(table, table_len, script, sizeof script, log, MOST_LOG, answer, JYRMEKKO_ANSWER_SIZE) == replayed, name,
+          "replay");
+    check_answer(name, answer, replayed_first, 0);
+    check(replayed == JYRMEKKO_IN_TIME ? log[1] == row : all_bytes(log, MOST_LOG, 0), name, "log");
+    check(fence_stands(&answer_buffer, JYRMEKKO_ANSWER_SIZE), name, "bytes around the answer");
+    check(fence_stands(&log_buffer, MOST_LOG), name, "bytes around the log");
+}
+
+/* As many rows as the limit are accepted, with a verdict of each kind, and one more is refused with 2 at place 0. */
+static void test_rows(void)
+{
+    enum { LOG_LEN = 5, LAST = MOST_ROWS - 1 };
+    uint8_t table[LONGEST_SPELLED];
+    size_t length = spell_rows(table, MOST_ROWS - 1, 1);
+    check_table("one row below the limit", table, length, LAST - 1, JYRMEKKO_OVERLOADED, 1, MOST_ROWS - 1,
+                JYRMEKKO_IN_TIME, LOG_LEN);
+    length = spell_rows(table, MOST_ROWS, MOST_ROWS);
+    check_table("limit of rows, feasible", table, length, LAST, JYRMEKKO_FEASIBLE, 0, 0, JYRMEKKO_IN_TIME, LOG_LEN);
+    check_table("limit of rows, no row after the last", table, length, MOST_ROWS, JYRMEKKO_FEASIBLE, 0, 0,
+                JYRMEKKO_NO_SUCH_ROW, 1);
+    check_table("limit of rows, cut off", table, length - 1, LAST, JYRMEKKO_MISSPELLED, length - 1, 0,
+                JYRMEKKO_MISSPELLED, length - 1);
+    table[length] = 0;
+    check_table("limit of rows, a byte too many", table, length + 1, LAST, JYRMEKKO_EXTRA_BYTES, length, 0,
+                JYRMEKKO_EXTRA_BYTES, length);
+    table[length - 1] = 0;
+    check_table("limit of rows, the last c is 0", table, length, LAST, JYRMEKKO_VALUE_OUT_OF_RANGE, length - 1, 0,
+                JYRMEKKO_VALUE_OUT_OF_RANGE, length - 1);
+    table[length - 1] = 2;
+    check_table("limit of rows, overloaded by the last", table, length, LAST, JYRMEKKO_OVERLOADED, MOST_ROWS,
+                MOST_ROWS + 1, JYRMEKKO_IN_TIME, LOG_LEN);
+    length = spell_rows(table, MOST_ROWS, MOST_ROWS - 1);
+    check_table("limit of rows, overloaded", table, length, LAST, JYRMEKKO_OVERLOADED, MOST_ROWS - 1, MOST_ROWS,
+                JYRMEKKO_IN_TIME, LOG_LEN);
+    table[2] = 125;
+    table[6] = 121;
+    table[length - 3] = 127;
+    check_table("limit of rows, the last makes the period too long", table, length, LAST, JYRMEKKO_PERIOD_TOO_LONG,
+                length, 0, JYRMEKKO_PERIOD_TOO_LONG, length);
+    length = spell_rows(table, MOST_ROWS + 1, MOST_ROWS);
+    check_table("one row above the limit", table, length, 0, JYRMEKKO_TOO_MANY_ROWS, 0, 0, JYRMEKKO_TOO_MANY_ROWS, 0);
+    check_table("one row above the limit, and no row", table, 1, 0, JYRMEKKO_TOO_MANY_ROWS, 0, 0,
+                JYRMEKKO_TOO_MANY_ROWS, 0);
+}
+
+/* The length of the spelling of a number below 2^14. */
+static size_t groups(size_t value)
+{
+    return value < 128 ? 1 : 2;
+}
+
+static void check_places(const char *name, const uint8_t *table, size_t table_len, const uint8_t *script, size_t jobs,
+                         uint32_t status, uint64_t first, uint64_t second)
+{
+    struct fenced answer_buffer, log_buffer;
+    uint8_t *answer = untouched(&answer_buffer), *log = untouched(&log_buffer);
+    check(replay(table, table_len, script, RECORD_LEN * jobs, log, MOST_LOG, answer, JYRMEKKO_ANSWER_SIZE) == status,
+          name, "status");
+    check_answer(name, answer, first, second);
+    if (status == JYRMEKKO_PLACES_FULL) {
+        check(all_bytes(log, MOST_LOG, 0), name, "log, which should be zeros");
+    } else {
+        check(all_bytes(log + first, MOST_LOG - (size_t)first, UNTOUCHED), name, "bytes past the log");
+    }
+    check(fence_stands(&answer_buffer, JYRMEKKO_ANSWER_SIZE), name, "bytes around the answer");
+    check(fence_stands(&log_buffer, MOST_LOG), name, "bytes around the log");
+}
+
+/* The pending job that reaches the limit is accepted, and one more is refused with 8 at its record's start. */
 static void test_places(void)
 {
-    static const uint8_t table[] = {1, 64, 1, 1, 1};
-    struct fenced buffer;
-    uint8_t *log = untouched(&buffer);
-    uint8_t script[3 * 65], answer[JYRMEKKO_ANSWER_SIZE];
-    size_t i;
-    for (i = 0; i < sizeof script; i += 3) {
-        script[i] = 0;
-        script[i + 1] = 0;
-        script[i + 2] = 1;
+    static const uint8_t one_row[] = {1, 64, 1, 1, 1};
+    uint8_t all_rows[LONGEST_SPELLED], script[RECORD_LEN * (MOST_PENDING + 2)];
+    size_t length = spell_rows(all_rows, MOST_ROWS, 1), log_len = 0, i;
+    memset(script, 0, sizeof script);
+    for (i = 0; i < MOST_PENDING + 2; i++) {
+        script[RECORD_LEN * i + 2] = 1;
     }
-    check(replay(table, sizeof table, script, 3 * 64, log, MOST_LOG, answer, sizeof answer) == JYRMEKKO_LATE,
-          "64 jobs", "status");
-    check_answer("64 jobs", answer, 64 * 5, 63);
-    check(replay(table, sizeof table, script, 3 * 65, log, MOST_LOG, answer, sizeof answer) == JYRMEKKO_PLACES_FULL,
-          "65 jobs", "status");
-    check_answer("65 jobs", answer, 3 * 64, 0);
-    check(all_bytes(log, MOST_LOG, 0), "65 jobs", "log, which should be zeros");
+    for (i = 0; i + 1 < MOST_PENDING; i++) {
+        log_len += groups(i) + groups(i + 1) + 3;
+    }
+    check_places("one job below the limit", one_row, sizeof one_row, script, MOST_PENDING - 1, JYRMEKKO_LATE, log_len,
+                 MOST_PENDING - 2);
+    log_len += groups(MOST_PENDING - 1) + groups(MOST_PENDING) + 3;
+    check_places("limit of pending jobs", one_row, sizeof one_row, script, MOST_PENDING, JYRMEKKO_LATE, log_len,
+                 MOST_PENDING - 1);
+    check_places("one job above the limit", one_row, sizeof one_row, script, MOST_PENDING + 1, JYRMEKKO_PLACES_FULL,
+                 RECORD_LEN * MOST_PENDING, 0);
+    script[RECORD_LEN * MOST_PENDING] = 1;
+    log_len += groups(MOST_PENDING) + groups(MOST_PENDING + 1) + 3;
+    check_places("the place that a finished job frees", one_row, sizeof one_row, script, MOST_PENDING + 1, JYRMEKKO_LATE,
+                 log_len, MOST_PENDING);
+    check_places("one job above the limit again", one_row, sizeof one_row, script, MOST_PENDING + 2,
+                 JYRMEKKO_PLACES_FULL, RECORD_LEN * (MOST_PENDING + 1), 0);
+    script[RECORD_LEN * MOST_PENDING] = 0;
+    for (i = 0; i <= MOST_PENDING; i++) {
+        script[RECORD_LEN * i + 1] = (uint8_t)(i % MOST_ROWS);
+    }
+    /* Each row's first job is due at 1, its second at 1 + y, and so on. Of the first ones, one is in time. */
+    log_len = 0;
+    for (i = 0; i < MOST_PENDING; i++) {
+        log_len += groups(i) + groups(1 + i / MOST_ROWS * MOST_ROWS) + groups(i + 1) + 2;
+    }
+    check_places("limit of pending jobs, over all rows", all_rows, length, script, MOST_PENDING, JYRMEKKO_LATE, log_len,
+                 MOST_PENDING - MOST_PENDING / MOST_ROWS);
+    check_places("one job above the limit, over all rows", all_rows, length, script, MOST_PENDING + 1,
+                 JYRMEKKO_PLACES_FULL, RECORD_LEN * MOST_PENDING, 0);
 }
 
 /* ---- damaged bytes, compared with what the rules want for them */
@@ -403,7 +526,7 @@ static void test_answer_size(void)
 {
     static const size_t sizes[] = {0, 1, 8, 15, 17, 32};
     static const uint8_t table[] = {2, 1, 4, 4, 2, 1, 6, 6, 3}, script[] = {0, 0, 2, 0, 1, 3, 4, 0, 2};
-    static const uint8_t bad_table[] = {17}, bad_script[] = {0x80, 0x00};
+    static const uint8_t bad_table[] = {JYRMEKKO_MOST_ROWS + 1}, bad_script[] = {0x80, 0x00};
     size_t i;
     for (i = 0; i < COUNT(sizes); i++) {
         struct fenced answer_buffer, log_buffer;
@@ -444,6 +567,7 @@ int main(void)
     for (i = 0; i < COUNT(replay_cases); i++) {
         test_replay(&replay_cases[i]);
     }
+    test_rows();
     test_places();
     test_damage();
     test_answer_size();

@@ -1,6 +1,6 @@
 /*
  * Runs the suspicious caller on inputs that libFuzzer makes up. An input has one byte for the length of the log buffer,
- * one byte for the length of the table, and then the table and the script.
+ * two bytes for the length of the table, the lower one first, and then the table and the script.
  */
 #include "caller.h"
 
@@ -48,12 +48,13 @@ int LLVMFuzzerInitialize(int *words, char ***word)
 
 int LLVMFuzzerTestOneInput(const uint8_t *data, size_t size)
 {
-    enum { HEAD = 2 };
+    enum { HEAD = 3 };
     if (size < HEAD)
         return 0;
     uint8_t *rest = (uint8_t *)data + HEAD; /* These bytes are only read. */
     size_t rest_length = size - HEAD;
-    size_t table_length = data[1] < rest_length ? data[1] : rest_length;
+    size_t stated_length = data[1] + 256u * data[2];
+    size_t table_length = stated_length < rest_length ? stated_length : rest_length;
     struct bytes table = {rest, table_length};
     struct bytes script = {rest + table_length, rest_length - table_length};
     struct answers answers = call_on(table, script, data[0] * script.length / 16);

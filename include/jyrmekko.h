@@ -9,25 +9,26 @@
  * Buffers. Each buffer is lent as a pointer and a length in bytes. The buffers of one call must not overlap. A null
  * pointer is allowed only with length 0. Any bytes may be handed in, and nothing has to be checked beforehand. The
  * calls read and write only inside these buffers. They keep nothing from one call to the next and share no state, so
- * any number of threads may call at once, each with buffers of its own.
+ * any number of threads may call at once, each with buffers of its own. They take no memory from the heap. A thread
+ * whose stack has JYRMEKKO_STACK_SIZE bytes can make either call, whatever is handed in.
  *
  * Numbers. A number in a table, a script or a log is spelled in groups of seven bits, one group a byte, the lowest
  * group first. The top bit of a byte is set when another byte of the same number follows. A number has at most 6
  * groups, and the last group of a number with more than one group is not zero. So one number has one spelling: 0 is
  * 00, 127 is 7F, 128 is 80 01, 300 is AC 02. Time is counted in ticks, from 0 to 2^40.
  *
- * Tables. A table is its row count, from 0 to 16, then x, y, d and c of each row, and nothing after. In a row, x
- * executions are expected in any y ticks, each is due d ticks after its release, and each costs at most c units. One
- * unit is one tick of the processor. x is 1 to 64, y is 1 to 4,096, d is 1 to 16,384 and c is 1 to 4,096. H, the least
- * common multiple of the y of all rows, is at most 1,048,576.
+ * Tables. A table is its row count, from 0 to JYRMEKKO_MOST_ROWS, then x, y, d and c of each row, and nothing after. In
+ * a row, x executions are expected in any y ticks, each is due d ticks after its release, and each costs at most c
+ * units. One unit is one tick of the processor. x is 1 to 64, y is 1 to 4,096, d is 1 to 16,384 and c is 1 to 4,096. H,
+ * the least common multiple of the y of all rows, is at most 1,048,576.
  *
  * Scripts. A script is any number of records of three numbers: the gap, which is the time since the last record (for
  * the first record since 0); the row number, counted from 0; and the cost. A row number is in use when it is below the
  * table's row count. A record's script time is the sum of all gaps up to and including its own. Each record releases
- * one job at its script time, and at most 64 jobs may be pending at a time. Jobs get their serials from 0 on, in the
- * order of release. The j-th job of a row, released at t, is due at t + d. Where j is above x, it is due at the later
- * of t + d and y ticks after the due time of job j - x. Each tick gives one unit to the pending job with the earliest
- * due time, and among equal due times to the lowest serial.
+ * one job at its script time, and at most JYRMEKKO_MOST_PENDING jobs may be pending at a time. Jobs get their serials
+ * from 0 on, in the order of release. The j-th job of a row, released at t, is due at t + d. Where j is above x, it is
+ * due at the later of t + d and y ticks after the due time of job j - x. Each tick gives one unit to the pending job
+ * with the earliest due time, and among equal due times to the lowest serial.
  *
  * Logs. A log has one record of five numbers for each job, in the order of finishing: serial, row number, release, due
  * time, finish. A job that finishes after its due time is late, and one that finishes exactly at it is not. A record of
@@ -66,9 +67,21 @@
 extern "C" {
 #endif
 
+/* The lengths of the buffers for an answer, and for any log of a script. */
 #define JYRMEKKO_ANSWER_SIZE 16
-#define JYRMEKKO_MOST_ROWS 16 /* A table has no more rows than this. */
 #define JYRMEKKO_LOG_SIZE(script_len) (10 * (script_len))
+
+/* The limits. */
+#define JYRMEKKO_MOST_ROWS 64     /* A table has no more rows than this. */
+#define JYRMEKKO_MOST_PENDING 256 /* No more jobs than this are pending at a time. */
+
+/*
+ * The bytes of stack with which a thread can make either call. Measured on x86-64, with any input: below its caller
+ * verdict() takes less than 12,000 bytes, and replay() less than 57,000. With what the system itself puts on a thread's
+ * stack, a thread needs 65,536 bytes. The other 32,768 are room, for the functions that make the call and for signal
+ * handlers.
+ */
+#define JYRMEKKO_STACK_SIZE 98304
 
 /*
  * The statuses. The comment on an answer says what the two numbers of the answer buffer are. The comment on a refusal
@@ -86,7 +99,7 @@ enum jyrmekko_status {
     /* The refusals of a table, by both calls. */
     JYRMEKKO_MISSPELLED = 1,           /* A number is misspelled or too long. Place: the bad byte. */
                                        /* Or a number is cut off. Place: the table's length. */
-    JYRMEKKO_TOO_MANY_ROWS = 2,        /* The row count is above 16. Place: 0, the count's start. */
+    JYRMEKKO_TOO_MANY_ROWS = 2,        /* The row count is above JYRMEKKO_MOST_ROWS. Place: 0, the count's start. */
     JYRMEKKO_VALUE_OUT_OF_RANGE = 3,   /* An x, y, d or c is out of its range. Place: the number's start. */
     JYRMEKKO_EXTRA_BYTES = 4,          /* There are bytes after the last row. Place: the first extra byte. */
     JYRMEKKO_PERIOD_TOO_LONG = 5,      /* H is above 1,048,576. Place: the table's length. */
@@ -94,7 +107,8 @@ enum jyrmekko_status {
     /* The refusals of a script, by replay(). */
     JYRMEKKO_NO_SUCH_ROW = 6,          /* The row number is not in use. Place: the row number's start. */
     JYRMEKKO_COST_OUT_OF_RANGE = 7,    /* The cost is 0 or above the row's c. Place: the cost's start. */
-    JYRMEKKO_PLACES_FULL = 8,          /* 64 jobs are pending at a release. Place: the record's start. */
+    JYRMEKKO_PLACES_FULL = 8,          /* JYRMEKKO_MOST_PENDING jobs are pending at a release. Place: the */
+                                       /* record's start. */
     JYRMEKKO_DUE_TOO_LATE = 9,         /* The due time would be above 2^40. Place: the record's start. */
     JYRMEKKO_TIME_TOO_LATE = 10,       /* A script time is above 2^40. Place: the gap's start. */
                                        /* Or, after the last record, the clock is at 2^40 with a job pending. Place: */

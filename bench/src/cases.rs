@@ -1,4 +1,6 @@
-//! The cases that are measured: tables and scripts, each with the status that it has to end in.
+//! The cases that are measured: tables, scripts and lists of calls, each with the status that it has to end in.
+
+use crate::plain::{PLACES, ROWS, X};
 
 pub struct Case {
     pub group: &'static str,
@@ -9,8 +11,8 @@ pub struct Case {
     pub status: u32,
     /// This is the answer's first number, where the case is about it.
     pub first: Option<u64>,
-    /// The proved program may take at most this many times as long as the plain one.
-    pub target: f64,
+    /// The proved program may take at most this many times as long as the plain one, where a target is set.
+    pub target: Option<f64>,
 }
 
 pub enum Work {
@@ -18,17 +20,22 @@ pub enum Work {
     Verdicts(Vec<Vec<u8>>),
     /// A script is replayed on a table.
     Replay { table: Vec<u8>, script: Vec<u8> },
+    /// These calls are played one after another on a fresh run of a table, and the answer of each has to start with this word.
+    Calls { table: Vec<u8>, calls: Vec<u8>, kinds: Vec<u64> },
 }
 
 type Row = [u64; 4];
 
 const RECORDS: usize = 100_000;
 const NUMBERS: usize = 1_000_000;
+/// A list of calls on a run goes on for this many ticks, with a release after each.
+const TICKS: u64 = 5_000;
 
 pub fn all() -> Vec<Case> {
     let mut cases = verdicts();
     cases.extend(replays());
     cases.extend(readings());
+    cases.extend(runs());
     cases
 }
 
@@ -61,35 +68,55 @@ fn overloaded(name: &'static str, rows: &[Row], witness: u64) -> Case {
 
 fn verdict(name: &'static str, rows: &[Row], lengths: u64) -> Case {
     let size = format!("{} lengths", grouped(lengths));
-    Case { group: "verdict", name, size, work: Work::Verdicts(vec![table(rows)]), status: 0, first: None, target: 1.3 }
+    Case {
+        group: "verdict",
+        name,
+        size,
+        work: Work::Verdicts(vec![table(rows)]),
+        status: 0,
+        first: None,
+        target: Some(1.3),
+    }
+}
+
+/// With four jobs of each row this many jobs are pending. Their cost fills y and d, so the table is just feasible.
+fn four_jobs_a_row(pending: u64, cost: u64) -> Vec<Row> {
+    vec![[4, pending * cost, pending * cost, cost]; pending as usize / 4]
 }
 
 fn replays() -> Vec<Case> {
     let n = RECORDS as u64;
     let four = [[1, 8, 8, 2]; 4];
-    let sixteen = [[4, 64, 64, 1]; 16];
     let wide = [[64, 1024, 1024, 1]; 16];
-    let slow = [[4, 1024, 1024, 16]; 16];
 
     // There are four jobs every eight ticks, and each costs two units.
     let few_busy: Vec<_> = (0..n).map(|i| (if i > 0 && i % 4 == 0 { 8 } else { 0 }, i % 4, 2)).collect();
-    // 64 jobs are released at once, and then one more for each that finishes.
-    let many_busy: Vec<_> = (0..n).map(|i| (if i < 64 { 0 } else { 1 }, i % 16, 1)).collect();
-    let many_slow: Vec<_> = (0..n).map(|i| (if i < 64 { 0 } else { 16 }, i % 16, 16)).collect();
     // One job is released every tick, on sixteen rows that keep 64 due times each.
     let wide_busy: Vec<_> = (0..n).map(|i| (if i > 0 { 1 } else { 0 }, i % 16, 1)).collect();
     // One job is released at a time, and nothing is pending for most of the time.
     let few_sparse: Vec<_> = (0..n).map(|i| (1_000, i % 4, 2)).collect();
-    // 64 jobs are released at once, and then nothing is pending for most of the time.
-    let many_sparse: Vec<_> = (0..n).map(|i| (if i % 64 == 0 { 10_000 } else { 0 }, i % 16, 1)).collect();
+    // So many jobs are released at once, and then one more for each that finishes.
+    let busy = |name, pending, cost| {
+        let records: Vec<_> = (0..n).map(|i| (if i < pending { 0 } else { cost }, i % (pending / 4), cost)).collect();
+        replay(name, &four_jobs_a_row(pending, cost), &records)
+    };
+    // So many jobs are released at once, and then nothing is pending for most of the time.
+    let sparse = |name, pending| {
+        let gap = |i| if i % pending == 0 { 10_000 } else { 0 };
+        let records: Vec<_> = (0..n).map(|i| (gap(i), i % (pending / 4), 1)).collect();
+        replay(name, &four_jobs_a_row(pending, 1), &records)
+    };
 
     vec![
         replay("busy, 4 pending", &four, &few_busy),
-        replay("busy, 64 pending", &sixteen, &many_busy),
-        replay("busy, 64 pending, 16 ticks a job", &slow, &many_slow),
+        busy("busy, 64 pending", 64, 1),
+        busy("busy, 256 pending", 256, 1),
+        busy("busy, 64 pending, 16 ticks a job", 64, 16),
+        busy("busy, 256 pending, 16 ticks a job", 256, 16),
         replay("busy, 1 pending, 1,024 due times kept", &wide, &wide_busy),
         replay("sparse, 1 pending", &four, &few_sparse),
-        replay("sparse, 64 pending", &sixteen, &many_sparse),
+        sparse("sparse, 64 pending", 64),
+        sparse("sparse, 256 pending", 256),
     ]
 }
 
@@ -103,7 +130,7 @@ fn replay(name: &'static str, rows: &[Row], records: &[(u64, u64, u64)]) -> Case
     let units: u64 = records.iter().map(|record| record.2).sum();
     let size = format!("{} records, {} units", grouped(records.len() as u64), grouped(units));
     let work = Work::Replay { table: table(rows), script };
-    Case { group: "replay", name, size, work, status: 22, first: None, target: 2.0 }
+    Case { group: "replay", name, size, work, status: 22, first: None, target: Some(2.0) }
 }
 
 /// Numbers are read in tables of 65 numbers with one extra byte. All are read and tested, and then comes refusal 4.
@@ -126,7 +153,34 @@ fn reading(name: &'static str, most: Row) -> Case {
         })
         .collect();
     let size = format!("{} numbers", grouped(65 * count as u64));
-    Case { group: "reading", name, size, work: Work::Verdicts(tables), status: 4, first: None, target: 1.5 }
+    Case { group: "reading", name, size, work: Work::Verdicts(tables), status: 4, first: None, target: Some(1.5) }
+}
+
+/// A run's size in bytes, by its fields: the rows and their count, the clock, the pending jobs and their count, the next
+/// serial, and for each row the kept due times and their count. Each number has eight bytes.
+const RUN_SIZE: u64 = 8 * ((4 * ROWS + 1) + 1 + (6 * PLACES as u64 + 1) + 1 + ROWS * (X + 1));
+
+fn runs() -> Vec<Case> {
+    vec![run("64 pending", 64), run("256 pending", 256)]
+}
+
+/// So many jobs are released. Then a tick, which finishes a job, and a release take turns.
+fn run(name: &'static str, pending: u64) -> Case {
+    let mut calls = Vec::new();
+    let mut kinds = Vec::new();
+    for i in 0..pending + TICKS {
+        if i >= pending {
+            calls.extend([2, 0, 0]);
+            kinds.push(5);
+        }
+        calls.extend([1, i % (pending / 4), 1]);
+        kinds.push(2);
+    }
+    let size = format!("{} calls on a run of {} bytes", grouped(kinds.len() as u64), grouped(RUN_SIZE));
+    let status = 1 + kinds.len() as u32;
+    let calls = calls.into_iter().flat_map(u64::to_le_bytes).collect();
+    let work = Work::Calls { table: table(&four_jobs_a_row(pending, 1)), calls, kinds };
+    Case { group: "run", name, size, work, status, first: None, target: None }
 }
 
 fn table(rows: &[Row]) -> Vec<u8> {

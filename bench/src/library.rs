@@ -1,4 +1,5 @@
-//! These are the proved program's two calls, as include/jyrmekko.h has them.
+//! These are the proved program's two calls, as include/jyrmekko.h has them, and the probe library's list of calls on a
+//! run, which is there for comparisons only.
 
 mod calls {
     extern "C" {
@@ -12,6 +13,14 @@ mod calls {
             log_len: usize,
             answer: *mut u8,
             answer_len: usize,
+        ) -> u32;
+        pub fn trace(
+            table: *const u8,
+            table_len: usize,
+            calls: *const u8,
+            calls_len: usize,
+            answers: *mut u8,
+            answers_len: usize,
         ) -> u32;
     }
 }
@@ -33,5 +42,11 @@ pub fn replay(table: &[u8], script: &[u8], log: &mut [u8], answer: &mut [u8]) ->
             answer.as_mut_ptr(),
             answer.len(),
         )
+    }
+}
+
+pub fn trace(table: &[u8], calls: &[u8], answers: &mut [u8]) -> u32 {
+    unsafe {
+        calls::trace(table.as_ptr(), table.len(), calls.as_ptr(), calls.len(), answers.as_mut_ptr(), answers.len())
     }
 }

@@ -18,16 +18,21 @@ const TOGETHER: Duration = Duration::from_millis(1_000);
 /// A byte of a log buffer that still has this value was not written.
 const UNTOUCHED: u8 = 0xA5;
 
-/// The two calls of one of the programs.
+/// The two calls of one of the programs, and its list of calls on a run.
 struct Program {
     verdict: fn(&[u8], &mut [u8]) -> u32,
     replay: fn(&[u8], &[u8], &mut [u8], &mut [u8]) -> u32,
+    trace: fn(&[u8], &[u8], &mut [u8]) -> u32,
 }
 
-const LIBRARY: Program = Program { verdict: library::verdict, replay: library::replay };
-const PLAIN: Program = Program { verdict: plain::verdict, replay: plain::replay };
+const LIBRARY: Program = Program { verdict: library::verdict, replay: library::replay, trace: library::trace };
+const PLAIN: Program = Program { verdict: plain::verdict, replay: plain::replay, trace: plain::trace };
 
-/// The answers of the calls: the status and the answer buffer of each, and the log.
+/// An answer in a list of calls on a run has this many bytes.
+const ANSWER: usize = 32;
+
+/// The answers of the calls: the status and the answer buffer of each, and the log. The answers of a list of calls on a
+/// run stand in the log.
 #[derive(PartialEq)]
 struct Said {
     answers: Vec<(u32, [u8; 16])>,
@@ -39,6 +44,7 @@ impl Said {
         let (calls, room) = match work {
             Work::Verdicts(tables) => (tables.len(), 0),
             Work::Replay { script, .. } => (1, 10 * script.len()),
+            Work::Calls { kinds, .. } => (1, ANSWER * (1 + kinds.len())),
         };
         Said { answers: vec![(0, [UNTOUCHED; 16]); calls], log: vec![UNTOUCHED; room] }
     }
@@ -69,9 +75,13 @@ fn measure(case: &Case, rounds: usize) -> String {
     let Case { group, name, size, target, .. } = case;
     assert!(proved == plain, "{group}, {name}: the answers differ");
     for (status, answer) in &proved.answers {
-        let first = u64::from_le_bytes(answer[..8].try_into().unwrap());
+        let first = first_word(answer);
         let expected = *status == case.status && case.first.is_none_or(|number| number == first);
         assert!(expected, "{group}, {name}: status {status} with {first}");
+    }
+    if let Work::Calls { kinds, .. } = &case.work {
+        let found = proved.log.chunks(ANSWER).skip(1).map(first_word);
+        assert!(found.eq(kinds.iter().copied()), "{group}, {name}: a call answered otherwise");
     }
 
     let mut best = [Duration::MAX; 2];
@@ -86,8 +96,23 @@ fn measure(case: &Case, rounds: usize) -> String {
     assert!(proved == plain, "{group}, {name}: the answers differ after the rounds");
     let [proved, plain] = best.map(|duration| duration.as_secs_f64() * 1e3);
     let ratio = proved / plain;
-    let met = if ratio <= *target { "met" } else { "**missed**" };
-    format!("| {group} | {name} | {size} | {proved:.2} | {plain:.2} | {ratio:.2} | {target:.1} | {met} |")
+    let target = match target {
+        Some(most) if ratio <= *most => format!("{most:.1} | met"),
+        Some(most) => format!("{most:.1} | **missed**"),
+        None => String::from("|"),
+    };
+    let each = match &case.work {
+        Work::Calls { kinds, .. } => {
+            let [proved, plain] = [proved, plain].map(|time| time * 1e3 / kinds.len() as f64);
+            format!("{proved:.2} and {plain:.2} µs a call ")
+        }
+        _ => String::new(),
+    };
+    format!("| {group} | {name} | {size} | {proved:.2} | {plain:.2} | {ratio:.2} | {target} {each}|")
+}
+
+fn first_word(words: &[u8]) -> u64 {
+    u64::from_le_bytes(words[..8].try_into().unwrap())
 }
 
 fn time(program: &Program, work: &Work, said: &mut Said) -> Duration {
@@ -108,6 +133,9 @@ fn make(program: &Program, work: &Work, said: &mut Said) {
         Work::Replay { table, script } => {
             let (status, answer) = &mut said.answers[0];
             *status = black_box(program.replay)(table, script, &mut said.log, answer);
+        }
+        Work::Calls { table, calls, .. } => {
+            said.answers[0].0 = black_box(program.trace)(table, calls, &mut said.log);
         }
     }
 }

@@ -57,11 +57,13 @@ fn refuse(answer: &mut [u8; 16], refusal: Refusal) -> u32 {
 #[cfg(test)]
 mod tests {
     use super::*;
-    use crate::run::LAST_TICK;
-    use crate::{numbers, table::tests::spell};
+    use crate::numbers;
+    use crate::run::{LAST_TICK, MOST_PENDING};
+    use crate::table::{tests::spell, MOST_ROWS, MOST_X};
 
     const V3: [u8; 9] = [2, 1, 4, 4, 2, 1, 6, 6, 3];
     const R1: [u8; 9] = [0, 0, 2, 0, 1, 3, 4, 0, 2];
+    const ONE_ROW_TOO_MANY: [u8; 1] = [MOST_ROWS as u8 + 1];
     const R1_LOG: [u8; 15] = [0, 0, 0, 4, 2, 1, 1, 0, 6, 5, 2, 0, 4, 8, 7];
 
     fn numbers_of(answer: &[u8; 16]) -> (u64, u64) {
@@ -91,7 +93,7 @@ mod tests {
         assert_eq!(judged(&[1]), (1, 1, 0));
         assert_eq!(judged(&[0x80, 0x00]), (1, 1, 0));
         assert_eq!(judged(&[1, 1, 0x80, 0x80, 0x80, 0x80, 0x80, 0x80, 1]), (1, 7, 0));
-        assert_eq!(judged(&[17]), (2, 0, 0));
+        assert_eq!(judged(&ONE_ROW_TOO_MANY), (2, 0, 0));
         assert_eq!(judged(&[1, 1, 0, 1, 1]), (3, 2, 0));
         assert_eq!(judged(&[0, 0]), (4, 1, 0));
         let long = spell(&[[1, 1_141, 1, 1], [1, 919, 1, 1]]);
@@ -103,11 +105,33 @@ mod tests {
         for size in [0, 15, 17, 32] {
             let mut answer = vec![0xee; size];
             let mut log = [0xee; 20];
-            assert_eq!(verdict(&[17], &mut answer), 13);
-            assert_eq!(replay(&[17], &[0x80, 0x00], &mut log, &mut answer), 13);
+            assert_eq!(verdict(&ONE_ROW_TOO_MANY, &mut answer), 13);
+            assert_eq!(replay(&ONE_ROW_TOO_MANY, &[0x80, 0x00], &mut log, &mut answer), 13);
             assert_eq!(replay(&V3, &R1, &mut log, &mut answer), 13);
             assert_eq!((answer, log), (vec![0xee; size], [0xee; 20]));
         }
+    }
+
+    #[test]
+    fn as_many_rows_and_pending_jobs_as_the_limits() {
+        let most = MOST_ROWS;
+        let table = |d, count| spell(&vec![[MOST_X, most, d, 1]; count]);
+        let limit = most as usize;
+        let (full, above) = (table(most * MOST_X, limit), table(most * MOST_X, limit + 1));
+        assert_eq!(judged(&spell(&vec![[1, most, most, 1]; limit])), (20, 0, 0));
+        assert_eq!(judged(&spell(&vec![[1, most, most - 1, 1]; limit])), (21, most - 1, most));
+        assert_eq!(judged(&above), (2, 0, 0));
+
+        let record = |job: usize| [0, (job % limit) as u8, 1];
+        let script = |jobs| (0..jobs).flat_map(record).collect::<Vec<u8>>();
+        let mut log = vec![0xee; 30 * (MOST_PENDING + 1)];
+        let (status, _, late) = replayed(&full, &script(MOST_PENDING), &mut log);
+        assert_eq!((status, late), (22, 0));
+        let (status, _, late) = replayed(&table(1, limit), &script(MOST_PENDING), &mut log);
+        assert_eq!((status, late), (23, MOST_PENDING as u64 - 1));
+        assert_eq!(replayed(&full, &script(MOST_PENDING + 1), &mut log), (8, 3 * MOST_PENDING as u64, 0));
+        assert_eq!(replayed(&above, &script(1), &mut log), (2, 0, 0));
+        assert!(log.iter().all(|&byte| byte == 0));
     }
 
     #[test]
@@ -138,7 +162,7 @@ mod tests {
         for (table, script, refusal) in [
             (&V3[..5], &R1[..], (1, 5, 0)),
             (&[2, 1, 0x84, 0x00, 4, 2][..], &R1[..], (1, 3, 0)),
-            (&[17][..], &R1[..], (2, 0, 0)),
+            (&ONE_ROW_TOO_MANY[..], &R1[..], (2, 0, 0)),
             (&V3[..], &R1[..8], (14, 8, 0)),
             (&[1, 1, 2, 6, 1][..], &[0, 0][..], (14, 2, 0)),
             (&V3[..], &[0, 0, 0x82, 0x00][..], (14, 3, 0)),

@@ -7,7 +7,7 @@
 pub enum Reason {
     /// A number of a table, or one for the number reader, is misspelled, too long or cut off.
     Misspelled = 1,
-    /// The row count is above 16.
+    /// The row count is above the limit of rows.
     TooManyRows = 2,
     /// An x, y, d or c is out of its range.
     ValueOutOfRange = 3,
@@ -19,7 +19,7 @@ pub enum Reason {
     NoSuchRow = 6,
     /// The cost is 0 or above the row's c.
     CostOutOfRange = 7,
-    /// 64 jobs are pending at a release.
+    /// The limit of pending jobs is reached at a release.
     PlacesFull = 8,
     /// The due time would be above 2^40.
     DueTooLate = 9,

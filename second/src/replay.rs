@@ -87,7 +87,8 @@ impl Player {
 #[cfg(test)]
 mod tests {
     use super::*;
-    use crate::table::{self, tests::spell};
+    use crate::run::MOST_PENDING;
+    use crate::table::{self, tests::spell, MOST_X};
 
     const R1: [u8; 9] = [0, 0, 2, 0, 1, 3, 4, 0, 2];
 
@@ -186,24 +187,30 @@ mod tests {
     }
 
     #[test]
-    fn the_64th_pending_job_and_the_65th() {
-        let row = [[64, 1, 9, 9]];
+    fn the_pending_job_that_reaches_the_limit_and_one_more() {
+        let row = [[MOST_X, 1, 9, 9]];
         let burst = |count| script(&vec![[0, 0, 1]; count]);
-        assert!(play(&row, &burst(64)).is_ok());
-        assert_eq!(play(&row, &burst(65)), Err((8, 3 * 64)));
-        let one_finished = [burst(64), vec![1, 0, 1]].concat();
+        assert!(play(&row, &burst(MOST_PENDING - 1)).is_ok());
+        assert!(play(&row, &burst(MOST_PENDING)).is_ok());
+        assert_eq!(play(&row, &burst(MOST_PENDING + 1)), Err((8, 3 * MOST_PENDING)));
+        let one_finished = [burst(MOST_PENDING), vec![1, 0, 1]].concat();
         assert!(play(&row, &one_finished).is_ok());
+        let and_one_more = [&one_finished[..], &[0, 0, 1]].concat();
+        assert_eq!(play(&row, &and_one_more), Err((8, one_finished.len())));
     }
 
     #[test]
     fn no_free_place_beats_a_due_time_too_late() {
-        let rows = [[64, 1, 8, 1], [1, 1, 9, 1]];
-        let mut records = vec![[LAST_TICK - 8, 0, 1]];
-        records.resize(64, [0, 0, 1]);
-        records.push([0, 1, 1]);
-        assert_eq!(play(&rows, &script(&records)), Err((8, 8 + 3 * 63)));
+        // The jobs that take all places are due at the last tick, and the last row's job would be due one later.
+        let rows_in_time = MOST_PENDING as u64 / MOST_X;
+        let mut rows = vec![[MOST_X, 1, 8, 1]; rows_in_time as usize];
+        rows.push([1, 1, 9, 1]);
+        let mut records: Vec<[u64; 3]> = (0..MOST_PENDING as u64).map(|job| [0, job / MOST_X, 1]).collect();
+        records[0][0] = LAST_TICK - 8;
+        records.push([0, rows_in_time, 1]);
+        assert_eq!(play(&rows, &script(&records)), Err((8, 8 + 3 * (MOST_PENDING - 1))));
         records.remove(1);
-        assert_eq!(play(&rows, &script(&records)), Err((9, 8 + 3 * 62)));
+        assert_eq!(play(&rows, &script(&records)), Err((9, 8 + 3 * (MOST_PENDING - 2))));
     }
 
     #[test]

@@ -5,7 +5,8 @@ use crate::refusal::{Reason, Refusal};
 use crate::table::{self, Table};
 
 pub const LAST_TICK: u64 = 1 << 40;
-pub const PLACES: usize = 64;
+/// This is the limit of pending jobs.
+pub const MOST_PENDING: usize = 256;
 
 #[derive(Clone, Debug, PartialEq, Eq)]
 pub struct Job {
@@ -69,7 +70,7 @@ impl Run {
         if cost < 1 || cost > rule.c {
             return Err(Reason::CostOutOfRange);
         }
-        if self.pending.len() == PLACES {
+        if self.pending.len() == MOST_PENDING {
             return Err(Reason::PlacesFull);
         }
         let earlier = &mut self.dues[row as usize];
@@ -112,7 +113,10 @@ impl Run {
 #[cfg(test)]
 mod tests {
     use super::*;
-    use crate::table::tests::spell;
+    use crate::table::{tests::spell, MOST_ROWS, MOST_X};
+
+    /// This many rows with x at its most have jobs for all places before the spacing by y sets in.
+    const ROWS_FOR_ALL_PLACES: usize = MOST_PENDING / MOST_X as usize;
 
     fn run_on(rows: &[[u64; 4]]) -> Run {
         let (run, refusal) = Run::start(&spell(rows));
@@ -152,7 +156,7 @@ mod tests {
 
     #[test]
     fn a_refused_table_starts_a_fresh_run_of_the_empty_one() {
-        let (mut run, refusal) = Run::start(&[17]);
+        let (mut run, refusal) = Run::start(&[MOST_ROWS as u8 + 1]);
         assert_eq!(refusal, Some(Reason::TooManyRows.at(0)));
         assert_eq!(run.release(0, 1), Err(Reason::NoSuchRow));
         assert_eq!(run.tick(), idle(0));
@@ -193,14 +197,14 @@ mod tests {
 
     #[test]
     fn refusals_of_a_release_in_order() {
-        let mut run = run_on(&[[64, 1, 4, 2]]);
-        assert_eq!(run.release(1, 0), Err(Reason::NoSuchRow));
+        let mut run = run_on(&[[MOST_X, 1, 4, 2]; ROWS_FOR_ALL_PLACES]);
+        assert_eq!(run.release(ROWS_FOR_ALL_PLACES as u64, 0), Err(Reason::NoSuchRow));
         assert_eq!(run.release(1 << 32, 1), Err(Reason::NoSuchRow));
         assert_eq!(run.release(0, 0), Err(Reason::CostOutOfRange));
         assert_eq!(run.release(0, 3), Err(Reason::CostOutOfRange));
         run.idle_until(LAST_TICK - 4);
-        for _ in 0..64 {
-            assert_eq!(run.release(0, 1).unwrap().due, LAST_TICK);
+        for serial in 0..MOST_PENDING as u64 {
+            assert_eq!(released(&mut run, serial / MOST_X, 1), (serial, LAST_TICK));
         }
         assert_eq!(run.release(0, 3), Err(Reason::CostOutOfRange));
         assert_eq!(run.release(0, 1), Err(Reason::PlacesFull));
@@ -219,13 +223,14 @@ mod tests {
 
     #[test]
     fn a_finished_job_leaves_its_place_and_its_due_time_counts_on() {
-        let mut run = run_on(&[[64, 9, 9, 1]]);
-        for serial in 0..64 {
-            assert_eq!(released(&mut run, 0, 1), (serial, 9));
+        let mut run = run_on(&[[MOST_X, 9, 9, 1]; ROWS_FOR_ALL_PLACES]);
+        let jobs = MOST_PENDING as u64;
+        for serial in 0..jobs {
+            assert_eq!(released(&mut run, serial / MOST_X, 1), (serial, 9));
         }
         assert_eq!(run.release(0, 1), Err(Reason::PlacesFull));
         assert_eq!(run.tick(), ran(0, true, 0));
-        assert_eq!(released(&mut run, 0, 1), (64, 18));
+        assert_eq!(released(&mut run, 0, 1), (jobs, 18));
     }
 
     #[test]

@@ -3,7 +3,8 @@
 use crate::numbers;
 use crate::refusal::{Reason, Refusal};
 
-pub const MOST_ROWS: u64 = 16;
+/// This is the limit of rows.
+pub const MOST_ROWS: u64 = 64;
 pub const MOST_X: u64 = 64;
 pub const MOST_Y: u64 = 4_096;
 pub const MOST_D: u64 = 16_384;
@@ -126,10 +127,28 @@ pub mod tests {
     }
 
     #[test]
-    fn sixteen_rows_yes_seventeen_is_2_before_any_row_is_read() {
-        assert_eq!(read(&spell(&[[1, 1, 1, 1]; 16])).unwrap().rows.len(), 16);
-        assert_eq!(refused(&[17]), (2, 0));
+    fn as_many_rows_as_the_limit_yes_one_more_is_2_before_any_row_is_read() {
+        let most = MOST_ROWS as usize;
+        for count in [most - 1, most] {
+            assert_eq!(read(&spell(&vec![[1, 1, 1, 1]; count])).unwrap().rows.len(), count);
+        }
+        assert_eq!(refused(&spell(&vec![[1, 1, 1, 1]; most + 1])), (2, 0));
+        assert_eq!(refused(&numbers::spell(MOST_ROWS + 1).unwrap()), (2, 0));
         assert_eq!(refused(&numbers::spell(1 << 41).unwrap()), (2, 0));
+    }
+
+    #[test]
+    fn the_other_refusals_in_the_last_row_of_the_longest_table() {
+        let mut rows = vec![[1, 1, 1, 1]; MOST_ROWS as usize];
+        let whole = spell(&rows);
+        assert_eq!(refused(&whole[..whole.len() - 1]), (1, whole.len() - 1));
+        assert_eq!(refused(&[&whole[..], &[0]].concat()), (4, whole.len()));
+        rows[0][1] = 1_141;
+        rows[MOST_ROWS as usize - 1][1] = 919;
+        let long = spell(&rows);
+        assert_eq!(refused(&long), (5, long.len()));
+        rows[MOST_ROWS as usize - 1][3] = 0;
+        assert_eq!(refused(&spell(&rows)), (3, long.len() - 1));
     }
 
     #[test]

@@ -38,6 +38,14 @@ fn main() {
     println!("verdict: {}", all.histogram(Call::Verdict));
     println!("replay: {}", all.histogram(Call::Replay));
     println!("witnesses past H and the largest d: {}", all.late_witnesses);
+    for call in [Call::Verdict, Call::Replay] {
+        println!("at the limits, {call:?}: {}", all.limits(call));
+        let missing = all.missing_limits(call);
+        if !missing.is_empty() {
+            println!("never met: {missing:?}");
+            compared.fail();
+        }
+    }
     let missing = [all.missing(Call::Verdict, &VERDICT_STATUSES), all.missing(Call::Replay, &REPLAY_STATUSES)].concat();
     if !missing.is_empty() || all.late_witnesses == 0 {
         println!("never met: statuses {missing:?}, or late witnesses");

@@ -2,21 +2,30 @@
 
 mod support;
 
-use second::table::MOST_C;
-use second::trace::{kind, trace, Call};
+use second::numbers;
+use second::run::MOST_PENDING;
+use second::table::{MOST_C, MOST_ROWS};
+use second::trace::{kind, trace, Answer, Call};
 use std::collections::BTreeSet;
 use support::case::hex;
 use support::random::Random;
 use support::tables::Row;
 use support::trace::{by_library, bytes_of};
-use support::{damage, settings, tables};
+use support::{damage, scripts, settings, tables};
 
 /// There are at least this many traces, since with fewer some answers might not be met.
 const TRACES: u64 = 20_000;
 
+/// One trace in so many takes about all places before it goes on.
+const FILLED: u64 = 40;
+
 /// Makes releases and ticks by turns of random length, so that places fill up and empty again.
 fn random_calls(rows: &[Row], random: &mut Random) -> Vec<Call> {
     let mut calls = vec![];
+    if random.one_in(FILLED) {
+        let jobs = scripts::near_the_last_place(random);
+        calls.extend((0..jobs).map(|_| good_release(rows, random)));
+    }
     for _ in 0..random.within(1, 12) {
         let releases = random.one_in(2);
         for _ in 0..random.pick(&[1, 3, 10, 40]) {
@@ -26,18 +35,45 @@ fn random_calls(rows: &[Row], random: &mut Random) -> Vec<Call> {
     calls
 }
 
+fn good_release(rows: &[Row], random: &mut Random) -> Call {
+    let row = random.index(rows.len().max(1));
+    let c = rows.get(row).map_or(1, |row| row[3].clamp(1, MOST_C));
+    Call::Release { row: row as u64, cost: random.within(1, c.min(9)) }
+}
+
 fn random_release(rows: &[Row], random: &mut Random) -> Call {
     let count = rows.len() as u64;
-    let row = if random.one_in(30) { random.pick(&[count, 16, 1 << 32, u64::MAX]) } else { random.below(count.max(1)) };
+    let row = if random.one_in(30) {
+        random.pick(&[count, MOST_ROWS, 1 << 32, u64::MAX])
+    } else {
+        random.below(count.max(1))
+    };
     let c = rows.get(row as usize).map_or(1, |row| row[3].clamp(1, MOST_C));
     let cost = if random.one_in(30) { random.pick(&[0, c + 1, 1 << 32, u64::MAX]) } else { random.within(1, c.min(9)) };
     Call::Release { row, cost }
+}
+
+/// Returns how many jobs were pending at a time in a trace, at most.
+fn most_pending(answers: &[Answer]) -> usize {
+    let mut pending = 0;
+    let mut most = 0;
+    for answer in answers {
+        match answer[0] {
+            kind::RELEASED => pending += 1,
+            kind::FINISHED => pending -= 1,
+            _ => {}
+        }
+        most = most.max(pending);
+    }
+    most
 }
 
 #[test]
 fn single_calls() {
     let seed = settings::number("JYRMEKKO_SEED", 1);
     let mut met = BTreeSet::new();
+    let mut started_rows = BTreeSet::new();
+    let mut pending_jobs = BTreeSet::new();
     for index in 0..settings::number("JYRMEKKO_COMPARISONS", 0).max(settings::number("JYRMEKKO_TRACES", TRACES)) {
         let mut random = Random::of(seed, index);
         let rows = tables::to_replay(&mut random);
@@ -50,10 +86,14 @@ fn single_calls() {
         let (count, found) = by_library(&table, &calls, &mut random);
         assert!(
             count as usize == expected.len() && found == bytes_of(expected.iter().flatten().copied()),
-            "trace {index}, seed {seed}\ntable {}\ncalls {calls:?}\nexpected {expected:?}\nfound {count}, {}",
+            "MISMATCH in trace {index}, seed {seed}\ntable {}\ncalls {calls:?}\nexpected {expected:?}\nfound {count}, {}",
             hex(&table),
             hex(&found)
         );
+        if expected[0][0] == kind::STARTED {
+            started_rows.insert(numbers::read(&table, 0).unwrap().0);
+        }
+        pending_jobs.insert(most_pending(&expected));
         met.extend(expected.iter().map(|answer| (answer[0], if answer[0] == kind::REFUSED { answer[1] } else { 0 })));
     }
     for kind in [kind::STARTED, kind::RELEASED, kind::IDLE, kind::RAN, kind::FINISHED] {
@@ -61,5 +101,11 @@ fn single_calls() {
     }
     for number in [1, 2, 3, 4, 6, 7, 8] {
         assert!(met.contains(&(kind::REFUSED, number)), "no refusal {number}");
+    }
+    for rows in [MOST_ROWS - 1, MOST_ROWS] {
+        assert!(started_rows.contains(&rows), "no run was started on {rows} rows");
+    }
+    for pending in [MOST_PENDING - 1, MOST_PENDING] {
+        assert!(pending_jobs.contains(&pending), "no trace had {pending} jobs pending at most");
     }
 }

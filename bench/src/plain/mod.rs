@@ -1,10 +1,16 @@
-//! The plain programs: the two calls as one would write them in Rust without a proof in mind. They keep every rule and
-//! every refusal, so that they do the same work. They take no short cut that the rules don't name.
+//! The plain programs: the two calls, and a run, as one would write them in Rust without a proof in mind. They keep
+//! every rule and every refusal, so that they do the same work. They take no short cut that the rules don't name.
 
+mod jobs;
 mod numbers;
 mod replay;
+mod run;
 mod table;
 mod verdict;
+
+pub use jobs::PLACES;
+pub use run::trace;
+pub use table::{ROWS, X};
 
 /// A refusal has its number and its place.
 pub struct Refused(pub u32, pub usize);

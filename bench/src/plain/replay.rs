@@ -1,23 +1,14 @@
 //! Replay. Pending jobs stand in a vector, and the due times of each row in a queue. A linear scan finds the job with
 //! the earliest due time.
 
+use super::jobs::{due_time, first, Job, LATEST, PLACES};
 use super::numbers::{read, write};
-use super::table::{read_table, Row};
+use super::table::read_table;
 use super::Refused;
 use std::collections::VecDeque;
 
-const LATEST: u64 = 1 << 40;
-const PLACES: usize = 64;
 /// The longest log record has five numbers of six groups.
 const RECORD: usize = 30;
-
-struct Job {
-    serial: u64,
-    row: usize,
-    release: u64,
-    due: u64,
-    left: u64,
-}
 
 struct Run<'a> {
     clock: u64,
@@ -85,34 +76,11 @@ fn number(script: &[u8], at: &mut usize) -> Result<u64, Refused> {
     Ok(value)
 }
 
-/// Returns the due time of a row's next job and keeps it, or returns none where it would be above 2^40.
-fn due_time(row: &Row, kept: &mut VecDeque<u64>, release: u64) -> Option<u64> {
-    let mut due = release + row.d;
-    let spaced = kept.len() as u64 == row.x;
-    if spaced {
-        due = due.max(kept[0] + row.y);
-    }
-    if due > LATEST {
-        return None;
-    }
-    if spaced {
-        kept.pop_front();
-    }
-    kept.push_back(due);
-    Some(due)
-}
-
 impl Run<'_> {
     /// Gives one unit to the pending job with the earliest due time, and to the lowest serial among equal due times.
     fn tick(&mut self) {
         self.clock += 1;
-        let mut at = 0;
-        for i in 1..self.pending.len() {
-            let (job, best) = (&self.pending[i], &self.pending[at]);
-            if (job.due, job.serial) < (best.due, best.serial) {
-                at = i;
-            }
-        }
+        let at = first(&self.pending);
         self.pending[at].left -= 1;
         if self.pending[at].left == 0 {
             let job = self.pending.remove(at);

@@ -3,8 +3,8 @@
 use super::numbers::read;
 use super::Refused;
 
-const ROWS: u64 = 16;
-const X: u64 = 64;
+pub const ROWS: u64 = 64;
+pub const X: u64 = 64;
 const Y: u64 = 4_096;
 const D: u64 = 16_384;
 const C: u64 = 4_096;

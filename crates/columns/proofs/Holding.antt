@@ -69,7 +69,7 @@ module _ (f : Job → ℕ) (js : List Job) (l : List ℕ) where
   over-long : length js ≤ maxPlaces → length l ≡ maxPlaces → length (over (map f js) l) ≡ maxPlaces
   over-long few size = simp (length-append, length-drop, length-map) (omega arith)
 
--- A count above 64 means 64: the first entries are the same ones.
+-- A count above the number of places means all of them: the first entries are the same ones.
 pub in-use-are : (l : List ℕ) (n count : ℕ) → length l ≡ maxPlaces → n ≡ min count maxPlaces → take n l ≡ take count l
 in-use-are l n count e many =
     let size : length (take count l) ≡ n = length-take count l ∙ ap (min count) e ∙ sym many in

@@ -17,7 +17,7 @@ use Rattle.columns.specs.Outcomes.{HeldJobs, NobodyYet, OneFinished}
 
 -- ---- what columns hold (proofs/Holding.antt)
 
--- Columns hold as many jobs as their count says, and never more than 64. (6.1)
+-- Columns hold as many jobs as their count says, and never more than there are places. (6.1)
 abbrev pub HeldAreCounted : Type 0
 HeldAreCounted = (c : Columns) (js : List Job) → ColumnsHold c js → length js ≡ min (c .count) maxPlaces
 
@@ -29,7 +29,7 @@ NothingIsHeld = (c : Columns) → AllColumnPlaces c → c .count ≡ 0 → Colum
 abbrev pub AlwaysHeld : Type 0
 AlwaysHeld = (c : Columns) → AllColumnPlaces c → HeldJobs c
 
--- Columns with at most 64 jobs laid into their first entries hold these jobs.
+-- Columns with at most as many jobs as places laid into their first entries hold these jobs.
 abbrev pub HoldingHolds : Type 0
 HoldingHolds = (c : Columns) (js : List Job) → AllColumnPlaces c → length js ≤ maxPlaces → ColumnsHold (holding js c) js
 
@@ -39,7 +39,7 @@ HoldingHolds = (c : Columns) (js : List Job) → AllColumnPlaces c → length js
 abbrev pub PutInAddsOne : Type 0
 PutInAddsOne = (c : Columns) (js : List Job) (j : Job) → ColumnsHold c js → c .count < maxPlaces → ColumnsHold (putIn c j) (js ++ (j ∷ []))
 
--- Where all 64 places are in use, a job that is put in changes nothing. (10.7)
+-- Where all places are in use, a job that is put in changes nothing. (10.7)
 abbrev pub FullStays : Type 0
 FullStays = (c : Columns) (j : Job) → maxPlaces ≤ c .count → putIn c j ≡ c
 

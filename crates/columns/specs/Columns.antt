@@ -11,7 +11,8 @@ use Rattle.jobs.specs.Places.{maxPlaces}
 use Rattle.columns.specs.declared.PutAnswer.{PutAnswer}
 use Rattle.columns.specs.declared.PutAnswer.the-variants as answer
 
--- Columns are five lists of numbers and a count. The jobs stand in the first entries of the lists, as many as the count says. A count above 64 means 64.
+-- Columns are five lists of numbers and a count. The jobs stand in the first entries of the lists, as many as the count says. A count above the number of
+-- places means all of them.
 pub record Columns : Type 0 where
   pub serials : List ℕ
   pub rows : List ℕ
@@ -31,7 +32,7 @@ columns serials rows releases dues left count = record {
   count = count;
 }
 
--- Every list has an entry for each of the 64 places. (6.1)
+-- Every list has an entry for each place. (6.1)
 pub record AllColumnPlaces (c : Columns) : Type 0 where
   pub of-serials : length (c .serials) ≡ maxPlaces
   pub of-rows : length (c .rows) ≡ maxPlaces
@@ -83,7 +84,7 @@ holding js c = record {
   count = length js;
 }
 
--- The columns with a job put into the first unused place. Where all 64 places are in use, nothing changes. (6.7, 10.7)
+-- The columns with a job put into the first unused place. Where all places are in use, nothing changes. (6.7, 10.7)
 unfoldable pub putIn : Columns → Job → Columns
 putIn c j = cond (ltb (c .count) maxPlaces) (record {
   serials = set (c .serials) (c .count) (j .serial .0);
@@ -94,7 +95,7 @@ putIn c j = cond (ltb (c .count) maxPlaces) (record {
   count = c .count + 1;
 }) c
 
--- The answer to a job that is put in where so many are pending: how many are pending now, or refusal 8 where all 64 places are in use. (6.8, 10.7)
+-- The answer to a job that is put in where so many are pending: how many are pending now, or refusal 8 where all places are in use. (6.8, 10.7)
 abbrev pub answerBeside : (count : ℕ) → PutAnswer
 answerBeside count = cond (ltb count maxPlaces) (answer.Count (count + 1)) (answer.Refused refusal.PlacesFull)
 

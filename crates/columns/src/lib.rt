@@ -36,7 +36,8 @@ pub struct Worked {
     pub answer: WorkAnswer,
 }
 
-// Puts a job into the first unused place. Where all 64 places are in use, that is refusal 8. A count above 64 means all 64 places. (6.7, 6.8, 10.7)
+// Puts a job into the first unused place. Where all places are in use, that is refusal 8. A count above the number of places means all of them. (6.7, 6.8,
+// 10.7)
 pub fn put(
     serials: &mut [u64; Pending::PLACES],
     rows: &mut [u64; Pending::PLACES],
@@ -62,7 +63,7 @@ pub fn put(
 }
 
 // Gives ticks until a job finishes, until the clock is at `until`, or until nothing is pending. All of them go to the chosen job, since no other job comes in
-// meanwhile, so they are counted in one step. A count above 64 means all 64 places. (6.10 to 6.13)
+// meanwhile, so they are counted in one step. A count above the number of places means all of them. (6.10 to 6.13)
 pub fn work(
     serials: &mut [u64; Pending::PLACES],
     rows: &mut [u64; Pending::PLACES],

@@ -7,7 +7,7 @@ ghost use Rattle.jobs.specs.Places.{maxPlaces};
 ghost use Rattle.columns.specs.FirstAndClosing.{dueBefore, IsFirstOf, ClosesUp};
 ghost use Rattle.columns.specs.Ticks.{unitsToGo};
 
-// How many places are in use. A count above 64 means all 64. (6.1)
+// How many places are in use. A count above the number of places means all of them. (6.1)
 pub(crate) fn in_use(count: usize) -> usize
     ensures { λ r. ⌜ r ≡ min count maxPlaces ⌝ }
 {

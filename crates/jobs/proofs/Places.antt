@@ -66,7 +66,7 @@ module _ {A : Type 0} where
   length-without (a ∷ l) zero h = omega arith
   length-without (a ∷ l) (suc at) h = omega (arith, length-without l at (le-of-suc-le-suc h))
 
--- The smaller of the count and 64, which the code uses, is the number of places in use.
+-- The smaller of the count and the number of places, which the code uses, is the number of places in use.
 pub used-is : (p : Pending) (n : ℕ) → length (p .places) ≡ maxPlaces → n ≡ min (p .count) maxPlaces → n ≡ used p
 used-is p n h e = e ∙ ap (min (p .count)) (sym h) ∙ sym (length-take (p .count) (p .places))
 

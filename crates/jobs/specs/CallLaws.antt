@@ -19,7 +19,7 @@ use Rattle.jobs.specs.JobChanges.{UnitSaid, TickWasGiven, TickWasIdle}
 abbrev pub PutIsDone : Type 0
 PutIsDone = (p : Pending) (j : Job) → p .count < maxPlaces → putSays (putStep p j .answer) ≡ values []
 
--- If all 64 places are in use, putting a job in is refusal 8, at place 0, and nothing changes. (6.8, 6.18, 10.7)
+-- If all places are in use, putting a job in is refusal 8, at place 0, and nothing changes. (6.8, 6.18, 10.7)
 abbrev pub PutIsRefused : Type 0
 PutIsRefused = (p : Pending) (j : Job) → maxPlaces ≤ p .count
     → (putSays (putStep p j .answer) ≡ refusedWith 8 0) × (putStep p j .pending ≡ p)

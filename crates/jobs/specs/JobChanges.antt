@@ -1,4 +1,5 @@
--- What it means that a job goes first, that pending jobs are well formed, that a change keeps the serials, and that a tick was given or idle. (docs/RULES.md, section 6.)
+-- What it means that a job goes first, that pending jobs are well formed, that a change keeps the serials, and that a tick was given or idle. (docs/RULES.md,
+-- section 6.)
 use Prim.Native.Nat.{ℕ, _≤_, _<_}
 use mathlib.Core.Path.{_≡_}
 use mathlib.Core.Bool.{true, cond}
@@ -25,8 +26,8 @@ pub record IsFirst (js : List Job) (place : ℕ) : Type 0 where
   pub inside : place < length js
   pub first : (i : ℕ) → i < length js → NotAfter (getD js place noJob) (getD js i noJob)
 
--- There are 64 places, and the count is at most 64. This holds for whatever was made from the empty places by the calls. A value that was made in another way
--- may break it. (6.1)
+-- All places are there, and the count is at most their number. This holds for whatever was made from the empty places by the calls. A value that was made in
+-- another way may break it. (6.1)
 pub record WellFormed (p : Pending) : Type 0 where
   pub all-places : length (p .places) ≡ maxPlaces
   pub in-places : p .count ≤ maxPlaces

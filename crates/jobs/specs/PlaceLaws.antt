@@ -52,9 +52,9 @@ AfterAUnit = (p : Pending) (at : ℕ) → at < used p → jobsOf (after p at) �
 abbrev pub EmptyIsWellFormed : Type 0
 EmptyIsWellFormed = WellFormed emptyPending
 
--- There are 64 places. (6.1)
+-- There are as many places as jobs may be pending. (6.2)
 abbrev pub ManyPlaces : Type 0
-ManyPlaces = length (emptyPending .places) ≡ 64
+ManyPlaces = length (emptyPending .places) ≡ maxPlaces
 
 -- No job is pending in the empty places. (6.3)
 abbrev pub NothingPending : Type 0

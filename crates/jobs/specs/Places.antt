@@ -12,9 +12,9 @@ use Rattle.jobs.specs.declared.PutAnswer.the-variants as put-answer
 use Rattle.jobs.specs.declared.TakeStep.{TakeStep}
 use Rattle.jobs.specs.declared.TakeAnswer.the-variants as take-answer
 
--- At most this many jobs are pending. (6.1)
+-- At most so many jobs are pending: the limit of pending jobs. (6.2)
 abbrev pub maxPlaces : ℕ
-maxPlaces = 64
+maxPlaces = 256
 
 -- An unused place holds zeros. (6.13)
 abbrev pub noJob : Job

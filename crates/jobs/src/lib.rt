@@ -118,7 +118,7 @@ fn in_use(count: usize) -> usize
 
 impl Pending {
     // At most this many jobs are pending. (6.1, 6.2)
-    pub const PLACES: usize = 64;
+    pub const PLACES: usize = 256;
 
     // The contract ties the limit in the code to that in the definitions.
     pub fn limit() -> usize

@@ -44,8 +44,8 @@ pub data NumbersBetween (s : List ℕ) : (start end : ℕ) → Type 0 where
   nothing-between : {at : ℕ} → NumbersBetween s at at
   number-first : {start end : ℕ} (n : Number) → Spelled s start n → NumbersBetween s (n .next) end → NumbersBetween s start end
 
--- Bytes that should be numbers, one after another, have their first bad byte at a place: up to some start they are numbers, and the number that starts there has
--- its bad byte at the place.
+-- Bytes that should be numbers, one after another, have their first bad byte at a place: up to some start they are numbers, and the number that starts there
+-- has its bad byte at the place.
 pub record FirstBadByte (s : List ℕ) (place : ℕ) : Type 0 where
   pub start : ℕ
   pub before : NumbersBetween s 0 start

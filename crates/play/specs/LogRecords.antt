@@ -45,7 +45,8 @@ pub record GotItsLastUnit (run : Run) (f : Finish) : Type 0 where
   pub its-own : RecordOf (firstJob (run .pending)) f
   pub at-the-clock : f .finish .0 ≡ ticked run .run .clock .0
 
--- The numbers of a record are small: the serial is below 2^40 + 64, the row number is below 16, and the times are at most 2^40. (10.6)
+-- The numbers of a log are small. A row number is below the limit of rows (3.1), a time is at most 2^40, and a serial is below the sum of 2^40 and the limit of
+-- pending jobs (6.2).
 pub record SmallNumbers (f : Finish) : Type 0 where
   pub serial : f .serial .0 < maxTime + maxPlaces
   pub row : f .row .0 < maxRows

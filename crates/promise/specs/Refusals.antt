@@ -1,6 +1,6 @@
 -- Refused exactly when. This page says what each release and each tick is answered, in terms of the table and of the answers before it. A release gets 6 or 7
--- by the table. It gets 8 where 64 accepted jobs are unfinished, and 9 where the paper's due time over the row's accepted jobs is above 2^40. A tick gets 10
--- after 2^40 ticks. No call gets 11. A refused call changes nothing. (1.18, 6.8, 6.16, 6.18, 6.25)
+-- by the table. It gets 8 where as many accepted jobs are unfinished as there are places, and 9 where the paper's due time over the row's accepted jobs is
+-- above 2^40. A tick gets 10 after 2^40 ticks. No call gets 11. A refused call changes nothing. (1.18, 6.8, 6.16, 6.18, 6.25)
 use Prim.Native.Nat.{ℕ, _≤_}
 use mathlib.Core.Path.{_≡_}
 use mathlib.Core.Logic.{_↔_}
@@ -49,7 +49,7 @@ abbrev pub TicksByTheTrace : Type 0
 TicksByTheTrace = (bytes : List ℕ) → Bytes bytes → (calls : List Call) (number place : ℕ)
     → (nextTick bytes calls ≡ says.TickSays.refused number place) ↔ ((number ≡ 10) × (place ≡ 0) × (clockOf (trace bytes calls) ≡ maxTime))
 
--- There are never more than 64 unfinished jobs. (6.1)
+-- There are never more unfinished jobs than places. (6.1, 6.2)
 abbrev pub PlacesAreEnough : Type 0
 PlacesAreEnough = (bytes : List ℕ) → Bytes bytes → (calls : List Call) → unfinishedIn (trace bytes calls) ≤ maxPlaces
 

@@ -1,4 +1,5 @@
--- The laws of a record's tests: each answer is given exactly when its rule says, and the tests with places agree with those without. (docs/RULES.md, section 8.5.)
+-- The laws of a record's tests: each answer is given exactly when its rule says, and the tests with places agree with those without. (docs/RULES.md, section
+-- 8.5.)
 use Prim.Native.Nat.{ℕ, _+_, _^_, _≤_, _<_}
 use mathlib.Core.Path.{_≡_}
 use mathlib.Core.Logic.{_⊎_, _↔_}

@@ -91,7 +91,7 @@ kept-order : (g : Rings) (row : ℕ) → keptTimes (keptIn g row) ≡ map asTick
 unfolding keptIn
 kept-order g row = kept-as nothingKept (map asTick (orderOf g row))
 
--- A row's ring has 64 places.
+-- A row's ring has as many places as x may be.
 pub ring-length : (g : Rings) (row : ℕ) → length (ringOf g row) ≡ maxKept
 ring-length g row = entries-length maxKept _ (g .times)
 

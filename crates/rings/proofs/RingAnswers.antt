@@ -40,7 +40,7 @@ unfolding dueOf
 answer-by-place g number r t cost ready = due-by-the-ring g number r t cost ready ∙ rw (ready .in-range) (ap notTooLate (due-by-place ready t))
 
 module _ (g : Rings) (number : ℕ) (r : Row) (t cost : ℕ) where
-  -- A row number of 16 or more is refusal 6.
+  -- A row number that no table can have is refusal 6.
   pub no-such-row : maxRows ≤ number → dueIn g number r t cost ≡ due.Refused NoSuchRow
   unfolding dueIn
   no-such-row h = rw (le-ltb number maxRows h)
@@ -70,7 +70,7 @@ module _ (g : Rings) (number : ℕ) (r : Row) (t cost : ℕ) where
       (λ no. out in-use no (row-out-of-range in-use no)))
       (λ above. none above (no-such-row above))
 
-  -- The answer is refusal 6 exactly when the row number is 16 or more.
+  -- The answer is refusal 6 exactly when the row number is the limit of rows or more.
   due-no-row : (dueIn g number r t cost ≡ due.Refused NoSuchRow) ↔ (maxRows ≤ number)
   due-no-row = (
     λ e. by-case

@@ -48,16 +48,16 @@ OthersStay = (g : Rings) (number : ℕ) (row : Row) (answer : Due) → Ready g n
 abbrev pub DueByTheRing : Type 0
 DueByTheRing = (g : Rings) (number : ℕ) (row : Row) (t cost : ℕ) → Ready g number row → dueIn g number row t cost ≡ dueOf (keptIn g number) row t cost
 
--- The answer says 6 exactly when the row number is 16 or more. (10.7)
+-- The answer says 6 exactly when the row number is the limit of rows or more. (10.7)
 abbrev pub NoSuchRowMeans : Type 0
 NoSuchRowMeans = (g : Rings) (number : ℕ) (row : Row) (t cost : ℕ) → (dueSays (dueIn g number row t cost) ≡ refusedWith 6 0) ↔ (maxRows ≤ number)
 
--- The answer says 3 exactly when the row number is below 16 and the row is out of range. (3.2, 10.7)
+-- The answer says 3 exactly when the row number is below the limit of rows and the row is out of range. (3.2, 10.7)
 abbrev pub RowOutOfRangeMeans : Type 0
 RowOutOfRangeMeans = (g : Rings) (number : ℕ) (row : Row) (t cost : ℕ)
     → (dueSays (dueIn g number row t cost) ≡ refusedWith 3 0) ↔ ((number < maxRows) × (rowInRange row ≡ false))
 
--- The answer says 11 exactly when the row number is below 16, the row is in range, and the ring can't be the row's. (10.7)
+-- The answer says 11 exactly when the row number is below the limit of rows, the row is in range, and the ring can't be the row's. (10.7)
 abbrev pub NotTheRowsMeans : Type 0
 NotTheRowsMeans = (g : Rings) (number : ℕ) (row : Row) (t cost : ℕ)
     → (dueSays (dueIn g number row t cost) ≡ refusedWith 11 0) ↔ ((number < maxRows) × (rowInRange row ≡ true) × (ringFits g number row ≡ false))

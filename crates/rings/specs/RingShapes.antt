@@ -18,7 +18,8 @@ pub record AllRingPlaces (g : Rings) : Type 0 where
   pub of-many : length (g .many) ≡ maxRows
   pub of-oldest : length (g .oldest) ≡ maxRows
 
--- A row is ready for a due time when its number is below 16, its four values are in range, and the ring of its number can be the row's. (3.1, 3.2, 10.7)
+-- A row is ready for a due time when its number is below the limit of rows, its four values are in range, and the ring of its number can be the row's. (3.1,
+-- 3.2, 10.7)
 pub record Ready (g : Rings) (number : ℕ) (row : Row) : Type 0 where
   pub in-use : number < maxRows
   pub in-range : rowInRange row ≡ true

@@ -17,7 +17,7 @@ use Rattle.due.specs.Kept.{maxKept, nothingKept, keptAs, dueOf}
 
 -- ---- the arrays
 
--- There is room for the kept due times of 16 rows, 64 for each row. (3.1, 3.2, 4.6)
+-- There is room for the kept due times of as many rows as a table may have, for each row as many as x may be. (3.1, 3.2, 4.6)
 abbrev pub maxTimes : ℕ
 maxTimes = maxRows * maxKept
 
@@ -40,7 +40,7 @@ unfoldable pub entriesFrom : (n at : ℕ) → List ℕ → List ℕ
 entriesFrom zero at l = []
 entriesFrom (suc n) at l = getD l at 0 ∷ entriesFrom n (suc at) l
 
--- The 64 places of a row's ring, as many as x may be. The rings stand one behind the other, in the order of the row numbers. (3.2)
+-- The places of a row's ring are as many as x may be. The rings stand one behind the other, in the order of the row numbers. (3.2)
 abbrev pub ringOf : Rings → (row : ℕ) → List ℕ
 ringOf g row = entriesFrom maxKept (row * maxKept) (g .times)
 
@@ -76,8 +76,8 @@ ringFits g number row = canBe (manyOf g number) (oldestOf g number) (row .x)
 
 -- ---- the next due time
 
--- The due time of the next job of the row with this number, released at t with a stated cost, by what the row's ring holds. A row number of 16 or more is
--- refusal 6, a row out of range is 3, a ring that can't be the row's is 11, and a due time above 2^40 is 9. (4.2, 4.3, 4.7, 10.7)
+-- The due time of the next job of the row with this number, released at t with a stated cost, by what the row's ring holds. A row number that no table can
+-- have is refusal 6, a row out of range is 3, a ring that can't be the row's is 11, and a due time above 2^40 is 9. (4.2, 4.3, 4.7, 10.7)
 unfoldable pub dueIn : Rings → (number : ℕ) → Row → (t cost : ℕ) → Due
 dueIn g number row t cost =
     cond (ltb number maxRows)

@@ -14,7 +14,7 @@ ghost use Rattle.due.specs.Kept.{notTooLate};
 ghost use Rattle.rings.specs.Rings.{maxTimes, rings, canBe, placeAfterOldest, dueIn, ringsAfter};
 ghost use Rattle.rings.specs.OneRing.{placeIn, dueAfter};
 
-// There is room for the kept due times of 16 rows, 64 for each row. (3.1, 3.2, 4.6)
+// There is room for the kept due times of as many rows as a table may have, for each row as many as x may be. (3.1, 3.2, 4.6)
 pub const TIMES: usize = Table::MAX_ROWS * Kept::MAX;
 
 // The contract ties the limit of the code to the limit of `specs/`.
@@ -24,8 +24,9 @@ pub fn limit() -> usize
     TIMES
 }
 
-// Answers the due time of a row's next job, released at a time with a stated cost, by what the row's ring holds, and keeps it there. A row number of 16 or more
-// is refusal 6, a row out of range is 3, a ring that can't be the row's is 11, and a due time above 2^40 is 9. A refusal changes nothing. (4.2, 4.3, 4.7, 10.7)
+// The due time of a row's next job, released at a time with a stated cost, by what the row's ring holds. A due time that is given is kept there. A row
+// number that no table has room for is refusal 6, a row out of range is 3, a ring that can't be the row's is 11, and a due time above 2^40 is 9. A refusal
+// changes nothing.
 pub fn next_due(
     times: &mut [u64; TIMES],
     many: &mut [usize; Table::MAX_ROWS],

@@ -86,7 +86,7 @@ module _ (run : Run) (row cost : ℕ) where
     unfolding released
     not-allowed r e = simp (sound, e)
 
-    -- A release with 64 jobs pending is refused with 8.
+    -- A release with every place in use is refused with 8.
     pub places-full : tested ≡ cost-answer.Allowed → maxPlaces ≤ run .pending .count → refusedRelease run PlacesFull ≡ released run row cost
     unfolding released
     places-full e h = simp (sound, e, le-ltb (run .pending .count) maxPlaces h)
@@ -115,7 +115,7 @@ passes run row cost sound e room =
       room = room;
     }
 
--- A row number that is allowed is below 16.
+-- A row number that is allowed is below the limit of rows.
 pub inside : (run : Run) (row cost : ℕ) → soundOf run ≡ true → tested run row cost ≡ cost-answer.Allowed → row < maxRows
 inside run row cost sound e =
     let ok = allowed-means (costLimits (run .table)) row cost (ap allows e) in

@@ -44,7 +44,7 @@ abbrev pub atDue : Run → (row cost : ℕ) → Due → ReleaseStep
 atDue run row cost (due.At t) = record { run = withJob run row cost t; answer = answer.Accepted (record { serial = run .next; due = t }) }
 atDue run row cost (due.Refused r) = refusedRelease run r
 
--- A release of a sound run, by the test of its row number and cost. What that test refuses, with 6 or 7, is refused. Otherwise 64 pending jobs are refusal 8,
+-- A release of a sound run, by the test of its row number and cost. What that test refuses, with 6 or 7, is refused. Otherwise no unused place is refusal 8,
 -- and after that the due time decides. (6.8)
 abbrev pub atCost : Run → (row cost : ℕ) → CostAnswer → ReleaseStep
 atCost run row cost cost-answer.Allowed =

@@ -48,8 +48,8 @@ abbrev pub jobsSound : (limits : List ℕ) (clock next : ℕ) → List Job → B
 jobsSound limits clock next [] = true
 jobsSound limits clock next (j ∷ js) = jobSound limits clock next j && jobsSound limits clock next js
 
--- Each row is in range, and has at most x due times kept, none of them above 2^40. A run has kept due times for all 16 rows, so the case of a row without them
--- does not come up. (6.21, 6.24)
+-- Each row is in range, and has at most x due times kept, none of them above 2^40. A run has kept due times for every row that a table may have, so the case
+-- of a row without them does not come up. (6.21, 6.24)
 abbrev pub rowsSound : List Row → List Kept → Bool
 rowsSound [] ks = true
 rowsSound (r ∷ rs) [] = true

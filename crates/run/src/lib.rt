@@ -99,7 +99,7 @@ pub fn start(bytes: &[u8]) -> Started
 }
 
 impl Run {
-    // At most 64 jobs are pending. (6.2)
+    // No more jobs than this are pending. (6.2)
     pub const MAX_PENDING: usize = Pending::PLACES;
 
     // The clock is at most 2^40. (6.2)

@@ -65,7 +65,7 @@ many-in-range (suc n) s at e =
     let more = many-in-range n s (f .0 .next) (o .1) in
     rw (← o .2) (record { many = ap suc (more .many); in-range = each-cons (row-in-range (four-values s at (f .0) (f .1))) (more .in-range) })
 
--- If rows are read, their count was read before them, and it is at most 16.
+-- If rows are read, their count was read before them, and it is at most the limit of rows.
 pub record CountRead (s : List ℕ) (v : NumberRead) (rs : List Row) (next : ℕ) : Type 0 where
   pub count : Number
   pub was-read : v ≡ number.Number count
@@ -129,7 +129,7 @@ module _ (s : List ℕ) (read : RowsRead) (is : read ≡ heldAs (rowsFrom s 0)) 
     pub extra-bytes : next < length s → refusedTable (record { refusal = ExtraBytes; place = next }) ≡ tableRead s
     extra-bytes h = let v = held-until (rowsFrom s 0) read next is until in rw (v .1, lt-ltb next (length s) h)
 
-    -- At most 16 rows are in use.
+    -- No more rows are in use than a table may have.
     pub count-fits : read .count ≤ maxRows
     count-fits = let v = held-until (rowsFrom s 0) read next is until in omega (arith, v .3, good-rows s 0 (v .1) .few-rows)
 

@@ -7,7 +7,7 @@ use mathlib.Core.Option.{Option, none, some}
 use mathlib.Core.List.{List, [], _∷_, _++_}
 use native.Mathlib.Numerals.{add-one}
 use native.Mathlib.Omega.{arith}
-use lib.ListN.{length, take, drop, set, replicate, length-set, take-append-drop}
+use lib.ListN.{length, take, drop, set, replicate, length-replicate, length-set, take-append-drop}
 use lib.Seq.{length-take-le, take-suc-set, drop-set-lt, drop-drop}
 use borrow.Author.Tests.{le-leb, lt-leb}
 use Rattle.kinds.specs.declared.Refusal.{Refusal}
@@ -155,7 +155,7 @@ no-more s at = refl
 pub count-misspelled : (s : List ℕ) (at : ℕ) (r : RefusedAt) → readAt s at ≡ number.Refused r → heldAs (refused r) ≡ heldAs (rowsFrom s at)
 count-misspelled s at r e = rw e
 
--- A count above 16 is refused at once.
+-- A count above the limit of rows is refused at once.
 pub too-many-rows : (s : List ℕ) (at : ℕ) (n : Number) → readAt s at ≡ number.Number n → maxRows < n .value
     → heldAs (refused (record { refusal = TooManyRows; place = at })) ≡ heldAs (rowsFrom s at)
 too-many-rows s at n e many = rw (e, lt-leb (n .value) maxRows many)
@@ -175,7 +175,13 @@ pub none-read : (s : List ℕ) (from : ℕ) (n : Number) → readAt s from ≡ n
 unfolding allInFront
 none-read s from n e few =
     let all : n .value - 0 ≡ n .value = omega arith in
-    record { not-past = omega arith; few-rows = few; all-places = refl; unused = refl; answers = rw (e, le-leb (n .value) maxRows few, all) }
+    record {
+      not-past = omega arith;
+      few-rows = few;
+      all-places = length-replicate maxRows noRow;
+      unused = refl;
+      answers = rw (e, le-leb (n .value) maxRows few, all);
+    }
 
 -- After one more row is stored, the rows after it are still unused.
 unused-more : (held : List Row) (i : ℕ) (r : Row) → i < maxRows → drop i held ≡ replicate (maxRows - i) noRow

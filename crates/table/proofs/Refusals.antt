@@ -62,7 +62,7 @@ rows-refused-if-so {s} {place = place} b (bad-value p w) =
       answer = count-then (p .count) (p .few-rows) (t .1) ∙ rows-refused (p .count) (t .0) (p .rows) (p .values) (p .fewer) stand (p .first-values) (u .2) wrong;
     }
 
--- If rows end badly after a count of at most 16, the rules refuse them so, for the bad value.
+-- If rows end badly after a count of at most the limit of rows, the rules refuse them so, for the bad value.
 badly-behind-count : {s : List ℕ} {from c n : ℕ} {r : RefusedAt} → n ≤ maxRows → PartStands s from (spelling n) c → RowsEndBadly n s c r
     → RowsRefusedSo s from (refusalNumber (r .refusal)) (r .place)
 badly-behind-count {s} {from} {n = n} few p e =

@@ -145,7 +145,7 @@ rows-stand {s} (suc n) at rs next b e =
 
 -- ---- rows after their count
 
--- Where a row count n of at most 16 stands, the bytes after it are read as n rows.
+-- Where a row count n of at most the limit of rows stands, the bytes after it are read as n rows.
 pub count-then : {s : List ℕ} {at next : ℕ} (n : ℕ) → n ≤ maxRows → PartStands s at (spelling n) next → rowsFrom s at ≡ readRows n s next
 count-then n few p = simp (number-read n (omega arith) p, le-leb n maxRows few)
 

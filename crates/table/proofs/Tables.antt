@@ -30,7 +30,7 @@ limits-of-tables = refl
 
 -- ---- rows as a table holds them
 
--- The rows in use and the unused rows of a table are 16 together.
+-- The rows in use and the unused rows of a table are together as many as it may have.
 places-held : (rs : List Row) → GoodRows rs → length (heldRows rs) ≡ maxRows
 places-held rs good = simp (length-append, length-replicate) (omega (arith, good .few-rows))
 

@@ -2,9 +2,9 @@
 use Prim.Native.Nat.{ℕ}
 use Rattle.table.specs.declared.Limits.{Limits}
 
--- A table has at most this many rows. (3.1)
+-- A table has at most so many rows: the limit of rows. (3.1)
 abbrev pub maxRows : ℕ
-maxRows = 16
+maxRows = 64
 
 -- A row's x is at most this. (3.2)
 abbrev pub maxX : ℕ

@@ -32,7 +32,7 @@ pub record FirstValues (limits values : List ℕ) : Type 0 where
   pub within : (i : ℕ) → i < length values → (1 ≤ getD values i 0) × (getD values i 0 ≤ getD limits i 0)
 
 -- No test before the place `at` refuses, and a value with the limit `most` begins there. Between the row count's place `from` and `at` stand a row count of at
--- most 16, fewer rows than it counts, and the first values of the next row, all of them in range. (3.7)
+-- most the limit of rows, fewer rows than it counts, and the first values of the next row, all of them in range. (3.7)
 pub record ValueNext (s : List ℕ) (from at most : ℕ) : Type 0 where
   pub count : ℕ
   pub rows : List Row
@@ -59,7 +59,7 @@ pub data BadValue (s : List ℕ) (at most : ℕ) : (number place : ℕ) → Type
 pub data RowsRefusedSo (s : List ℕ) (from : ℕ) : (number place : ℕ) → Type 0 where
   -- If the row count can't be read, that is refusal 1, at its bad byte. (3.8)
   no-count : {place : ℕ} → BadByteAt s from place → RowsRefusedSo s from 1 place
-  -- If the row count is above 16, that is refusal 2, at its start, whatever follows. (3.9)
+  -- If the row count is above the limit of rows, that is refusal 2, at its start, whatever follows. (3.9)
   too-large-count : (n : Number) → Spelled s from n → maxRows < n .value → RowsRefusedSo s from 2 from
   -- If a value can't be read, that is refusal 1, at its bad byte. If it is out of its range, that is refusal 3, at its start. (3.8, 3.10)
   bad-value : {number place at most : ℕ} → ValueNext s from at most → BadValue s at most number place → RowsRefusedSo s from number place

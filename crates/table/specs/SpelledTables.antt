@@ -33,7 +33,7 @@ spelledRow r = spelling (r .x) ++ (spelling (r .y) ++ (spelling (r .d) ++ spelli
 abbrev pub spelledRows : List Row → List ℕ
 spelledRows rows = spelling (length rows) ++ flatten (map spelledRow rows)
 
--- A table may have these rows: there are at most 16, and each is in range. (3.1, 3.2)
+-- A table may have these rows: there are at most as many as the limit of rows says, and each is in range. (3.1, 3.2)
 pub record GoodRows (rows : List Row) : Type 0 where
   pub few-rows : length rows ≤ maxRows
   pub in-range : (r : Row) → List·Memᴰ r rows → rowInRange r ≡ true

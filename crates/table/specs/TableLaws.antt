@@ -7,7 +7,7 @@ use mathlib.Core.List.{List}
 use lib.ListN.{getD}
 use Rattle.numbers.specs.SpelledNumbers.{Bytes}
 use Rattle.table.specs.declared.Row.{Row}
-use Rattle.table.specs.Limits.{limits}
+use Rattle.table.specs.Limits.{maxRows, limits}
 use Rattle.table.specs.Content.{Content}
 use Rattle.table.specs.Period.{periodOf}
 use Rattle.table.specs.Rows.{rowInRange}
@@ -16,9 +16,9 @@ use Rattle.table.specs.SpelledTables.{WithinLimits, spelledTable, Accept
 
 -- ---- what is proved (proofs/SpelledTables.antt and proofs/TableAnswers.antt)
 
--- The limits are 16 for the rows, 64 for x, 4,096 for y, 16,384 for d, 4,096 for c and 1,048,576 for H. (3.1, 3.2, 3.4)
+-- The limits are that of rows, 64 for x, 4,096 for y, 16,384 for d, 4,096 for c and 1,048,576 for H. (3.1, 3.2, 3.4)
 abbrev pub LimitsOfTables : Type 0
-LimitsOfTables = limits ≡ record { rows = 16; x = 64; y = 4096; d = 16384; c = 4096; period = 1048576 }
+LimitsOfTables = limits ≡ record { rows = maxRows; x = 64; y = 4096; d = 16384; c = 4096; period = 1048576 }
 
 -- A row passes the test `rowInRange` exactly when each of its values is from 1 to its limit. (3.2)
 abbrev pub InRangeMeans : Type 0

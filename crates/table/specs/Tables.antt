@@ -49,7 +49,7 @@ tableOf content = record { rows = heldRows (content .rows); count = length (cont
 abbrev pub emptyTable : Table
 emptyTable = tableOf (rowsAlone [])
 
--- A table is in range when it has room for 16 rows, at most 16 rows are in use, and each row in use is in range. (3.1, 3.2, 3.14)
+-- A table is in range when it has room for as many rows as the limit of rows says, no more rows are in use, and each row in use is in range. (3.1, 3.2, 3.14)
 pub record InRange (t : Table) : Type 0 where
   pub few-rows : t .count ≤ maxRows
   pub all-places : length (t .rows) ≡ maxRows
@@ -77,8 +77,8 @@ unfoldable pub readRows : (n : ℕ) → List ℕ → (at : ℕ) → Rows
 readRows zero s at = rows [] at
 readRows (suc n) s at = afterRow (readRow s at) (λ r next. inFront r (readRows n s next))
 
--- After the row count its rows are read. A count above 16 is refusal 2 at once, at the count's start, and a count that can't be read keeps the reader's
--- refusal. (3.8, 3.9)
+-- After the row count its rows are read. A count above the limit of rows is refusal 2 at once, at the count's start, and a count that can't be read keeps the
+-- reader's refusal. (3.8, 3.9)
 abbrev pub afterCount : List ℕ → (at : ℕ) → NumberRead → Rows
 afterCount s at (number.Number n) = cond (leb (n .value) maxRows) (readRows (n .value) s (n .next)) (refused (record { refusal = TooManyRows; place = at }))
 afterCount s at (number.Refused r) = refused r

@@ -116,7 +116,7 @@ fn within_limit(most: u64, value: u64) -> bool
 
 impl Table {
     // A table has room for this many rows. (3.1)
-    pub const MAX_ROWS: usize = 16;
+    pub const MAX_ROWS: usize = 64;
     // H may be at most this. (3.4)
     pub const MAX_PERIOD: u64 = 1_048_576;
 

@@ -1,5 +1,7 @@
-// A call in words, such as `release of row 0, cost 1` or `number [AC 02] at 0`. Its first letter says which call it is, its numbers are decimal, and a list of
-// bytes stands in brackets, in hexadecimal. Other letters and signs are there for the human reader only.
+// A call in words, as `release of row 0, cost 1` or `number [AC 02] at 0`. Its first letter says which call it is, its numbers are decimal, and a list of
+// bytes stands in brackets, in hexadecimal. Other letters and signs are for the reader alone.
+use jobs::Pending;
+use table::Table;
 ghost use Prim.Native.Nat.{_≤_, _<_};
 ghost use lib.ListN.{length};
 
@@ -22,7 +24,8 @@ pub struct Case {
 impl Case {
     pub const NUMBERS: usize = 8;
 
-    pub const BYTES: usize = 256;
+    // A table with every row has room, and so has a script that puts a job into every place and one more.
+    pub const BYTES: usize = 8 * Table::MAX_ROWS + 4 * Pending::PLACES;
 
     const MOST: u64 = 0x100_0000_0000_0000;
 }

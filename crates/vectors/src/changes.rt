@@ -41,7 +41,7 @@ fn with_next(mut run: Run, next: u64) -> Run {
     run
 }
 
-// Sets the number of rows and makes every row a copy of row 0: `rows = 17`.
+// `rows = 2`, all of them as row 0 is.
 fn with_rows(mut run: Run, count: usize) -> Run {
     let mut table = run.table;
     let row = table.rows[0];
@@ -63,7 +63,7 @@ fn with_y(mut run: Run, row: usize, y: u64) -> Run {
     run
 }
 
-// Sets the number of pending jobs: `pending = 65`.
+// `pending = 1`: so many jobs are counted.
 fn with_pending(mut run: Run, count: usize) -> Run {
     let mut pending = run.pending;
     pending.count = count;

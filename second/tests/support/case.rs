@@ -50,8 +50,8 @@ pub struct Outcome {
 }
 
 impl Outcome {
-    /// The place of a refusal, the first number of the answer.
-    pub fn place(&self) -> usize {
+    /// The first number of the answer: the place of a refusal, or the length of the log.
+    pub fn first(&self) -> usize {
         u64::from_le_bytes(self.answer[..8].try_into().unwrap()) as usize
     }
 }

@@ -43,7 +43,7 @@ pub fn mutate(good: &[u8], random: &mut Random) -> Vec<u8> {
     for _ in 0..random.within(1, 3) {
         let place = random.index(bytes.len() + 1);
         let end = (place + random.index(5)).min(bytes.len());
-        let telling = random.pick(&[0x00, 0x01, 0x10, 0x11, 0x40, 0x41, 0x7f, 0x80, 0x81, 0xff]);
+        let telling = random.pick(&[0x00, 0x01, 0x3f, 0x40, 0x41, 0x7f, 0x80, 0x81, 0xff]);
         match random.below(6) {
             0 if place < bytes.len() => bytes[place] ^= 1 << random.below(8),
             1 if place < bytes.len() => bytes[place] = telling,

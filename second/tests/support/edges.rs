@@ -4,8 +4,8 @@ use super::case::Case;
 use super::damage::replaced;
 use super::scripts::{self, Record};
 use super::tables::{self, Row};
-use second::run::LAST_TICK;
-use second::table::{self, MOST_C, MOST_D, MOST_X, MOST_Y};
+use second::run::{LAST_TICK, MOST_PENDING};
+use second::table::{self, MOST_C, MOST_D, MOST_ROWS, MOST_X, MOST_Y};
 use second::{numbers, replay};
 
 const V3: [Row; 2] = [[1, 4, 4, 2], [1, 6, 6, 3]];
@@ -21,7 +21,7 @@ pub fn all() -> Vec<Case> {
         cases.extend(replays(&tables::spell(&rows), &script));
     }
     for size in [0, 1, 8, 15, 17, 32] {
-        for table in [tables::spell(&V3), vec![17], vec![]] {
+        for table in [tables::spell(&V3), numbers::spell(MOST_ROWS + 1).unwrap(), vec![]] {
             cases.push(Case::verdict(table.clone(), vec![0x5a; size]));
             cases.push(Case::replay(table, scripts::spell(&R1), vec![0xa5; 20], vec![0x5a; size]));
         }
@@ -45,11 +45,15 @@ fn edge_tables() -> Vec<Vec<u8>> {
     let mut tables: Vec<Vec<u8>> = edge_rows().iter().map(|rows| tables::spell(rows)).collect();
     tables.extend((0..v3.len()).map(|cut| v3[..cut].to_vec()));
     tables.extend((0..v3.len()).flat_map(|place| misspellings().map(|bad| replaced(&v3, place, &bad))));
-    tables.extend([17, 127, 128, 1 << 32, 1 << 41, numbers::LARGEST].map(|count| numbers::spell(count).unwrap()));
+    let counts = [MOST_ROWS, MOST_ROWS + 1, 127, 128, 1 << 32, 1 << 41, numbers::LARGEST];
+    tables.extend(counts.map(|count| numbers::spell(count).unwrap()));
     for extra in [&[0x00][..], &[0x80], &[0x80, 0x00], &[1, 1, 1, 1]] {
         tables.push([&v3, extra].concat());
         tables.push([&tables::spell(&[[1, 1_141, 1, 1], [1, 919, 1, 1]]), extra].concat());
+        tables.push([&tables::spell(&[[1, 1, 1, 1]; MOST_ROWS as usize]), extra].concat());
     }
+    let full = tables::spell(&[[1, 300, 300, 4]; MOST_ROWS as usize]);
+    tables.extend((full.len() - 6..full.len()).map(|cut| full[..cut].to_vec()));
     tables
 }
 
@@ -63,17 +67,12 @@ fn edge_rows() -> Vec<Vec<Row>> {
         vec![[3, 6, 5, 2]],
         vec![[2, 1, 1, 1]],
         vec![[1, 2, 10, 3]],
-        vec![[1, 64, 1, 1]; 15],
-        vec![[1, 64, 1, 1]; 16],
-        vec![[1, 64, 64, 4]; 16],
-        vec![[1, 64, 64, 4]; 17],
-        vec![[64, 1, 16_384, 4_096]; 16],
         // These have the longest period that is accepted, and the shortest that is refused.
         vec![[1, 1_023, 1_023, 500], [1, 1_025, 1_025, 500]],
         vec![[1, 1_023, 1_023, 512], [1, 1_025, 1_025, 512]],
         vec![[1, 1_141, 1, 1], [1, 919, 1, 1]],
         vec![[1, 919, 1, 1], [1, 1_141, 1, 1]],
-        vec![[1, 4_093, 1, 1]; 16],
+        vec![[1, 4_093, 1, 1]; MOST_ROWS as usize],
         [4_093, 4_091, 4_079, 4_073, 4_057, 4_051, 4_049, 4_027].map(|y| [1, y, 1, 1]).to_vec(),
         // These have witnesses far past H + the largest d.
         vec![[1, 2, 1_000, 3]],
@@ -85,6 +84,7 @@ fn edge_rows() -> Vec<Vec<Row>> {
         vec![[1, 2, 2, 1], [1, 4, 3, 2]],
         vec![[1, 2, 1, 1], [1, 4, 4, 2]],
     ];
+    lists.extend(rows_near_their_limit());
     let limits = [MOST_X, MOST_Y, MOST_D, MOST_C];
     for (index, most) in limits.into_iter().enumerate() {
         for value in [0, 1, most - 1, most, most + 1, most + (1 << 8), most + (1 << 16), most + (1 << 32), 1 << 41] {
@@ -94,6 +94,35 @@ fn edge_rows() -> Vec<Vec<Row>> {
             lists.push(vec![[1, 4, 4, 1], row]);
         }
     }
+    lists
+}
+
+/// One row less than the limit of rows, as many, and one more. There are lists for each verdict and each refusal.
+fn rows_near_their_limit() -> Vec<Vec<Row>> {
+    let most = MOST_ROWS as usize;
+    let mut lists = vec![];
+    for count in [most - 1, most, most + 1] {
+        let y = MOST_ROWS;
+        // These take the whole processor where there are as many as the limit, and are due at y, or one tick before it.
+        lists.push(vec![[1, y, y, 1]; count]);
+        lists.push(vec![[1, y, y - 1, 1]; count]);
+        lists.push(vec![[1, y, 1, 1]; count]);
+        lists.push(vec![[MOST_X, MOST_Y, MOST_D, MOST_C]; count]);
+        // These are feasible or overloaded by the last row alone.
+        for c in [1, 2] {
+            let mut rows = vec![[1, y, y, 1]; count];
+            rows[count - 1] = [1, 4 * y, y, c];
+            lists.push(rows);
+        }
+        // A value out of its range in the last row, and a period that the last row makes too long.
+        for last in [[1, 919, 1, 0], [1, 919, 1, 1]] {
+            let mut rows = vec![[1, 1_141, 1, 1]; count];
+            rows[count - 1] = last;
+            lists.push(rows);
+        }
+    }
+    // These have the longest period that is accepted, and no length of it fails.
+    lists.push((0..most).map(|row| [1, [1_023, 1_025][row % 2], [1_023, 1_025][row % 2], 15]).collect());
     lists
 }
 
@@ -130,14 +159,19 @@ fn edge_records() -> Vec<(Vec<Row>, Vec<Record>)> {
     let d1 = vec![[1, 2, 6, 9]];
     let d2 = vec![[3, 6, 6, 9]];
     let v2 = vec![[1, 2, 6, 1]];
-    let wide = vec![[64, 1, 8, 9]];
+    // The jobs of a burst come from these rows in turn, so that all places are taken before the spacing by y sets in.
+    let wide = vec![[MOST_X, 1, 8, 9]; MOST_PENDING / MOST_X as usize];
+    let in_time = vec![[MOST_X, 1, 2 * MOST_PENDING as u64, 9]; wide.len()];
+    let and_one_due_later = [&wide[..], &[[1, 1, 9, 9]]].concat();
+    let every_row = vec![[4, MOST_ROWS, MOST_ROWS, 1]; MOST_ROWS as usize];
     let hopeless = vec![[1, 1, 2, 3]];
     let as_in_the_paper = vec![[0, 0, 1], [0, 0, 1], [0, 0, 1], [3, 0, 1], [0, 0, 1], [3, 0, 1]];
-    let burst = |count, gap| {
-        let mut records = vec![[0, 0, 1]; count];
+    let burst_of_rows = |rows: &[Row], count: usize, gap| {
+        let mut records: Vec<Record> = (0..count).map(|job| [0, (job % rows.len()) as u64, 1]).collect();
         records[0][0] = gap;
         records
     };
+    let burst = |count, gap| burst_of_rows(&wide, count, gap);
     let then = |mut records: Vec<Record>, record| {
         records.push(record);
         records
@@ -158,14 +192,27 @@ fn edge_records() -> Vec<(Vec<Row>, Vec<Record>)> {
         (v2.clone(), vec![[0, 0, 257]]),
         (v2.clone(), vec![[0, 0, (1 << 32) + 1]]),
         // These take the last place, one place more, and the place that a finished job frees.
-        (wide.clone(), burst(64, 0)),
-        (wide.clone(), burst(65, 0)),
-        (wide.clone(), then(burst(64, 0), [1, 0, 1])),
-        (wide.clone(), then(then(burst(64, 0), [1, 0, 1]), [0, 0, 1])),
-        (wide.clone(), then(burst(64, LAST_TICK - 8), [0, 0, 1])),
-        (wide.clone(), then(burst(64, LAST_TICK - 7), [0, 0, 1])),
-        (vec![[64, 1, 8, 9], [1, 1, 9, 9]], then(burst(64, LAST_TICK - 8), [0, 1, 1])),
-        (vec![[64, 1, 8, 9], [1, 1, 9, 9]], then(burst(63, LAST_TICK - 8), [0, 1, 1])),
+        (wide.clone(), burst(MOST_PENDING - 1, 0)),
+        (wide.clone(), burst(MOST_PENDING, 0)),
+        (wide.clone(), burst(MOST_PENDING + 1, 0)),
+        (wide.clone(), burst(2 * MOST_PENDING, 0)),
+        (vec![[MOST_X, 1, 8, 9]], vec![[0, 0, 1]; MOST_X as usize + 1]),
+        (vec![[1, 1, 8, 9]], vec![[0, 0, 1]; MOST_PENDING]),
+        (vec![[1, 1, 8, 9]], vec![[0, 0, 1]; MOST_PENDING + 1]),
+        (in_time.clone(), burst(MOST_PENDING, 0)),
+        (in_time.clone(), burst(MOST_PENDING + 1, 0)),
+        (in_time, then(burst(MOST_PENDING, 0), [1, 0, 1])),
+        (wide.clone(), then(burst(MOST_PENDING, 0), [1, 0, 1])),
+        (wide.clone(), then(then(burst(MOST_PENDING, 0), [1, 0, 1]), [0, 0, 1])),
+        (wide.clone(), then(burst(MOST_PENDING, LAST_TICK - 8), [0, 0, 1])),
+        (wide.clone(), then(burst(MOST_PENDING, LAST_TICK - 7), [0, 0, 1])),
+        (and_one_due_later.clone(), then(burst(MOST_PENDING, LAST_TICK - 8), [0, wide.len() as u64, 1])),
+        (and_one_due_later, then(burst(MOST_PENDING - 1, LAST_TICK - 8), [0, wide.len() as u64, 1])),
+        // Every row of the longest table has jobs, and no row comes after the last.
+        (every_row.clone(), burst_of_rows(&every_row, MOST_PENDING, 0)),
+        (every_row.clone(), burst_of_rows(&every_row, MOST_PENDING + 1, 0)),
+        (every_row.clone(), vec![[0, MOST_ROWS - 1, 1]]),
+        (every_row, vec![[0, MOST_ROWS, 1]]),
         // These have script times and due times at 2^40 and above.
         (v2.clone(), vec![[LAST_TICK, 0, 1]]),
         (v2.clone(), vec![[LAST_TICK, 1, 1]]),

@@ -2,8 +2,8 @@
 
 use super::random::Random;
 use super::tables::{spell_numbers, Row};
-use second::run::LAST_TICK;
-use second::table::MOST_C;
+use second::run::{LAST_TICK, MOST_PENDING};
+use second::table::{MOST_C, MOST_ROWS};
 
 /// A record is a gap, a row number and a cost.
 pub type Record = [u64; 3];
@@ -50,14 +50,19 @@ fn quiet(rows: &[Row], random: &mut Random) -> Vec<Record> {
 }
 
 fn crowded(rows: &[Row], random: &mut Random) -> Vec<Record> {
-    let count = if random.one_in(30) { random.within(300, 2_000) } else { random.within(20, 140) };
+    let count = if random.one_in(30) { random.within(300, 2_000) } else { random.within(20, 2 * MOST_PENDING as u64) };
     let most_gap = random.within(1, 6);
     jobs(rows, count, most_gap, 5, random)
 }
 
+/// Makes a number of jobs that take all places, or that are a few fewer or a few more.
+pub fn near_the_last_place(random: &mut Random) -> u64 {
+    MOST_PENDING as u64 - 2 + random.below(5)
+}
+
 /// Fills the places to the last one or just past it, once or with a few jobs finished in between.
 pub fn burst(rows: &[Row], random: &mut Random) -> Vec<Record> {
-    let count = random.within(62, 66);
+    let count = near_the_last_place(random);
     let mut records = jobs(rows, count, 0, random.pick(&[1, 2, 9]), random);
     for _ in 0..random.below(3) {
         let pause = random.within(1, 4);
@@ -77,7 +82,7 @@ pub fn near_the_end(rows: &[Row], random: &mut Random) -> Vec<Record> {
         2 => d.saturating_mul(random.within(1, 3)),
         _ => random.below(200),
     };
-    let count = random.pick(&[1, 2, 3, 6, 64, 65]);
+    let count = random.pick(&[1, 2, 3, 6, MOST_PENDING as u64, MOST_PENDING as u64 + 1]);
     let most_gap = random.pick(&[0, 0, 1, 3]);
     let most_cost = random.pick(&[1, 3, 40]);
     let mut records = jobs(rows, count, most_gap, most_cost, random);
@@ -121,7 +126,7 @@ pub fn spoil_a_value(rows: &[Row], records: &mut [Record], random: &mut Random) 
     let [gap, row, cost] = &mut records[record];
     match random.below(3) {
         0 => *gap = random.pick(&[LAST_TICK, LAST_TICK + 1, 2 * LAST_TICK, 4 * LAST_TICK - 1]),
-        1 => *row = random.pick(&[count, count + 1, 16, 17, 1 << 8, 1 << 16, 1 << 32, 1 << 41]),
+        1 => *row = random.pick(&[count, count + 1, MOST_ROWS, MOST_ROWS + 1, 1 << 8, 1 << 16, 1 << 32, 1 << 41]),
         _ => *cost = random.pick(&[0, c + 1, c + (1 << 8), c + (1 << 16), c + (1 << 32), 1 << 41]),
     }
 }

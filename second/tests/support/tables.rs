@@ -2,7 +2,7 @@
 
 use super::random::Random;
 use second::numbers;
-use second::table::{self, Table};
+use second::table::{self, Table, MOST_ROWS};
 use second::verdict::{verdict, Verdict};
 
 /// A row is x, y, d and c.
@@ -85,13 +85,18 @@ fn due_near(y: u64, random: &mut Random) -> u64 {
     }
 }
 
+/// Makes a row count that is the limit of rows, one less or one more.
+fn near_the_limit(random: &mut Random) -> u64 {
+    MOST_ROWS - 1 + random.below(3)
+}
+
 fn many(random: &mut Random) -> Vec<Row> {
     let ys = random.pick(&[[4, 8, 16, 32], [60, 90, 120, 180], [100, 200, 250, 500], [512, 1_024, 2_048, 4_096]]);
-    let count = random.within(5, 17);
+    let count = if random.one_in(3) { near_the_limit(random) } else { random.within(5, 17) };
     (0..count)
         .map(|_| {
             let y = random.pick(&ys);
-            [random.within(1, 2), y, due_near(y, random), random.within(1, (y / 8).clamp(1, 40))]
+            [random.within(1, 2), y, due_near(y, random), random.within(1, (y / count.max(8)).clamp(1, 40))]
         })
         .collect()
 }
@@ -135,7 +140,7 @@ pub fn long_period(random: &mut Random) -> Vec<Row> {
 
 /// Makes rows with each value at one of its limits, and now and then past it.
 pub fn at_limits(random: &mut Random) -> Vec<Row> {
-    let count = random.pick(&[1, 1, 2, 3, 15, 16, 17]);
+    let count = if random.one_in(3) { near_the_limit(random) } else { random.pick(&[1, 1, 2, 3]) };
     (0..count)
         .map(|_| {
             let mut at = |most: u64| match random.below(60) {
@@ -160,7 +165,7 @@ fn hasty(random: &mut Random) -> Vec<Row> {
 
 /// Makes few rows with a large x, so that many jobs come before the spacing by y sets in.
 fn wide(random: &mut Random) -> Vec<Row> {
-    let count = random.within(1, 3);
+    let count = random.within(1, 5);
     (0..count)
         .map(|_| {
             let d = random.pick(&[1, 2, 8, 100, 16_000, 16_384]);

@@ -3,19 +3,37 @@
 use super::bad_bytes::Met;
 use super::case::{Call, Case, Outcome};
 use super::tables::last_of_first_period;
-use second::host::OVERLOADED;
-use second::table;
+use second::host::{FEASIBLE, IN_TIME, LATE, OVERLOADED};
+use second::numbers;
+use second::run::MOST_PENDING;
+use second::table::{self, MOST_ROWS};
 use second::verdict::{verdict, Verdict};
-use std::collections::BTreeMap;
+use std::collections::{BTreeMap, BTreeSet};
 
 pub const TABLE_MISSPELLED: u32 = 1;
 pub const SCRIPT_MISSPELLED: u32 = 14;
+const TOO_MANY_ROWS: u32 = 2;
+const PLACES_FULL: u32 = 8;
+
+/// What a comparison met near the limit of rows or the limit of pending jobs.
+#[derive(Clone, Copy, Debug, PartialEq, Eq, PartialOrd, Ord)]
+pub enum Limit {
+    /// A table of so many rows was accepted.
+    Rows(u64),
+    /// A table of so many rows was refused with 2.
+    TooManyRows(u64),
+    /// At most so many jobs were pending at a time in a replay that was not refused.
+    Pending(usize),
+    /// A release was refused with 8.
+    PlacesFull,
+}
 
 #[derive(Default)]
 pub struct Tally {
     statuses: BTreeMap<(Call, u32), u64>,
     /// By call and refusal.
     bad_bytes: BTreeMap<(Call, u32), Met>,
+    limits: BTreeMap<(Call, Limit), u64>,
     /// This many overloaded tables had a witness past H + the largest d.
     pub late_witnesses: u64,
 }
@@ -27,12 +45,15 @@ impl Tally {
         if status == OVERLOADED && has_late_witness(&case.table) {
             self.late_witnesses += 1;
         }
+        for limit in limits(case, outcome) {
+            *self.limits.entry((case.call, limit)).or_default() += 1;
+        }
         let misspelled = match status {
             TABLE_MISSPELLED => &case.table,
             SCRIPT_MISSPELLED => &case.script,
             _ => return,
         };
-        self.bad_bytes.entry((case.call, status)).or_default().count(misspelled, outcome.place());
+        self.bad_bytes.entry((case.call, status)).or_default().count(misspelled, outcome.first());
     }
 
     pub fn add(&mut self, other: &Tally) {
@@ -41,6 +62,9 @@ impl Tally {
         }
         for (&key, met) in &other.bad_bytes {
             self.bad_bytes.entry(key).or_default().add(met);
+        }
+        for (&key, count) in &other.limits {
+            *self.limits.entry(key).or_default() += count;
         }
         self.late_witnesses += other.late_witnesses;
     }
@@ -61,6 +85,20 @@ impl Tally {
         possible.iter().copied().filter(|&status| !self.statuses.contains_key(&(call, status))).collect()
     }
 
+    /// Says what a call met at the limits, one less and one more, and how often.
+    pub fn limits(&self, call: Call) -> String {
+        let wanted = limits_wanted(call);
+        let counts = wanted.iter().map(|limit| (limit, self.limits.get(&(call, *limit)).unwrap_or(&0)));
+        let parts: Vec<String> = counts.map(|(limit, count)| format!("{limit:?}: {count}")).collect();
+        parts.join(", ")
+    }
+
+    /// Returns what a call never met at the limits, one less and one more.
+    pub fn missing_limits(&self, call: Call) -> Vec<Limit> {
+        let met = |limit: &Limit| self.limits.contains_key(&(call, *limit));
+        limits_wanted(call).into_iter().filter(|limit| !met(limit)).collect()
+    }
+
     /// The bad bytes that a call refused with one of the two statuses for them, of which all were met.
     pub fn bad_bytes(&self, call: Call, status: u32) -> &Met {
         &self.bad_bytes[&(call, status)]
@@ -70,4 +108,41 @@ impl Tally {
 fn has_late_witness(bytes: &[u8]) -> bool {
     let table = table::read(bytes).expect("an overloaded table is a table");
     matches!(verdict(&table), Verdict::Overloaded { length, .. } if length > last_of_first_period(&table))
+}
+
+fn limits_wanted(call: Call) -> BTreeSet<Limit> {
+    let rows = [Limit::Rows(MOST_ROWS - 1), Limit::Rows(MOST_ROWS), Limit::TooManyRows(MOST_ROWS + 1)];
+    let pending = [Limit::Pending(MOST_PENDING - 1), Limit::Pending(MOST_PENDING), Limit::PlacesFull];
+    let of_replay = pending.into_iter().filter(|_| call == Call::Replay);
+    rows.into_iter().chain(of_replay).collect()
+}
+
+fn limits(case: &Case, outcome: &Outcome) -> Vec<Limit> {
+    let rows = numbers::read(&case.table, 0).map_or(0, |(count, _)| count);
+    match outcome.status {
+        FEASIBLE | OVERLOADED => vec![Limit::Rows(rows)],
+        IN_TIME | LATE => vec![Limit::Rows(rows), Limit::Pending(most_pending(&outcome.log[..outcome.first()]))],
+        TOO_MANY_ROWS => vec![Limit::TooManyRows(rows)],
+        PLACES_FULL => vec![Limit::Rows(rows), Limit::PlacesFull],
+        _ => vec![],
+    }
+}
+
+/// Returns how many jobs of a whole log were pending at a time, at most. A job is pending from its release until its
+/// finish, and a place that is freed can be used at once.
+fn most_pending(log: &[u8]) -> usize {
+    let mut list = vec![];
+    let mut place = 0;
+    while place < log.len() {
+        let (number, after) = numbers::read(log, place).expect("a log has numbers only");
+        list.push(number);
+        place = after;
+    }
+    let mut changes: Vec<(u64, i64)> = list.chunks(5).flat_map(|job| [(job[2], 1), (job[4], -1)]).collect();
+    changes.sort();
+    let pending = changes.iter().scan(0, |pending, &(_, change)| {
+        *pending += change;
+        Some(*pending)
+    });
+    pending.max().unwrap_or(0) as usize
 }

@@ -20,8 +20,8 @@ counted c = c .before .before .before .before
 some : (c : tie.Else2) → 1 ≤ counted c .in-use .result
 some c = omega (arith, c .before .before .before .if1 .left)
 
--- The place of the chosen job is below 64.
-inside : (c : tie.After-first-due) → c .first-due .result < 64
+-- The place of the job that goes first is one of the places.
+inside : (c : tie.After-first-due) → c .first-due .result < maxPlaces
 inside c = omega (arith, c .first-due .ensures .inside, counted (tested c) .in-use .ensures)
 
 -- The place of the chosen job and the last used place meet what `close_up` requires.

@@ -33,7 +33,7 @@ returns-2 c = c .refused2 .ensures ∙ extra-bytes (c .before .before .before .b
 ys-requires : tie.Need-ys-requires
 ys-requires c κs = search needs
 
--- At most 16 rows are in use.
+-- No more rows are in use than a table may have.
 places : (c : tie.After-ys) → c .before .before .before .before .before .before .read-rows .result .count ≤ maxRows
 places c =
     count-fits (c .before .before .before .before .before .before .before .before .args .bytes .now) _

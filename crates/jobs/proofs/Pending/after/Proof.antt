@@ -12,7 +12,7 @@ use Rattle.jobs.proofs.Places.{used-is}
 use Rattle.jobs.proofs.Pending.after.Statement.{statement}
 use Rattle.jobs.proofs.Pending.after.Tie as tie
 
--- There are 64 places.
+-- All places are there.
 all-places : (c : tie.Start) → length (c .args .t1 .places) ≡ maxPlaces
 all-places c = search (needs, length-mapped)
 

@@ -28,7 +28,7 @@ is-tested c = let a = c .before .before .before .before .before .before .before 
 is-allowed : (c : tie.After-enum-told) → let a = c .before .before .before .before .before .before .before .before .before .args in tested (a .self) (a .row .0) (a .cost) ≡ Allowed
 is-allowed c = is-tested (c .before .before) ∙ c .enum-told .given .1
 
--- A row number that is allowed is below 16.
+-- A row number that is allowed is below the limit of rows.
 number-inside : (c : tie.After-enum-told) → c .before .before .before .before .before .before .before .before .before .args .row .0 < maxRows
 number-inside c = let a = c .before .before .before .before .before .before .before .before .before .args in inside (a .self) (a .row .0) (a .cost) (sound (c .before .before .before .before .before .before .before)) (is-allowed c)
 

@@ -1,0 +1,97 @@
+//! A run is a struct that is changed in place. Nobody else can change it, so it is always sound and is not tested for
+//! that. Calls are three words of eight bytes each, and answers are four, as the probe library has them.
+
+use super::jobs::{due_time, first, Job, LATEST, PLACES};
+use super::table::{read_table, Row};
+use super::Refused;
+use std::collections::VecDeque;
+
+const WORD: usize = 8;
+/// The first word of a call that is a release. A call with any other first word is a tick.
+const RELEASE: u64 = 1;
+
+struct Run {
+    rows: Vec<Row>,
+    clock: u64,
+    pending: Vec<Job>,
+    next: u64,
+    kept: Vec<VecDeque<u64>>,
+}
+
+/// Plays calls on a fresh run of a table. It writes the answers of the start and of each call, as many as there is room
+/// for, and returns how many it wrote.
+pub fn trace(table: &[u8], calls: &[u8], answers: &mut [u8]) -> u32 {
+    let mut room = answers.chunks_exact_mut(4 * WORD);
+    let Some(start) = room.next() else {
+        return 0;
+    };
+    let (rows, answer) = match read_table(table) {
+        Ok(table) => (table.rows, [1, 0, 0, 0]),
+        Err(Refused(number, place)) => (Vec::new(), [6, number.into(), place as u64, 0]),
+    };
+    put(start, answer);
+    let kept = rows.iter().map(|_| VecDeque::new()).collect();
+    let mut run = Run { rows, clock: 0, pending: Vec::new(), next: 0, kept };
+    let mut shown = 1;
+    for (call, answer) in calls.chunks_exact(3 * WORD).zip(room) {
+        let said = match word(call, 0) {
+            RELEASE => run.release(word(call, 1), word(call, 2)),
+            _ => run.tick(),
+        };
+        put(answer, said.unwrap_or_else(|number| [6, number, 0, 0]));
+        shown += 1;
+    }
+    shown
+}
+
+impl Run {
+    /// Returns the words of the answer, or the refusal's number.
+    fn release(&mut self, row: u64, cost: u64) -> Result<[u64; 4], u64> {
+        if row >= self.rows.len() as u64 {
+            return Err(6);
+        }
+        let row = row as usize;
+        if cost < 1 || cost > self.rows[row].c {
+            return Err(7);
+        }
+        if self.pending.len() == PLACES {
+            return Err(8);
+        }
+        let due = due_time(&self.rows[row], &mut self.kept[row], self.clock).ok_or(9u64)?;
+        let serial = self.next;
+        self.pending.push(Job { serial, row, release: self.clock, due, left: cost });
+        self.next += 1;
+        Ok([2, serial, due, 0])
+    }
+
+    /// Returns the words of the answer, or the refusal's number.
+    fn tick(&mut self) -> Result<[u64; 4], u64> {
+        if self.clock == LATEST {
+            return Err(10);
+        }
+        self.clock += 1;
+        if self.pending.is_empty() {
+            return Ok([3, 0, 0, 0]);
+        }
+        let at = first(&self.pending);
+        let job = &mut self.pending[at];
+        job.left -= 1;
+        let (serial, finished) = (job.serial, job.left == 0);
+        if finished {
+            self.pending.remove(at);
+        }
+        let late = self.pending.iter().filter(|job| job.due == self.clock).count();
+        Ok([if finished { 5 } else { 4 }, serial, 0, late as u64])
+    }
+}
+
+fn word(words: &[u8], index: usize) -> u64 {
+    let at = index * WORD;
+    u64::from_le_bytes(words[at..at + WORD].try_into().unwrap())
+}
+
+fn put(place: &mut [u8], words: [u64; 4]) {
+    for (bytes, word) in place.chunks_exact_mut(WORD).zip(words) {
+        bytes.copy_from_slice(&word.to_le_bytes());
+    }
+}

@@ -1,0 +1,241 @@
+/*
+ * Tests that a thread whose stack has JYRMEKKO_STACK_SIZE bytes can make both calls, on the inputs that ask the most of
+ * them. A guard page stands below the stack, so that a call which needs more ends its process. Each case has a process
+ * of its own. The last line is 'N passed, M failed'.
+ */
+#define _GNU_SOURCE
+
+#include "jyrmekko.h"
+
+#include <limits.h>
+#include <pthread.h>
+#include <signal.h>
+#include <stdio.h>
+#include <sys/resource.h>
+#include <sys/wait.h>
+#include <unistd.h>
+
+enum {
+    MOST_ROWS = JYRMEKKO_MOST_ROWS,
+    MOST_PENDING = JYRMEKKO_MOST_PENDING,
+    MOST_X = 64,
+    MOST_TABLE = 1 + 6 * 4 * (MOST_ROWS + 1),
+    MOST_SCRIPT = 3 * MOST_ROWS * (MOST_X + 1),
+    MOST_INPUTS = 20
+};
+
+/* ---- the inputs */
+
+struct input {
+    const char *name;
+    uint8_t table[MOST_TABLE], script[MOST_SCRIPT];
+    size_t table_len, script_len, log_len;
+    uint32_t judged, replayed; /* The two calls have to return these statuses. */
+};
+
+static struct input inputs[MOST_INPUTS];
+static size_t input_count;
+
+/* So many equal rows. */
+struct rows {
+    unsigned count, x, y, d, c;
+};
+
+/* So many jobs, of all rows in turn, each with the same gap before it. */
+struct jobs {
+    unsigned count, gap;
+};
+
+static uint8_t *put(uint8_t *out, unsigned value)
+{
+    for (; value >= 128; value /= 128) {
+        *out++ = (uint8_t)(value % 128 + 128);
+    }
+    *out++ = (uint8_t)value;
+    return out;
+}
+
+static struct input *add(const char *name, struct rows rows, struct jobs jobs, uint32_t judged, uint32_t replayed)
+{
+    struct input *in = &inputs[input_count++];
+    uint8_t *out = put(in->table, rows.count);
+    unsigned i;
+    for (i = 0; i < rows.count; i++) {
+        out = put(put(put(put(out, rows.x), rows.y), rows.d), rows.c);
+    }
+    in->table_len = (size_t)(out - in->table);
+    out = in->script;
+    for (i = 0; i < jobs.count; i++) {
+        out = put(put(put(out, jobs.gap), i % rows.count), 1);
+    }
+    in->script_len = (size_t)(out - in->script);
+    in->log_len = JYRMEKKO_LOG_SIZE(in->script_len);
+    in->name = name;
+    in->judged = judged;
+    in->replayed = replayed;
+    return in;
+}
+
+static void add_inputs(void)
+{
+    static const struct rows none = {0, 0, 0, 0, 0}, one_too_many = {MOST_ROWS + 1, 1, 1, 1, 1},
+                             full = {MOST_ROWS, 4, 256, 256, 1}, late_witness = {MOST_ROWS, 4, 252, 512, 1},
+                             hasty = {MOST_ROWS, MOST_X, 1, 1, 1}, most = {MOST_ROWS, MOST_X, 4096, 16384, 4096},
+                             above = {MOST_ROWS, MOST_X, 4096, 16384, 4097}, short_numbers = {MOST_ROWS, 1, 64, 1, 1};
+    static const struct jobs no_job = {0, 0}, one_job = {1, 0}, all_places = {MOST_PENDING, 0},
+                             one_job_too_many = {MOST_PENDING + 1, 0},
+                             all_due_times_kept = {MOST_ROWS * (MOST_X + 1), 1};
+    struct input *in;
+    add("no rows", none, no_job, JYRMEKKO_FEASIBLE, JYRMEKKO_IN_TIME);
+    add("all rows, feasible, all places", full, all_places, JYRMEKKO_FEASIBLE, JYRMEKKO_IN_TIME);
+    add("all rows, a late witness, all places", late_witness, all_places, JYRMEKKO_OVERLOADED, JYRMEKKO_IN_TIME);
+    add("all rows, the largest x, all places", hasty, all_places, JYRMEKKO_OVERLOADED, JYRMEKKO_LATE);
+    add("all rows, the largest values, all places", most, all_places, JYRMEKKO_OVERLOADED, JYRMEKKO_IN_TIME);
+    add("all rows, the largest x, all due times kept", most, all_due_times_kept, JYRMEKKO_OVERLOADED, JYRMEKKO_IN_TIME);
+
+    add("one job too many", full, one_job_too_many, JYRMEKKO_FEASIBLE, JYRMEKKO_PLACES_FULL);
+    in = add("no room for the log", full, all_places, JYRMEKKO_FEASIBLE, JYRMEKKO_NO_ROOM);
+    in->log_len = 0;
+    in = add("the script is cut off", full, all_places, JYRMEKKO_FEASIBLE, JYRMEKKO_SCRIPT_MISSPELLED);
+    in->script_len--;
+    in = add("no such row", full, all_places, JYRMEKKO_FEASIBLE, JYRMEKKO_NO_SUCH_ROW);
+    in->script[in->script_len - 2] = MOST_ROWS;
+    in = add("cost out of range", full, all_places, JYRMEKKO_FEASIBLE, JYRMEKKO_COST_OUT_OF_RANGE);
+    in->script[in->script_len - 1] = 2;
+
+    add("one row too many", one_too_many, one_job, JYRMEKKO_TOO_MANY_ROWS, JYRMEKKO_TOO_MANY_ROWS);
+    add("value out of range", above, one_job, JYRMEKKO_VALUE_OUT_OF_RANGE, JYRMEKKO_VALUE_OUT_OF_RANGE);
+    in = add("the table is cut off", most, one_job, JYRMEKKO_MISSPELLED, JYRMEKKO_MISSPELLED);
+    in->table_len--;
+    in = add("bytes after the table", most, one_job, JYRMEKKO_EXTRA_BYTES, JYRMEKKO_EXTRA_BYTES);
+    in->table_len++;
+    in = add("period too long", short_numbers, one_job, JYRMEKKO_PERIOD_TOO_LONG, JYRMEKKO_PERIOD_TOO_LONG);
+    in->table[2] = 125;
+    in->table[6] = 121;
+    in->table[in->table_len - 3] = 127;
+}
+
+/* ---- the calls, on a thread */
+
+enum calls { VERDICT = 1, REPLAY = 2, BOTH = VERDICT | REPLAY };
+enum outcome { AS_WANTED = 60, OTHER_STATUS, NO_THREAD, OVERFLOWED };
+
+/* All that the thread needs stands here, and not on its stack. */
+static const struct input *lent;
+static enum calls wanted_calls;
+static uint8_t log_buffer[JYRMEKKO_LOG_SIZE(MOST_SCRIPT)], answer[JYRMEKKO_ANSWER_SIZE];
+static enum outcome outcome;
+
+static void *make_calls(void *nothing)
+{
+    outcome = AS_WANTED;
+    if ((wanted_calls & VERDICT) != 0
+        && verdict(lent->table, lent->table_len, answer, sizeof answer) != lent->judged) {
+        outcome = OTHER_STATUS;
+    }
+    if ((wanted_calls & REPLAY) != 0
+        && replay(lent->table, lent->table_len, lent->script, lent->script_len, log_buffer, lent->log_len, answer,
+                  sizeof answer) != lent->replayed) {
+        outcome = OTHER_STATUS;
+    }
+    return nothing;
+}
+
+static enum outcome call_on_thread(size_t stack_size)
+{
+    pthread_attr_t attributes;
+    pthread_t thread;
+    if (pthread_attr_init(&attributes) != 0 || pthread_attr_setstacksize(&attributes, stack_size) != 0
+        || pthread_attr_setguardsize(&attributes, (size_t)sysconf(_SC_PAGESIZE)) != 0
+        || pthread_create(&thread, &attributes, make_calls, NULL) != 0 || pthread_join(thread, NULL) != 0) {
+        return NO_THREAD;
+    }
+    return outcome;
+}
+
+/* Makes the calls on a thread whose stack has this size, in a process of its own. */
+static enum outcome try_stack(const struct input *in, enum calls calls, size_t stack_size)
+{
+    int status;
+    pid_t child;
+    lent = in;
+    wanted_calls = calls;
+    fflush(stdout);
+    child = fork();
+    if (child == 0) {
+        struct rlimit no_core = {0, 0};
+        setrlimit(RLIMIT_CORE, &no_core);
+        _exit((int)call_on_thread(stack_size));
+    }
+    if (child < 0 || waitpid(child, &status, 0) != child) {
+        return NO_THREAD;
+    }
+    if (WIFSIGNALED(status)) {
+        return WTERMSIG(status) == SIGSEGV ? OVERFLOWED : NO_THREAD;
+    }
+    return (enum outcome)WEXITSTATUS(status);
+}
+
+/* ---- the tests */
+
+static unsigned passed, failed;
+
+static void check(enum outcome found, enum outcome wanted, const char *name)
+{
+    static const char *const words[] = {"the statuses are right", "a status is wrong", "there is no such thread",
+                                        "the stack overflows"};
+    if (found == wanted) {
+        passed++;
+    } else {
+        failed++;
+        printf("%s: %s\n", name,
+               found >= AS_WANTED && found <= OVERFLOWED ? words[found - AS_WANTED] : "the process ends early");
+    }
+}
+
+/* Rounds up to a size that a thread's stack may have: whole pages, and no less than the system allows. */
+static size_t stack_of(size_t size)
+{
+    size_t page = (size_t)sysconf(_SC_PAGESIZE), least = (size_t)PTHREAD_STACK_MIN;
+    return ((size > least ? size : least) + page - 1) / page * page;
+}
+
+/* Returns the smallest stack on which a thread can make the calls, if it can on JYRMEKKO_STACK_SIZE bytes. */
+static size_t measure(const struct input *in, enum calls calls)
+{
+    size_t page = (size_t)sysconf(_SC_PAGESIZE);
+    size_t enough = stack_of(JYRMEKKO_STACK_SIZE) / page, too_small = stack_of(0) / page - 1;
+    while (enough - too_small > 1) {
+        size_t between = too_small + (enough - too_small) / 2;
+        if (try_stack(in, calls, between * page) == AS_WANTED) {
+            enough = between;
+        } else {
+            too_small = between;
+        }
+    }
+    return enough * page;
+}
+
+int main(void)
+{
+    size_t most_needed = 0, i;
+    add_inputs();
+    for (i = 0; i < input_count; i++) {
+        const struct input *in = &inputs[i];
+        size_t for_verdict = measure(in, VERDICT), for_replay = measure(in, REPLAY);
+        check(try_stack(in, VERDICT, stack_of(JYRMEKKO_STACK_SIZE)), AS_WANTED, in->name);
+        check(try_stack(in, REPLAY, stack_of(JYRMEKKO_STACK_SIZE)), AS_WANTED, in->name);
+        check(try_stack(in, BOTH, stack_of(JYRMEKKO_STACK_SIZE)), AS_WANTED, in->name);
+        printf("%s: a thread needs a stack of %lu bytes for verdict, and of %lu bytes for replay\n", in->name,
+               (unsigned long)for_verdict, (unsigned long)for_replay);
+        most_needed = for_verdict > most_needed ? for_verdict : most_needed;
+        most_needed = for_replay > most_needed ? for_replay : most_needed;
+    }
+    printf("a thread needs a stack of %lu bytes, and JYRMEKKO_STACK_SIZE is %lu\n", (unsigned long)most_needed,
+           (unsigned long)JYRMEKKO_STACK_SIZE);
+#ifdef __x86_64__ /* The test can fail. On other processors the library has a stack of its own, in the emulator. */
+    check(try_stack(inputs, REPLAY, stack_of(JYRMEKKO_STACK_SIZE / 2)), OVERFLOWED, "half of JYRMEKKO_STACK_SIZE");
+#endif
+    printf("%u passed, %u failed\n", passed, failed);
+    return failed != 0;
+}
