@@ -17,6 +17,7 @@ pub struct Job {
 }
 
 /// Returns the place of the job with the earliest due time, and with the lowest serial among equal due times.
+#[inline]
 pub fn first(pending: &[Job]) -> usize {
     let mut at = 0;
     for i in 1..pending.len() {
@@ -29,6 +30,7 @@ pub fn first(pending: &[Job]) -> usize {
 }
 
 /// Returns the due time of a row's next job and keeps it, or returns none where it would be above 2^40.
+#[inline]
 pub fn due_time(row: &Row, kept: &mut VecDeque<u64>, release: u64) -> Option<u64> {
     let mut due = release + row.d;
     let spaced = kept.len() as u64 == row.x;

@@ -2,7 +2,7 @@
 //! the earliest due time.
 
 use super::jobs::{due_time, first, Job, LATEST, PLACES};
-use super::numbers::{read, write};
+use super::numbers::{bad_byte, read, write};
 use super::table::read_table;
 use super::Refused;
 use std::collections::VecDeque;
@@ -71,7 +71,7 @@ pub fn replay(table: &[u8], script: &[u8], log: &mut [u8]) -> Result<(usize, u64
 }
 
 fn number(script: &[u8], at: &mut usize) -> Result<u64, Refused> {
-    let (value, next) = read(script, *at).map_err(|bad| Refused(14, bad))?;
+    let (value, next) = read(script, *at).ok_or_else(|| Refused(14, bad_byte(script, *at)))?;
     *at = next;
     Ok(value)
 }

@@ -1,6 +1,6 @@
 //! Tables are read and tested here.
 
-use super::numbers::read;
+use super::numbers::{bad_byte, read};
 use super::Refused;
 
 pub const ROWS: u64 = 64;
@@ -25,7 +25,7 @@ pub struct Table {
 }
 
 pub fn read_table(bytes: &[u8]) -> Result<Table, Refused> {
-    let (count, mut at) = read(bytes, 0).map_err(|bad| Refused(1, bad))?;
+    let (count, mut at) = read(bytes, 0).ok_or_else(|| Refused(1, bad_byte(bytes, 0)))?;
     if count > ROWS {
         return Err(Refused(2, 0));
     }
@@ -51,7 +51,7 @@ pub fn read_table(bytes: &[u8]) -> Result<Table, Refused> {
 }
 
 fn value(bytes: &[u8], at: &mut usize, most: u64) -> Result<u64, Refused> {
-    let (value, next) = read(bytes, *at).map_err(|bad| Refused(1, bad))?;
+    let (value, next) = read(bytes, *at).ok_or_else(|| Refused(1, bad_byte(bytes, *at)))?;
     if value < 1 || value > most {
         return Err(Refused(3, *at));
     }
