@@ -16,7 +16,8 @@ use Rattle.theory.proofs.Cases.{by-lt, by-eq}
 use Rattle.table.specs.declared.TableAnswer.{TableAnswer}
 use Rattle.table.specs.declared.TableAnswer.the-variants as answer
 use Rattle.table.specs.Tables.{tableRead}
-use Rattle.table.proofs.Refusals.{refused-with-one-to-five}
+use Rattle.table.specs.Refusals.{TableRefusal}
+use Rattle.table.proofs.Refusals.{refused-as-a-table}
 use Rattle.words.specs.Words.{wordLength, lowestFirst}
 use Rattle.words.proofs.Storing.{lowest-first-length}
 use Rattle.verdict.specs.declared.Verdict.{Verdict}
@@ -137,17 +138,17 @@ ten-times-is-room table script room size rows records enough = by-eq size answer
 
 -- ---- numbers that a verdict has
 
--- A verdict that is right for a table says a number from 1 to 5 where the table is refused, and else 20 or 21.
+-- A verdict that is right for a table says a refusal of tables where the table is refused, and else 20 or 21.
 verdict-says : (table : List ℕ) (v : Verdict) → Bytes table → Judged table v
-    → ((1 ≤ verdictSays v .number) × (verdictSays v .number ≤ 5)) ⊎ ((20 ≤ verdictSays v .number) × (verdictSays v .number ≤ 21))
+    → TableRefusal (verdictSays v .number) ⊎ ((20 ≤ verdictSays v .number) × (verdictSays v .number ≤ 21))
 verdict-says table verdict.Feasible bytes j = inr (omega arith, omega arith)
 verdict-says table (verdict.Overloaded w) bytes j = inr (omega arith, omega arith)
 verdict-says table (verdict.Refused r) bytes j = inl (by-answer (tableRead table .answer) refl j)
   where
     by-answer : (a : TableAnswer) → tableRead table .answer ≡ a → RightOfRead (tableRead table .table) a (verdict.Refused r)
-        → (1 ≤ refusalNumber (r .refusal)) × (refusalNumber (r .refusal) ≤ 5)
+        → TableRefusal (refusalNumber (r .refusal))
     by-answer (answer.Accepted period) e right = absurd right
-    by-answer (answer.Refused q) e right = let same : r ≡ q = cc in rw same (refused-with-one-to-five table q bytes e)
+    by-answer (answer.Refused q) e right = let same : r ≡ q = cc in rw same (refused-as-a-table table q bytes e)
 
 pub verdict-statuses : VerdictStatuses
 verdict-statuses table answer status after bytes (wrong-size l s k) = inr (inl s)
@@ -157,6 +158,6 @@ verdict-statuses table answer status after bytes (said l v j s k) =
 pub verdict-is-13 : VerdictIs13
 verdict-is-13 table answer status after bytes (wrong-size l s k) = (λ is. l, λ other. s)
 verdict-is-13 table answer status after bytes (said l v j s k) = (
-  λ is. absurd (⊎-elim (λ low. omega arith) (λ high. omega arith) (verdict-says table v bytes j)),
+  λ is. absurd (⊎-elim (⊎-elim (λ low. omega arith) (λ sixteen. omega arith)) (λ high. omega arith) (verdict-says table v bytes j)),
   λ other. absurd (other l),
 )

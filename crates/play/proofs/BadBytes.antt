@@ -3,6 +3,7 @@
 use Prim.Native.Nat.{ℕ, _≤_}
 use native.Mathlib.Omega.{arith}
 use mathlib.Core.Path.{_≡_}
+use mathlib.Core.Logic.{⊎-elim}
 use mathlib.Core.List.{List}
 use Rattle.kinds.specs.Numbering.{refusalNumber}
 use Rattle.kinds.specs.declared.RefusedAt.{RefusedAt}
@@ -16,7 +17,7 @@ use Rattle.numbers.proofs.BadByte.{refused-at-the-bad-byte, numbers-joined, num
 use Rattle.table.specs.declared.TableAnswer.the-variants as answer
 use Rattle.table.specs.Tables.{tableRead}
 use Rattle.table.proofs.Answers.{tables-said-apart}
-use Rattle.table.proofs.Refusals.{refused-with-one-to-five}
+use Rattle.table.proofs.Refusals.{refused-as-a-table}
 use Rattle.table.proofs.BadBytes.{refused-at-the-first-bad-byte}
 use Rattle.run.proofs.Ticking.{Good}
 use Rattle.play.specs.Play.{Progress}
@@ -81,7 +82,8 @@ module _ (t s : List ℕ) (b : Bytes s) where
   -- A play that is stopped with 14 is stopped at the script's first bad byte.
   script-bad : (r : RefusedAt) → Bytes t → StoppedFor t s r → refusalNumber (r .refusal) ≡ 14 → FirstBadByte s (r .place)
   script-bad r table (the-table e) is =
-      absurd (omega (arith, refused-with-one-to-five t r table (tables-said-apart (tableRead t .answer) (answer.Refused r) e)))
+      absurd (⊎-elim (λ low. omega (arith, low .1)) (λ sixteen. omega arith)
+      (refused-as-a-table t r table (tables-said-apart (tableRead t .answer) (answer.Refused r) e)))
   script-bad r table (a-record at p c more refused) is = record-bad (comes-sound t s at p table c) (numbers-to c) refused is
   script-bad r table (the-clock p c some ten place) is = absurd (omega arith)
 

@@ -1,18 +1,18 @@
 -- The rules for a row's values: what they say about one value, and what about a row. (docs/RULES.md, section 3.)
 use Prim.Native.Nat.{ℕ, _≤_, _<_}
 use mathlib.Core.Path.{_≡_, refl, sym, _∙_}
-use mathlib.Core.Bool.{Bool, true, false, cond, _&&_}
+use mathlib.Core.Bool.{Bool, true, false, not, cond, _&&_}
 use mathlib.Core.Option.{Option, none, some}
 use lib.Dec.{leb, ltb}
-use borrow.Author.Tests.{leb-true, le-leb, lt-ltb, le-ltb, ltb-true, ltb-false}
+use borrow.Author.Tests.{not-true, leb-true, le-leb, lt-ltb, le-ltb, ltb-true, ltb-false}
 use Rattle.kinds.specs.declared.Refusal.{Refusal}
 use Rattle.kinds.specs.declared.Refusal.the-variants.{ValueOutOfRange, HopelessRow}
 pub use Rattle.periods.proofs.Multiples.{both-true}
 use Rattle.table.specs.declared.Row.{Row}
 use Rattle.table.specs.Limits.{maxX, maxY, maxD, maxC}
-use Rattle.table.specs.Rows.{withinLimit, fine, ruleOfX, ruleOfY, ruleOfD, rangeOfC, withinD, afterRange, ruleOfC, rowInRange}
-use Rattle.table.specs.SpelledTables.{WithinLimits}
-use Rattle.table.specs.TableLaws.{HopelessMeans}
+use Rattle.table.specs.Rows.{withinLimit, fine, ruleOfX, ruleOfY, ruleOfD, rangeOfC, withinD, afterRange, ruleOfC, rowInRange, hopeless}
+use Rattle.table.specs.SpelledTables.{WithinLimits, AcceptableRow}
+use Rattle.table.specs.TableLaws.{HopelessMeans, AcceptableMeans}
 
 -- ---- a value
 
@@ -108,4 +108,15 @@ in-range-of r w = simp (
   within-fine maxY (r .y) (w .some-y) (w .most-y),
   within-fine maxD (r .d) (w .some-d) (w .most-d),
   within-fine maxC (r .c) (w .some-c) (w .most-c),
+)
+
+-- A row with a c of at most its d is not hopeless.
+not-hopeless : (r : Row) → r .c ≤ r .d → not (hopeless r) ≡ true
+not-hopeless r h = rw (le-ltb (r .d) (r .c) h)
+
+pub acceptable-means : AcceptableMeans
+acceptable-means r = (
+  λ e. let t = both-true (rowInRange r) (not (hopeless r)) e in
+  record { within-limits = limits-of r (t .0); c-within-d = ltb-false (r .d) (r .c) (not-true _ (t .1)) },
+  λ a. simp (in-range-of r (a .within-limits), not-hopeless r (a .c-within-d)),
 )

@@ -1,6 +1,6 @@
 -- The ranges of a row's values, and how a row is read from bytes. (docs/RULES.md, section 3.)
 use Prim.Native.Nat.{ℕ}
-use mathlib.Core.Bool.{Bool, true, false, cond, _&&_}
+use mathlib.Core.Bool.{Bool, true, false, not, cond, _&&_}
 use mathlib.Core.Option.{Option, none, some}
 use mathlib.Core.List.{List}
 use lib.Dec.{leb, ltb}
@@ -64,6 +64,10 @@ rowInRange r = fine (ruleOfX (r .x)) && fine (ruleOfY (r .y)) && fine (ruleOfD (
 -- A row is hopeless when its c is above its d: a job of full cost can never be met. (3.3)
 abbrev pub hopeless : Row → Bool
 hopeless r = ltb (r .d) (r .c)
+
+-- A table may have a row that is in range and not hopeless. (3.2, 3.3)
+abbrev pub rowAcceptable : Row → Bool
+rowAcceptable r = rowInRange r && not (hopeless r)
 
 -- A number that was read at the place `at` is answered as it is if its rule gives no refusal. Otherwise that refusal is answered, at the number's start. (3.10)
 abbrev pub testedAt : (at : ℕ) → Option Refusal → Number → NumberRead

@@ -10,9 +10,9 @@ use Rattle.table.specs.declared.Row.{Row}
 use Rattle.table.specs.Limits.{maxRows, limits}
 use Rattle.table.specs.Content.{Content}
 use Rattle.table.specs.Period.{periodOf}
-use Rattle.table.specs.Rows.{rowInRange, hopeless}
+use Rattle.table.specs.Rows.{rowInRange, hopeless, rowAcceptable}
 use Rattle.table.specs.Tables.{contentOf, tableOf, emptyTable, noRow, InRange, tableRead}
-use Rattle.table.specs.SpelledTables.{WithinLimits, spelledTable, Acceptable, AcceptedAs, UsableContent, SaysAccepted, SaysRefused}
+use Rattle.table.specs.SpelledTables.{WithinLimits, AcceptableRow, spelledTable, Acceptable, AcceptedAs, UsableContent, SaysAccepted, SaysRefused}
 
 -- ---- what is proved (proofs/SpelledTables.antt and proofs/TableAnswers.antt)
 
@@ -27,6 +27,10 @@ InRangeMeans = (r : Row) → (rowInRange r ≡ true) ↔ WithinLimits r
 -- A row passes the test `hopeless` exactly when its c is above its d. (3.3)
 abbrev pub HopelessMeans : Type 0
 HopelessMeans = (r : Row) → (hopeless r ≡ true) ↔ (r .d < r .c)
+
+-- A row passes the test `rowAcceptable` exactly when each of its values is from 1 to its limit and its c is at most its d. (3.2, 3.3)
+abbrev pub AcceptableMeans : Type 0
+AcceptableMeans = (r : Row) → (rowAcceptable r ≡ true) ↔ AcceptableRow r
 
 -- The table that holds a content has exactly that content.
 abbrev pub ContentOfTable : Type 0
