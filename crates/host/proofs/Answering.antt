@@ -94,22 +94,22 @@ replay-of-sixteen table script log answer status after left sixteen = rw (eq-eqb
 
 -- ---- numbers that no replay has
 
--- Of the numbers above 10, a replay says only 12, 14, 22 and 23.
-never-said : (table script : List ℕ) (room n : ℕ) → Bytes table → Bytes script → 10 < n → n ≢ 12 → n ≢ 14 → n ≢ 22 → n ≢ 23
+-- Of the numbers above 10, a replay says only 12, 14, 16, 22 and 23.
+never-said : (table script : List ℕ) (room n : ℕ) → Bytes table → Bytes script → 10 < n → n ≢ 12 → n ≢ 14 → n ≢ 16 → n ≢ 22 → n ≢ 23
     → replaySays (replayOf table script room) .number ≢ n
-never-said table script room n rows records above not-12 not-14 not-22 not-23 = by-outcome (replayOf table script room) refl
+never-said table script room n rows records above not-12 not-14 not-16 not-22 not-23 = by-outcome (replayOf table script room) refl
   where
     by-outcome : (v : Replayed) → replayOf table script room ≡ v → replaySays v .number ≢ n
     by-outcome (replayed.InTime m) e is = not-22 (sym is)
     by-outcome (replayed.Late l) e is = not-23 (sym is)
     by-outcome (replayed.Refused r) e is =
         let stopped = refused-means table script room r (λ room. not-12 (sym is ∙ ap refusalNumber room)) .0 e in
-        ⊎-elim (λ low. omega arith) (λ is-14. not-14 (sym is ∙ is-14)) (stopped-by table script r rows records stopped)
+        ⊎-elim (λ low. omega arith) (⊎-elim (λ is-14. not-14 (sym is ∙ is-14)) (λ is-16. not-16 (sym is ∙ is-16))) (stopped-by table script r rows records stopped)
 
 pub replay-is-13 : ReplayIs13
 replay-is-13 table script room size rows records = by-eq size answerLength
     (λ same. rw (eq-eqb size answerLength same) (
-      λ is. absurd (never-said table script room 13 rows records (omega arith) (λ e. omega arith) (λ e. omega arith) (λ e. omega arith) (λ e. omega arith) is),
+      λ is. absurd (never-said table script room 13 rows records (omega arith) (λ e. omega arith) (λ e. omega arith) (λ e. omega arith) (λ e. omega arith) (λ e. omega arith) is),
       λ other. absurd (other same),
     ))
     (λ other. rw (ne-eqb size answerLength other) (λ is. other, λ o. refl))
@@ -117,8 +117,8 @@ replay-is-13 table script room size rows records = by-eq size answerLength
 pub replay-never-11-or-25 : ReplayNever11Or25
 replay-never-11-or-25 table script room size rows records = by-eq size answerLength
     (λ same. rw (eq-eqb size answerLength same) (
-      never-said table script room 11 rows records (omega arith) (λ e. omega arith) (λ e. omega arith) (λ e. omega arith) (λ e. omega arith),
-      never-said table script room 25 rows records (omega arith) (λ e. omega arith) (λ e. omega arith) (λ e. omega arith) (λ e. omega arith),
+      never-said table script room 11 rows records (omega arith) (λ e. omega arith) (λ e. omega arith) (λ e. omega arith) (λ e. omega arith) (λ e. omega arith),
+      never-said table script room 25 rows records (omega arith) (λ e. omega arith) (λ e. omega arith) (λ e. omega arith) (λ e. omega arith) (λ e. omega arith),
     ))
     (λ other. rw (ne-eqb size answerLength other) (λ e. omega arith, λ e. omega arith))
 
