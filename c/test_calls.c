@@ -624,6 +624,7 @@ static void test_answer_size(void)
     static const size_t sizes[] = {0, 1, 8, 15, 17, 32};
     static const uint8_t table[] = {2, 1, 4, 4, 2, 1, 6, 6, 3}, script[] = {0, 0, 2, 0, 1, 3, 4, 0, 2};
     static const uint8_t bad_table[] = {JYRMEKKO_MOST_ROWS + 1}, bad_script[] = {0x80, 0x00};
+    static const uint8_t hopeless_table[] = {1, 1, 4, 4, 5};
     size_t i;
     for (i = 0; i < COUNT(sizes); i++) {
         struct fenced answer_buffer, log_buffer;
@@ -632,9 +633,13 @@ static void test_answer_size(void)
         const char *name = "answer of another size";
         check(verdict(table, sizeof table, answer, sizes[i]) == JYRMEKKO_ANSWER_NOT_16_BYTES, name, "verdict");
         check(verdict(bad_table, sizeof bad_table, answer, sizes[i]) == JYRMEKKO_ANSWER_NOT_16_BYTES, name, "verdict");
+        check(verdict(hopeless_table, sizeof hopeless_table, answer, sizes[i]) == JYRMEKKO_ANSWER_NOT_16_BYTES, name,
+              "verdict");
         check(replay(table, sizeof table, script, sizeof script, log, MOST_LOG, answer, sizes[i])
                   == JYRMEKKO_ANSWER_NOT_16_BYTES, name, "replay");
         check(replay(bad_table, sizeof bad_table, bad_script, sizeof bad_script, log, MOST_LOG, answer, sizes[i])
+                  == JYRMEKKO_ANSWER_NOT_16_BYTES, name, "replay");
+        check(replay(hopeless_table, sizeof hopeless_table, script, sizeof script, log, MOST_LOG, answer, sizes[i])
                   == JYRMEKKO_ANSWER_NOT_16_BYTES, name, "replay");
         check(fence_stands(&answer_buffer, 0), name, "answer, which should be untouched");
         check(fence_stands(&log_buffer, 0), name, "log, which should be untouched");

@@ -19,8 +19,8 @@
  *
  * Tables. A table is its row count, from 0 to JYRMEKKO_MOST_ROWS, then x, y, d and c of each row, and nothing after. In
  * a row, x executions are expected in any y ticks, each is due d ticks after its release, and each costs at most c
- * units. One unit is one tick of the processor. x is 1 to 64, y is 1 to 4,096, d is 1 to 16,384 and c is 1 to 4,096. No
- * c is above the d of its row: such a row is hopeless, as no processor gives a job more units than it has ticks. H, the
+ * units. One unit is one tick of the processor. x is 1 to 64, y is 1 to 4,096, d is 1 to 16,384 and c is 1 to 4,096. A
+ * row with c above d is hopeless, since no job gets more units than it has ticks, and no table may have one. H, the
  * least common multiple of the y of all rows, is at most 1,048,576.
  *
  * Scripts. A script is any number of records of three numbers: the gap, which is the time since the last record (for
