@@ -164,7 +164,8 @@ spelled-around : (before : List Row) (r : Row) (after : List Row)
     → flatten (map spelledRow (before ++ (r ∷ after))) ≡ flatten (map spelledRow before) ++ (spelledRow r ++ flatten (map spelledRow after))
 unfolding flatten
 spelled-around [] r after = refl
-spelled-around (q ∷ before) r after = rw (spelled-around before r after, append-assoc)
+spelled-around (q ∷ before) r after =
+    ap (λ l. spelledRow q ++ l) (spelled-around before r after) ∙ sym (append-assoc (spelledRow q) (flatten (map spelledRow before)) _)
 
 pub hopeless-is-refused : HopelessIsRefused
 hopeless-is-refused rows more few within r m above =
@@ -176,7 +177,7 @@ hopeless-is-refused rows more few within r m above =
     let rest = flatten (map spelledRow (f .after)) ++ more in
     let s = spelledTable (rowsAlone rows) ++ more in
     let apart : s ≡ (count ++ (front ++ first)) ++ (spelling (row .c) ++ rest) =
-      ap (λ l. (count ++ l) ++ more) (ap (λ l. flatten (map spelledRow l)) (f .all) ∙ spelled-around (f .before) row (f .after)) ∙ rw append-assoc
+      ap (λ l. (count ++ l) ++ more) (ap (λ l. flatten (map spelledRow l)) (f .all) ∙ spelled-around (f .before) row (f .after)) ∙ simp (append-assoc)
     in
     let stands = subst (λ part. PartStands s 0 part (length s)) apart (stands-whole s) in
     let t = parted (count ++ (front ++ first)) (spelling (row .c) ++ rest) stands in
@@ -211,13 +212,13 @@ no-hopeless-row-is-judged table v b judged is r m = by-answer (tableRead table .
         number-of right e = sym (ap (λ w. verdictSays w .number) right) ∙ e
 
 pub hopeless-run-is-refused : HopelessRunIsRefused
-hopeless-run-is-refused run whole i in-use above = (
+hopeless-run-is-refused run all-places i in-use above = (
   λ row cost. ap (λ step. releaseSays (step .answer)) (sym (not-sound run row cost unsound)),
   ap (λ step. tickSays (step .answer)) (tick-unsound run unsound),
 )
   where
     by-test-of : (b : Bool) → soundOf run ≡ b → b ≡ false
-    by-test-of true e = absurd (omega (arith, sound-means run whole .0 e .c-within-d i in-use))
+    by-test-of true e = absurd (omega (arith, sound-means run all-places .0 e .c-within-d i in-use))
     by-test-of false e = refl
 
     unsound : soundOf run ≡ false
