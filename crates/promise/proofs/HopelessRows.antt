@@ -177,7 +177,7 @@ hopeless-is-refused rows more few within r m above =
     let rest = flatten (map spelledRow (f .after)) ++ more in
     let s = spelledTable (rowsAlone rows) ++ more in
     let apart : s ≡ (count ++ (front ++ first)) ++ (spelling (row .c) ++ rest) =
-      ap (λ l. (count ++ l) ++ more) (ap (λ l. flatten (map spelledRow l)) (f .all) ∙ spelled-around (f .before) row (f .after)) ∙ simp (append-assoc)
+    ap (λ l. (count ++ l) ++ more) (ap (λ l. flatten (map spelledRow l)) (f .all) ∙ spelled-around (f .before) row (f .after)) ∙ simp (append-assoc)
     in
     let stands = subst (λ part. PartStands s 0 part (length s)) apart (stands-whole s) in
     let t = parted (count ++ (front ++ first)) (spelling (row .c) ++ rest) stands in

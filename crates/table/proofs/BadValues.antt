@@ -300,7 +300,7 @@ row-ends {s} {at} {r} b inside e =
     last x y d x-read y-read d-read (number.Number c) f g = elim (decLe (c .value) (d .value)) [
       | yes h ↦
           let z : row.Row (record { row = record { x = x .value; y = y .value; d = d .value; c = c .value }; next = c .next }) ≡ row.Refused r =
-            sym (after-value _ (c-stands (d .value) s (d .next) c f h)) ∙ g
+          sym (after-value _ (c-stands (d .value) s (d .next) c f h)) ∙ g
           in
           impossible cc
       | no h ↦

@@ -117,6 +117,6 @@ not-hopeless r h = rw (le-ltb (r .d) (r .c) h)
 pub acceptable-means : AcceptableMeans
 acceptable-means r = (
   λ e. let t = both-true (rowInRange r) (not (hopeless r)) e in
-  record { within-limits = limits-of r (t .0); c-within-d = ltb-false (r .d) (r .c) (not-true _ (t .1)) },
+      record { within-limits = limits-of r (t .0); c-within-d = ltb-false (r .d) (r .c) (not-true _ (t .1)) },
   λ a. simp (in-range-of r (a .within-limits), not-hopeless r (a .c-within-d)),
 )
