@@ -79,7 +79,7 @@ static bool same(struct answer one, struct answer other)
 
 static bool refuses_table(uint32_t status)
 {
-    return status >= JYRMEKKO_MISSPELLED && status <= JYRMEKKO_PERIOD_TOO_LONG;
+    return (status >= JYRMEKKO_MISSPELLED && status <= JYRMEKKO_PERIOD_TOO_LONG) || status == JYRMEKKO_HOPELESS_ROW;
 }
 
 static bool refuses_script(uint32_t status)
@@ -93,7 +93,7 @@ static bool is_replayed(uint32_t status)
     return status == JYRMEKKO_IN_TIME || status == JYRMEKKO_LATE;
 }
 
-/* Expects the refusal of the table that the rules want, or none of 1 to 4 where they want none. */
+/* Expects the refusal of the table that the rules want, or none of 1 to 4 and 16 where they want none. */
 static void expect_table_answer(struct answer answer, struct bytes table)
 {
     struct rows rows;
@@ -101,16 +101,17 @@ static void expect_table_answer(struct answer answer, struct bytes table)
     if (refuses_table(answer.status))
         expect(answer.second == 0, "the second number beside a refusal is 0");
     if (answer.status == JYRMEKKO_PERIOD_TOO_LONG) {
-        expect(wanted.status == 0, "1 to 4 come before 5");
+        expect(wanted.status == 0, "1 to 4 and 16 come before 5");
         expect(answer.first == table.length, "the place of 5 is the table's length");
     } else {
         expect((refuses_table(answer.status) ? answer.status : 0) == wanted.status,
-               "1 to 4 are answered exactly when their rules say");
+               "1 to 4 are answered exactly when their rules say, and so is 16");
     }
     if (wanted.status == JYRMEKKO_MISSPELLED)
         expect(answer.first == wanted.place, "the place of 1 is the bad byte, or the table's length if it is cut off");
     else if (wanted.status != 0)
-        expect(answer.first == wanted.place, "the place of 2 and 3 is the number's start, that of 4 the first extra byte");
+        expect(answer.first == wanted.place,
+               "the place of 2, 3 and 16 is the number's start, that of 4 the first extra byte");
 }
 
 static struct answer judge_once(struct bytes table, size_t answer_length, uint8_t fill)
@@ -120,7 +121,7 @@ static struct answer judge_once(struct bytes table, size_t answer_length, uint8_
     uint32_t status = verdict(lent.at, lent.length, buffer.at, buffer.length);
     expect(status == JYRMEKKO_FEASIBLE || status == JYRMEKKO_OVERLOADED || refuses_table(status) ||
                status == JYRMEKKO_ANSWER_NOT_16_BYTES,
-           "a verdict's status is 20, 21, 1 to 5, or 13");
+           "a verdict's status is 20, 21, 1 to 5, 13 or 16");
     expect_only_read(lent, table);
     return read_answer(status, buffer);
 }
@@ -222,7 +223,7 @@ static struct answer replay_once(struct bytes table, struct bytes script, size_t
                              lent_log.at, lent_log.length, buffer.at, buffer.length);
     expect(is_replayed(status) || refuses_table(status) || refuses_script(status) ||
                status == JYRMEKKO_ANSWER_NOT_16_BYTES,
-           "a replay's status is 22, 23, 1 to 10, or 12 to 14");
+           "a replay's status is 22, 23, 1 to 10, 12 to 14, or 16");
     struct answer answer = read_answer(status, buffer);
     size_t written = 0;
     if (is_replayed(status)) {
@@ -278,6 +279,8 @@ static uint64_t search_of(struct bytes table)
         for (int value = X; value < VALUES; value++)
             if (!read_number(table, &at, &rows[i][value]) || rows[i][value] < 1 || rows[i][value] > most[value])
                 return 0;
+        if (rows[i][C] > rows[i][D])
+            return 0;
         uint64_t multiple = period;
         while (multiple % rows[i][Y] != 0)
             multiple += period;

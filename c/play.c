@@ -27,6 +27,7 @@ static const struct refusal {
     {JYRMEKKO_VALUE_OUT_OF_RANGE, "table", "an x, y, d or c is out of its range"},
     {JYRMEKKO_EXTRA_BYTES, "table", "there are bytes after the last row"},
     {JYRMEKKO_PERIOD_TOO_LONG, "table", "H, the least common multiple of all y, is above 1,048,576"},
+    {JYRMEKKO_HOPELESS_ROW, "table", NULL},
     {JYRMEKKO_NO_SUCH_ROW, "script", "the row number is not in use"},
     {JYRMEKKO_COST_OUT_OF_RANGE, "script", "the cost is 0 or above the row's c"},
     {JYRMEKKO_PLACES_FULL, "script", TEXT_OF(JYRMEKKO_MOST_PENDING) " jobs are pending at this release"},
@@ -43,8 +44,9 @@ void say_refusal(FILE *out, const char *call, struct answer answer, const char *
         if (refusals[i].number == answer.status) {
             const char *why = refusals[i].why != NULL ? refusals[i].why : wrong;
             if (why == NULL)
-                stop(RIG_NO_ANSWER, "the library's %s says %" PRIu32 " at byte %" PRIu64 " of the %s, where no number "
-                     "goes wrong", call, answer.status, answer.first, refusals[i].file);
+                stop(RIG_NO_ANSWER, "the library's %s says %" PRIu32 " at byte %" PRIu64 " of the %s, where no %s",
+                     call, answer.status, answer.first, refusals[i].file,
+                     answer.status == JYRMEKKO_HOPELESS_ROW ? "c of a hopeless row starts" : "number goes wrong");
             fprintf(out, "refused %" PRIu32 " at byte %" PRIu64 " of the %s: %s\n", answer.status, answer.first,
                     refusals[i].file, why);
             return;
@@ -55,14 +57,54 @@ void say_refusal(FILE *out, const char *call, struct answer answer, const char *
 /* No more bytes of a table matter: a count and four values for each row, each at its longest, and one extra byte. */
 #define LONGEST_TABLE ((size_t)MOST_GROUPS * (1 + 4 * JYRMEKKO_MOST_ROWS) + 1)
 
+/*
+ * Says what a hopeless row asks for (docs/RULES.md, 3.3): its number, its c and its d. Returns null where no row's c
+ * starts at this place, and where that c or its d is out of range, or c is not above d. The text stays until the next
+ * call.
+ */
+static const char *hopeless_row(struct bytes table, uint64_t place)
+{
+    enum { X, Y, D, C, VALUES, LARGEST_COST = 4096 };
+    static char asks[128];
+    uint64_t count, values[VALUES];
+    size_t at = 0, start = 0;
+    if (!read_number(table, &at, &count) || count > JYRMEKKO_MOST_ROWS)
+        return NULL;
+    for (uint64_t row = 0; row < count && start < place; row++) {
+        for (int value = X; value < VALUES; value++) {
+            start = at;
+            if (!read_number(table, &at, &values[value]))
+                return NULL;
+        }
+        if (start == place && values[D] >= 1 && values[C] > values[D] && values[C] <= LARGEST_COST) {
+            snprintf(asks, sizeof asks, "row %" PRIu64 " asks for %" PRIu64 " units within %" PRIu64 " tick%s, which "
+                     "no processor can give", row, values[C], values[D], values[D] == 1 ? "" : "s");
+            return asks;
+        }
+    }
+    return NULL;
+}
+
+/* Says what is wrong at the place of 1 or 16 in a table. Returns null with every other status. */
+static const char *wrong_in_table(struct bytes table, struct answer answer)
+{
+    switch (answer.status) {
+    case JYRMEKKO_MISSPELLED:
+        return bad_byte(table, answer.first);
+    case JYRMEKKO_HOPELESS_ROW:
+        return hopeless_row(table, answer.first);
+    default:
+        return NULL;
+    }
+}
+
 struct judged judge_file(const char *table_path)
 {
     struct bytes table = read_file(table_path, LONGEST_TABLE);
     uint8_t buffer[JYRMEKKO_ANSWER_SIZE] = {0};
     uint32_t status = verdict(table.at, table.length, buffer, sizeof buffer);
     struct judged result = {answer_of(status, buffer), NULL};
-    if (status == JYRMEKKO_MISSPELLED)
-        result.wrong = bad_byte(table, result.answer.first);
+    result.wrong = wrong_in_table(table, result.answer);
     free(table.at);
     return result;
 }
@@ -131,10 +173,10 @@ struct replayed replay_files(const char *table_path, const char *script_path, co
     } else {
         result.log.length = 0;
     }
-    if (result.answer.status == JYRMEKKO_MISSPELLED)
-        result.wrong = bad_byte(table, result.answer.first);
     if (result.answer.status == JYRMEKKO_SCRIPT_MISSPELLED)
         result.wrong = bad_byte(script.content, result.answer.first);
+    else
+        result.wrong = wrong_in_table(table, result.answer);
     free(script.content.at);
     free(table.at);
     return result;

@@ -107,14 +107,14 @@ struct answer answer_of(uint32_t status, const uint8_t *buffer);
 
 struct judged {
     struct answer answer;
-    const char *wrong; /* With 1 this is what bad_byte() says about its place, and else it is null. */
+    const char *wrong; /* With 1 and 16 this says what is wrong at their place, and else it is null. */
 };
 
 struct judged judge_file(const char *table_path);
 
 struct replayed {
     struct answer answer;
-    const char *wrong; /* With 1 and 14 this is what bad_byte() says about their place, and else it is null. */
+    const char *wrong; /* With 1, 14 and 16 this says what is wrong at their place, and else it is null. */
     struct bytes log;  /* With 22 and 23 this is exactly the log, and else it is empty. */
 };
 
@@ -122,8 +122,9 @@ struct replayed {
 struct replayed replay_files(const char *table_path, const char *script_path, const char *out_path);
 
 /*
- * Says a refusal in the words of the rules. For 1 and 14 `wrong` says what bad_byte() says about the place. A status
- * that is no refusal stops the program, and so does a 1 or 14 at a place where no number goes wrong.
+ * Says a refusal in the words of the rules. For 1, 14 and 16 `wrong` says what is wrong at the place, or is null where
+ * nothing is. A status that is no refusal stops the program. So does a 1 or 14 at a place where no number goes wrong,
+ * and a 16 at a place where no c of a hopeless row starts.
  */
 void say_refusal(FILE *out, const char *call, struct answer answer, const char *wrong);
 

@@ -18,11 +18,12 @@ enum { FIRST = 0, SECOND = 8 }; /* The answer's two numbers start here. */
 /* Any other name ends the program, since a test that tampers with nothing by mistake would show nothing. */
 static bool tampering(const char *name)
 {
-    static const char *const names[] = {"nothing", "status", "answer-past-its-end", "answer-beside-13", "second-number",
-                                        "place", "answer-from-before", "table-written", "always-feasible",
-                                        "log-before-its-start", "log-past-its-length", "log-kept", "log-cut",
-                                        "log-too-long", "number-start", "byte-before", "byte-after", "end-for-byte",
-                                        "fewer-rows", "fewer-places"};
+    static const char *const names[] = {"nothing", "status", "status-and-place", "answer-past-its-end",
+                                        "answer-beside-13", "second-number", "place", "answer-from-before",
+                                        "table-written", "always-feasible", "log-before-its-start",
+                                        "log-past-its-length", "log-kept", "log-cut", "log-too-long", "number-start",
+                                        "byte-before", "byte-after", "end-for-byte", "fewer-rows", "fewer-places",
+                                        "period-before-hopeless"};
     const char *chosen = getenv("TAMPER");
     for (size_t i = 0; chosen != NULL && i < sizeof names / sizeof names[0]; i++)
         if (strcmp(chosen, names[i]) == 0)
@@ -49,7 +50,7 @@ static uint32_t refused(uint32_t status, size_t place, uint8_t *answer)
     return status;
 }
 
-/* Moves the place of 1 in the table, or of 14 in the script. TAMPER_STATUS says which of the two is moved. */
+/* Moves the place of 1 or 16 in the table, or of 14 in the script. TAMPER_STATUS says which of them is moved. */
 static void move_place(uint32_t status, const uint8_t *bytes, size_t length, uint8_t *answer)
 {
     const char *moved = getenv("TAMPER_STATUS");
@@ -88,12 +89,17 @@ static uint32_t tampered(uint32_t status, const uint8_t *table, size_t table_len
             answer[SECOND] = 1;
         if (tampering("place") && is_refusal(status))
             answer[SECOND - 1] = 1;
-        if (status == JYRMEKKO_MISSPELLED)
+        if (status == JYRMEKKO_MISSPELLED || status == JYRMEKKO_HOPELESS_ROW)
             move_place(status, table, table_len, answer);
+        if (tampering("period-before-hopeless") && status == JYRMEKKO_HOPELESS_ROW)
+            return refused(JYRMEKKO_PERIOD_TOO_LONG, table_len, answer);
         if (tampering("fewer-rows") && has_most_rows(table, table_len))
             return refused(JYRMEKKO_TOO_MANY_ROWS, 0, answer);
         if (tampering("status"))
             return (uint32_t)strtoul(getenv("TAMPER_STATUS"), NULL, 10);
+        if (tampering("status-and-place"))
+            return refused((uint32_t)strtoul(getenv("TAMPER_STATUS"), NULL, 10),
+                           strtoul(getenv("TAMPER_PLACE"), NULL, 10), answer);
     }
     return status;
 }

@@ -131,6 +131,29 @@ static const struct verdict_case verdict_cases[] = {
     {"a bad x beats a misspelled y", {1, 0, 0x80, 0x00}, 4, JYRMEKKO_VALUE_OUT_OF_RANGE, 1, 0},
     {"bytes after the last row", {1, 1, 2, 6, 1, 0x80, 0x00}, 7, JYRMEKKO_EXTRA_BYTES, 5, 0},
     {"period too long, 1141 and 919", {2, 1, 0xF5, 0x08, 1, 1, 1, 0x97, 0x07, 2, 1}, 11, JYRMEKKO_PERIOD_TOO_LONG, 11, 0},
+
+    {"c above d", {1, 1, 4, 4, 5}, 5, JYRMEKKO_HOPELESS_ROW, 4, 0},
+    {"c equal to d", {1, 1, 4, 4, 4}, 5, JYRMEKKO_FEASIBLE, 0, 0},
+    {"c equal to d, overloaded", {1, 2, 4, 4, 4}, 5, JYRMEKKO_OVERLOADED, 4, 8},
+    {"c above d in the second row", {2, 1, 4, 4, 2, 1, 6, 5, 6}, 9, JYRMEKKO_HOPELESS_ROW, 8, 0},
+    {"c above d in both rows", {2, 1, 4, 4, 5, 1, 4, 4, 5}, 9, JYRMEKKO_HOPELESS_ROW, 4, 0},
+    {"c above the d of another row", {2, 1, 8, 4, 4, 1, 8, 8, 5}, 9, JYRMEKKO_OVERLOADED, 8, 9},
+    {"c 128 above d 127", {1, 1, 4, 0x7F, 0x80, 0x01}, 6, JYRMEKKO_HOPELESS_ROW, 4, 0},
+    {"c 4096 above d 4095", {1, 1, 4, 0xFF, 0x1F, 0x80, 0x20}, 7, JYRMEKKO_HOPELESS_ROW, 5, 0},
+    {"c 4096 and d 4096", {1, 1, 0x80, 0x20, 0x80, 0x20, 0x80, 0x20}, 8, JYRMEKKO_FEASIBLE, 0, 0},
+    {"c 4097 above d 4095", {1, 1, 4, 0xFF, 0x1F, 0x81, 0x20}, 7, JYRMEKKO_VALUE_OUT_OF_RANGE, 5, 0},
+    {"c 5000 above d 4", {1, 1, 4, 4, 0x88, 0x27}, 6, JYRMEKKO_VALUE_OUT_OF_RANGE, 4, 0},
+    {"c above d is misspelled", {1, 1, 4, 4, 0x85, 0x00}, 6, JYRMEKKO_MISSPELLED, 5, 0},
+    {"c above d is cut off", {1, 1, 4, 4, 0x85}, 5, JYRMEKKO_MISSPELLED, 5, 0},
+    {"a bad d beats c above it", {1, 1, 4, 0, 5}, 5, JYRMEKKO_VALUE_OUT_OF_RANGE, 3, 0},
+    {"a bad x beats c above d in a later row", {2, 0, 4, 4, 4, 1, 4, 4, 5}, 9, JYRMEKKO_VALUE_OUT_OF_RANGE, 1, 0},
+    {"a misspelled x beats c above d in a later row", {2, 0x80, 0, 4, 4, 4, 1, 4, 4, 5}, 10, JYRMEKKO_MISSPELLED, 2, 0},
+    {"c above d beats a bad x in a later row", {2, 1, 4, 4, 5, 0, 4, 4, 4}, 9, JYRMEKKO_HOPELESS_ROW, 4, 0},
+    {"c above d beats a misspelled x in a later row", {2, 1, 4, 4, 5, 0x80, 0}, 7, JYRMEKKO_HOPELESS_ROW, 4, 0},
+    {"c above d beats a later row cut off", {2, 1, 4, 4, 5}, 5, JYRMEKKO_HOPELESS_ROW, 4, 0},
+    {"c above d beats bytes after the last row", {1, 1, 4, 4, 5, 0}, 6, JYRMEKKO_HOPELESS_ROW, 4, 0},
+    {"c above d beats a period too long", {2, 1, 0xF5, 0x08, 1, 1, 1, 0x97, 0x07, 2, 3}, 11, JYRMEKKO_HOPELESS_ROW, 10, 0},
+    {"c above d beats both", {2, 1, 0xF5, 0x08, 1, 1, 1, 0x97, 0x07, 2, 3, 0}, 12, JYRMEKKO_HOPELESS_ROW, 10, 0},
 };
 
 static void test_verdict(const struct verdict_case *c)
@@ -150,7 +173,8 @@ static void test_verdict(const struct verdict_case *c)
 #define V2 {1, 1, 2, 6, 1}, 5
 #define V3 {2, 1, 4, 4, 2, 1, 6, 6, 3}, 9
 #define V7 {1, 2, 1, 1, 1}, 5
-#define HOPELESS {1, 1, 1, 2, 3}, 5
+#define TWO_AT_ONCE {1, 2, 1, 2, 2}, 5 /* Two jobs at once may cost 4 units, and both are due in 2 ticks. */
+#define HOPELESS {1, 1, 4, 4, 5}, 5
 #define R1 {0, 0, 2, 0, 1, 3, 4, 0, 2}, 9
 #define R1_LOG {0, 0, 0, 4, 2, 1, 1, 0, 6, 5, 2, 0, 4, 8, 7}
 
@@ -185,6 +209,21 @@ static const struct replay_case replay_cases[] = {
     {"bytes after the last row", {0, 0}, 2, R1, 20, JYRMEKKO_EXTRA_BYTES, 1, 0, {0}},
     {"period too long", {2, 1, 0xF5, 0x08, 1, 1, 1, 0x97, 0x07, 2, 1}, 11, R1, 20, JYRMEKKO_PERIOD_TOO_LONG, 11, 0, {0}},
 
+    {"c above d", HOPELESS, {0, 0, 1}, 3, 20, JYRMEKKO_HOPELESS_ROW, 4, 0, {0}},
+    {"c above d and no job", HOPELESS, {0}, 0, 20, JYRMEKKO_HOPELESS_ROW, 4, 0, {0}},
+    {"c above d and no log", HOPELESS, {0, 0, 1}, 3, 0, JYRMEKKO_HOPELESS_ROW, 4, 0, {0}},
+    {"c above d and script misspelled", HOPELESS, {0x80, 0x00}, 2, 20, JYRMEKKO_HOPELESS_ROW, 4, 0, {0}},
+    {"c above d in a row without jobs", {2, 1, 4, 4, 2, 1, 6, 5, 6}, 9, {0, 0, 2}, 3, 20, JYRMEKKO_HOPELESS_ROW, 8, 0, {0}},
+    {"c 128 above d 127", {1, 1, 4, 0x7F, 0x80, 0x01}, 6, R1, 20, JYRMEKKO_HOPELESS_ROW, 4, 0, {0}},
+    {"c 5000 above d 4", {1, 1, 4, 4, 0x88, 0x27}, 6, R1, 20, JYRMEKKO_VALUE_OUT_OF_RANGE, 4, 0, {0}},
+    {"a bad x beats c above d in a later row", {2, 0, 4, 4, 4, 1, 4, 4, 5}, 9, R1, 20, JYRMEKKO_VALUE_OUT_OF_RANGE, 1, 0, {0}},
+    {"c above d beats a bad x in a later row", {2, 1, 4, 4, 5, 0, 4, 4, 4}, 9, R1, 20, JYRMEKKO_HOPELESS_ROW, 4, 0, {0}},
+    {"c above d beats a later row cut off", {2, 1, 4, 4, 5}, 5, R1, 20, JYRMEKKO_HOPELESS_ROW, 4, 0, {0}},
+    {"c above d beats bytes after the last row", {1, 1, 4, 4, 5, 0}, 6, R1, 20, JYRMEKKO_HOPELESS_ROW, 4, 0, {0}},
+    {"c above d beats a period too long", {2, 1, 0xF5, 0x08, 1, 1, 1, 0x97, 0x07, 2, 3}, 11, R1, 20,
+     JYRMEKKO_HOPELESS_ROW, 10, 0, {0}},
+    {"c equal to d", {1, 1, 4, 4, 4}, 5, {0, 0, 4}, 3, 20, JYRMEKKO_IN_TIME, 5, 0, {0, 0, 0, 4, 4}},
+
     {"gap misspelled", V2, {0, 0, 1, 0x80, 0x00, 0, 1}, 7, 20, JYRMEKKO_SCRIPT_MISSPELLED, 4, 0, {0}},
     {"row number misspelled", V2, {0, 0x80, 0x80, 0x00, 1}, 5, 20, JYRMEKKO_SCRIPT_MISSPELLED, 3, 0, {0}},
     {"cost misspelled", V2, {0, 0, 0x81, 0x00}, 4, 20, JYRMEKKO_SCRIPT_MISSPELLED, 3, 0, {0}},
@@ -205,11 +244,13 @@ static const struct replay_case replay_cases[] = {
     {"cost 0", V2, {0, 0, 0}, 3, 20, JYRMEKKO_COST_OUT_OF_RANGE, 2, 0, {0}},
     {"cost above c", V2, {0, 0, 1, 1, 0, 2}, 6, 20, JYRMEKKO_COST_OUT_OF_RANGE, 5, 0, {0}},
     {"due after 2^40", V2, {0, 0, 1, LAST_TICK_MINUS_5, 0, 1}, 11, 20, JYRMEKKO_DUE_TOO_LATE, 3, 0, {0}},
-    {"clock at 2^40 in the final ticks", HOPELESS, {LAST_TICK_MINUS_2, 0, 3}, 8, 40, JYRMEKKO_TIME_TOO_LATE, 8, 0, {0}},
+    {"clock at 2^40 in the final ticks", TWO_AT_ONCE, {LAST_TICK_MINUS_2, 0, 2, 0, 0, 1}, 11, 60, JYRMEKKO_TIME_TOO_LATE,
+     11, 0, {0}},
     {"log one byte short", V3, R1, 14, JYRMEKKO_NO_ROOM, 9, 0, {0}},
     {"no log", V3, R1, 0, JYRMEKKO_NO_ROOM, 9, 0, {0}},
     {"short log and script cut off", V3, {0, 0, 2, 5, 0}, 5, 4, JYRMEKKO_SCRIPT_MISSPELLED, 5, 0, {0}},
-    {"short log and clock at 2^40", HOPELESS, {0, 0, 1, LAST_TICK_MINUS_2, 0, 3}, 11, 4, JYRMEKKO_TIME_TOO_LATE, 11, 0, {0}},
+    {"short log and clock at 2^40", TWO_AT_ONCE, {0, 0, 1, LAST_TICK_MINUS_2, 0, 2, 0, 0, 1}, 14, 4,
+     JYRMEKKO_TIME_TOO_LATE, 14, 0, {0}},
 };
 
 static void test_replay(const struct replay_case *c)
@@ -300,6 +341,11 @@ static void test_rows(void)
     table[length - 1] = 0;
     check_table("limit of rows, the last c is 0", table, length, LAST, JYRMEKKO_VALUE_OUT_OF_RANGE, length - 1, 0,
                 JYRMEKKO_VALUE_OUT_OF_RANGE, length - 1);
+    table[length - 1] = MOST_ROWS + 1;
+    check_table("limit of rows, the last c is above its d", table, length, LAST, JYRMEKKO_HOPELESS_ROW, length - 1, 0,
+                JYRMEKKO_HOPELESS_ROW, length - 1);
+    check_table("limit of rows, the last c is above its d, and a byte too many", table, length + 1, LAST,
+                JYRMEKKO_HOPELESS_ROW, length - 1, 0, JYRMEKKO_HOPELESS_ROW, length - 1);
     table[length - 1] = 2;
     check_table("limit of rows, overloaded by the last", table, length, LAST, JYRMEKKO_OVERLOADED, MOST_ROWS,
                 MOST_ROWS + 1, JYRMEKKO_IN_TIME, LOG_LEN);
@@ -388,9 +434,18 @@ enum { MOST_PUT_IN = 7, MOST_DAMAGED = 48 };
 /* So many tables and scripts were compared, by how the number is spelled that is refused in them. */
 static unsigned tables_compared[SPELLED], scripts_compared[SPELLED];
 
+/* So many of the tables have a hopeless row, and so many are not refused with 1 to 4 or 16. */
+static unsigned hopeless_compared, sound_compared;
+
 static int is_wanted(struct wanted wanted, uint32_t status, const uint8_t *answer)
 {
     return status == wanted.status && number(answer) == wanted.place && number(answer + 8) == 0;
+}
+
+/* Returns whether a status may be answered where none of 1 to 4 and 16 is wanted. */
+static int goes_on(uint32_t status)
+{
+    return status >= JYRMEKKO_PERIOD_TOO_LONG && status != JYRMEKKO_HOPELESS_ROW;
 }
 
 static void compare_table(const char *name, const uint8_t *table, size_t length)
@@ -400,10 +455,12 @@ static void compare_table(const char *name, const uint8_t *table, size_t length)
     struct rows rows;
     struct wanted wanted = wanted_of_table(table, length, &rows);
     uint32_t status = verdict(table, length, answer, sizeof answer);
-    check(wanted.status != 0 ? is_wanted(wanted, status, answer) : status >= JYRMEKKO_PERIOD_TOO_LONG, name, "verdict");
+    check(wanted.status != 0 ? is_wanted(wanted, status, answer) : goes_on(status), name, "verdict");
     status = replay(table, length, script, sizeof script, log, sizeof log, answer, sizeof answer);
-    check(wanted.status != 0 ? is_wanted(wanted, status, answer) : status >= JYRMEKKO_PERIOD_TOO_LONG, name, "replay");
+    check(wanted.status != 0 ? is_wanted(wanted, status, answer) : goes_on(status), name, "replay");
     tables_compared[wanted.spelled]++;
+    hopeless_compared += wanted.status == JYRMEKKO_HOPELESS_ROW;
+    sound_compared += wanted.status == 0;
 }
 
 /* The rows are (64, 4096, 16384, 4096) and (1, 300, 16383, 200). */
@@ -501,6 +558,7 @@ static void damage(const char *name, const uint8_t *bytes, size_t length, compar
 static void test_damage(void)
 {
     static const uint8_t no_rows[] = {0}, two_rows[] = {2, 1, 4, 4, 2, 1, 6, 6, 3};
+    static const uint8_t hopeless_row[] = {2, 1, 9, 5, 5, 1, 6, 0x80, 0x01, 0x81, 0x01};
     static const uint8_t one_job[] = {0, 0, 1}, three_jobs[] = {0, 0, 2, 0, 1, 3, 4, 0, 2};
     static const uint8_t long_gaps[] = {0x80, 0x01, 0, 0xAC, 0x02, 0x80, 0x80, 0x01, 1, 0xC8, 0x01,
                                         0xFF, 0xFF, 0xFF, 0x01, 0, 1, 0x80, 0x80, 0x80, 0x80, 0x02, 0, 0x80, 0x20,
@@ -512,6 +570,7 @@ static void test_damage(void)
     damage("no rows", no_rows, sizeof no_rows, compare_table);
     damage("two rows", two_rows, sizeof two_rows, compare_table);
     damage("long rows", long_rows, sizeof long_rows, compare_table);
+    damage("hopeless row", hopeless_row, sizeof hopeless_row, compare_table);
     damage("one job", one_job, sizeof one_job, compare_script);
     damage("three jobs", three_jobs, sizeof three_jobs, compare_script);
     damage("long gaps", long_gaps, sizeof long_gaps, compare_script);
@@ -519,6 +578,44 @@ static void test_damage(void)
         printf("damaged, %s: %u tables, %u scripts\n", names[i], tables_compared[i], scripts_compared[i]);
         check(tables_compared[i] > 0 && scripts_compared[i] > 0, names[i], "number of cases, which should not be 0");
     }
+    printf("damaged, of these with a hopeless row: %u tables\n", hopeless_compared);
+    check(hopeless_compared > 0, "hopeless row", "number of cases, which should not be 0");
+}
+
+/* ---- every pair of some d and some c: only a c that is in its range can make a row hopeless */
+
+static size_t spell(uint8_t *out, unsigned value)
+{
+    size_t length = 0;
+    for (; value > 127; value /= 128) {
+        out[length++] = (uint8_t)(value % 128 + 128);
+    }
+    out[length++] = (uint8_t)value;
+    return length;
+}
+
+static void test_hopeless(void)
+{
+    static const unsigned values[] = {0, 1, 2, 3, 126, 127, 128, 129, 300, 4095, 4096, 4097, 16383, 16384, 16385};
+    uint8_t table[16];
+    char name[60];
+    size_t d, c;
+    hopeless_compared = sound_compared = 0;
+    for (d = 0; d < COUNT(values); d++) {
+        for (c = 0; c < COUNT(values); c++) {
+            size_t length = 0;
+            length += spell(table + length, 1);
+            length += spell(table + length, 1);
+            length += spell(table + length, 4096);
+            length += spell(table + length, values[d]);
+            length += spell(table + length, values[c]);
+            sprintf(name, "a row with d %u and c %u", values[d], values[c]);
+            compare_table(name, table, length);
+        }
+    }
+    printf("rows with some d and some c: %u hopeless, %u accepted\n", hopeless_compared, sound_compared);
+    check(hopeless_compared == 45, "hopeless rows", "number of cases");
+    check(sound_compared == 85, "rows that are not hopeless", "number of cases");
 }
 
 /* An answer buffer that is not 16 bytes long is refused with 13 before every other test, and nothing is written. */
@@ -527,6 +624,7 @@ static void test_answer_size(void)
     static const size_t sizes[] = {0, 1, 8, 15, 17, 32};
     static const uint8_t table[] = {2, 1, 4, 4, 2, 1, 6, 6, 3}, script[] = {0, 0, 2, 0, 1, 3, 4, 0, 2};
     static const uint8_t bad_table[] = {JYRMEKKO_MOST_ROWS + 1}, bad_script[] = {0x80, 0x00};
+    static const uint8_t hopeless_table[] = {1, 1, 4, 4, 5};
     size_t i;
     for (i = 0; i < COUNT(sizes); i++) {
         struct fenced answer_buffer, log_buffer;
@@ -535,9 +633,13 @@ static void test_answer_size(void)
         const char *name = "answer of another size";
         check(verdict(table, sizeof table, answer, sizes[i]) == JYRMEKKO_ANSWER_NOT_16_BYTES, name, "verdict");
         check(verdict(bad_table, sizeof bad_table, answer, sizes[i]) == JYRMEKKO_ANSWER_NOT_16_BYTES, name, "verdict");
+        check(verdict(hopeless_table, sizeof hopeless_table, answer, sizes[i]) == JYRMEKKO_ANSWER_NOT_16_BYTES, name,
+              "verdict");
         check(replay(table, sizeof table, script, sizeof script, log, MOST_LOG, answer, sizes[i])
                   == JYRMEKKO_ANSWER_NOT_16_BYTES, name, "replay");
         check(replay(bad_table, sizeof bad_table, bad_script, sizeof bad_script, log, MOST_LOG, answer, sizes[i])
+                  == JYRMEKKO_ANSWER_NOT_16_BYTES, name, "replay");
+        check(replay(hopeless_table, sizeof hopeless_table, script, sizeof script, log, MOST_LOG, answer, sizes[i])
                   == JYRMEKKO_ANSWER_NOT_16_BYTES, name, "replay");
         check(fence_stands(&answer_buffer, 0), name, "answer, which should be untouched");
         check(fence_stands(&log_buffer, 0), name, "log, which should be untouched");
@@ -570,6 +672,7 @@ int main(void)
     test_rows();
     test_places();
     test_damage();
+    test_hopeless();
     test_answer_size();
     test_null();
     printf("%u passed, %u failed\n", passed, failed);

@@ -105,6 +105,8 @@ static void add_inputs(void)
 
     add("one row too many", one_too_many, one_job, JYRMEKKO_TOO_MANY_ROWS, JYRMEKKO_TOO_MANY_ROWS);
     add("value out of range", above, one_job, JYRMEKKO_VALUE_OUT_OF_RANGE, JYRMEKKO_VALUE_OUT_OF_RANGE);
+    in = add("the last row is hopeless", hasty, one_job, JYRMEKKO_HOPELESS_ROW, JYRMEKKO_HOPELESS_ROW);
+    in->table[in->table_len - 1] = 2;
     in = add("the table is cut off", most, one_job, JYRMEKKO_MISSPELLED, JYRMEKKO_MISSPELLED);
     in->table_len--;
     in = add("bytes after the table", most, one_job, JYRMEKKO_EXTRA_BYTES, JYRMEKKO_EXTRA_BYTES);

@@ -61,12 +61,13 @@ struct rows {
     uint64_t cost[JYRMEKKO_MOST_ROWS];
 };
 
-/* Returns which of 1 to 4 is wanted. 5 is left out. */
+/* Returns which of 1 to 4 and 16 is wanted. 5 is left out. */
 static inline struct wanted wanted_of_table(const uint8_t *table, size_t length, struct rows *rows)
 {
-    enum { COST = 3, VALUES = 4 };
+    enum { DUE = 2, COST = 3, VALUES = 4 };
     static const uint64_t most[VALUES] = {64, 4096, 16384, 4096};
     struct found found = find_number(table, length, 0);
+    uint64_t due = 0;
     size_t i;
     rows->count = 0;
     if (found.spelled != READABLE) {
@@ -85,7 +86,12 @@ static inline struct wanted wanted_of_table(const uint8_t *table, size_t length,
         if (found.value < 1 || found.value > most[i % VALUES]) {
             return wanted_at(JYRMEKKO_VALUE_OUT_OF_RANGE, start, READABLE, 0);
         }
-        if (i % VALUES == COST) {
+        if (i % VALUES == DUE) {
+            due = found.value;
+        } else if (i % VALUES == COST) {
+            if (found.value > due) {
+                return wanted_at(JYRMEKKO_HOPELESS_ROW, start, READABLE, 0);
+            }
             rows->cost[i / VALUES] = found.value;
         }
     }

@@ -19,8 +19,9 @@
  *
  * Tables. A table is its row count, from 0 to JYRMEKKO_MOST_ROWS, then x, y, d and c of each row, and nothing after. In
  * a row, x executions are expected in any y ticks, each is due d ticks after its release, and each costs at most c
- * units. One unit is one tick of the processor. x is 1 to 64, y is 1 to 4,096, d is 1 to 16,384 and c is 1 to 4,096. H,
- * the least common multiple of the y of all rows, is at most 1,048,576.
+ * units. One unit is one tick of the processor. x is 1 to 64, y is 1 to 4,096, d is 1 to 16,384 and c is 1 to 4,096. A
+ * row with c above d is hopeless, since no job gets more units than it has ticks, and no table may have one. H, the
+ * least common multiple of the y of all rows, is at most 1,048,576.
  *
  * Scripts. A script is any number of records of three numbers: the gap, which is the time since the last record (for
  * the first record since 0); the row number, counted from 0; and the cost. A row number is in use when it is below the
@@ -36,8 +37,8 @@
  * bytes is always long enough.
  *
  * Answers. The answer buffer has exactly 16 bytes and takes two numbers of eight bytes each, the lowest byte first. For
- * a refusal they are its place and 0. A place counts bytes from 0. For 1 to 5 it is a place in the table, and for every
- * other refusal a place in the script.
+ * a refusal they are its place and 0. A place counts bytes from 0. For 1 to 5 and 16 it is a place in the table, and
+ * for every other refusal a place in the script.
  *
  * Bad bytes. 1 and 14 refuse a number that can't be read, and their place is the byte that is wrong:
  *   - Where the last group of a longer number is zero, it is the byte of that group. For 80 00 it is the byte 00.
@@ -103,6 +104,7 @@ enum jyrmekko_status {
     JYRMEKKO_VALUE_OUT_OF_RANGE = 3,   /* An x, y, d or c is out of its range. Place: the number's start. */
     JYRMEKKO_EXTRA_BYTES = 4,          /* There are bytes after the last row. Place: the first extra byte. */
     JYRMEKKO_PERIOD_TOO_LONG = 5,      /* H is above 1,048,576. Place: the table's length. */
+    JYRMEKKO_HOPELESS_ROW = 16,        /* A row's c is in its range and above the row's d. Place: the start of c. */
 
     /* The refusals of a script, by replay(). */
     JYRMEKKO_NO_SUCH_ROW = 6,          /* The row number is not in use. Place: the row number's start. */
@@ -135,9 +137,10 @@ enum jyrmekko_status {
 /*
  * Says whether the table is feasible.
  *
- * It returns 20 or 21, or a refusal. 13 comes first, and then 1 to 5. The table is tested from left to right, each
- * number as it is read: the row count for 1 and 2, and each x, y, d and c for 1 and 3. After the last row comes 4, and
- * then 5. Every status but 13 writes the answer buffer. The table is only read.
+ * It returns 20 or 21, or a refusal. 13 comes first, and then 1 to 5 and 16. The table is tested from left to right,
+ * each number as it is read: the row count for 1 and 2, each x, y and d for 1 and 3, and each c for 1, 3 and 16. After
+ * the last row comes 4, and then 5. So the table 02 01 04 04 05, which is cut off after a hopeless row, is refused with
+ * 16 at place 4. Every status but 13 writes the answer buffer. The table is only read.
  *
  * The demand of a row in a length of time L is 0 if L is below d, and otherwise ((L - d) / y + 1) * x * c units, with
  * the division rounded down. The demand of a table is the sum over its rows.

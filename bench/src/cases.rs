@@ -146,7 +146,12 @@ fn reading(name: &'static str, most: Row) -> Case {
     let count = NUMBERS.div_ceil(65);
     let tables = (0..count)
         .map(|_| {
-            let rows: Vec<Row> = (0..16).map(|_| most.map(|m| 1 + random.below(m))).collect();
+            let mut row = || {
+                let [x, y, d, c] = most.map(|m| 1 + random.below(m));
+                // A row with c above d is refused with 16, so the larger of these two numbers is its d.
+                [x, y, d.max(c), d.min(c)]
+            };
+            let rows: Vec<Row> = (0..16).map(|_| row()).collect();
             let mut bytes = table(&rows);
             bytes.push(0);
             bytes

@@ -64,6 +64,7 @@ mod tests {
     const V3: [u8; 9] = [2, 1, 4, 4, 2, 1, 6, 6, 3];
     const R1: [u8; 9] = [0, 0, 2, 0, 1, 3, 4, 0, 2];
     const ONE_ROW_TOO_MANY: [u8; 1] = [MOST_ROWS as u8 + 1];
+    const HOPELESS: [u8; 5] = [1, 1, 4, 4, 5];
     const R1_LOG: [u8; 15] = [0, 0, 0, 4, 2, 1, 1, 0, 6, 5, 2, 0, 4, 8, 7];
 
     fn numbers_of(answer: &[u8; 16]) -> (u64, u64) {
@@ -98,6 +99,38 @@ mod tests {
         assert_eq!(judged(&[0, 0]), (4, 1, 0));
         let long = spell(&[[1, 1_141, 1, 1], [1, 919, 1, 1]]);
         assert_eq!(judged(&long), (5, long.len() as u64, 0));
+        assert_eq!(judged(&HOPELESS), (16, 4, 0));
+    }
+
+    #[test]
+    fn a_row_whose_c_is_its_d_is_judged_and_replayed() {
+        let [all_of_it, too_often] = [[1, 1, 4, 4, 4], [1, 2, 4, 4, 4]];
+        assert_eq!(judged(&all_of_it), (20, 0, 0));
+        assert_eq!(judged(&too_often), (21, 4, 8));
+        let mut log = [0xee; 10];
+        assert_eq!(replayed(&all_of_it, &[0, 0, 4, 4, 0, 4], &mut log), (22, 10, 0));
+        assert_eq!(log, [0, 0, 0, 4, 4, 1, 0, 4, 8, 8]);
+        assert_eq!(replayed(&too_often, &[0, 0, 4, 0, 0, 4], &mut log), (23, 10, 1));
+        assert_eq!(log, [0, 0, 0, 4, 4, 1, 0, 0, 4, 8]);
+    }
+
+    #[test]
+    fn a_hopeless_row_is_refused_by_both_calls_at_the_same_place() {
+        let last = spell(&[[1, 300, 300, 4], [1, 4, 4, 4], [1, 300, 299, 300]]);
+        for (table, refusal) in [
+            (&HOPELESS[..], (16, 4, 0)),
+            (&[&HOPELESS[..], &[7]].concat(), (16, 4, 0)),
+            (&last, (16, last.len() as u64 - 2, 0)),
+            (&spell(&[[1, 4, 4, 5_000]]), (3, 4, 0)),
+        ] {
+            let mut log = [0xee; 14];
+            assert_eq!(judged(table), refusal);
+            for script in [&R1[..], &[0x80, 0x00], &[]] {
+                assert_eq!(replayed(table, script, &mut log), refusal);
+                assert_eq!(log, [0; 14]);
+                log.fill(0xee);
+            }
+        }
     }
 
     #[test]
@@ -106,6 +139,8 @@ mod tests {
             let mut answer = vec![0xee; size];
             let mut log = [0xee; 20];
             assert_eq!(verdict(&ONE_ROW_TOO_MANY, &mut answer), 13);
+            assert_eq!(verdict(&HOPELESS, &mut answer), 13);
+            assert_eq!(replay(&HOPELESS, &R1, &mut log, &mut answer), 13);
             assert_eq!(replay(&ONE_ROW_TOO_MANY, &[0x80, 0x00], &mut log, &mut answer), 13);
             assert_eq!(replay(&V3, &R1, &mut log, &mut answer), 13);
             assert_eq!((answer, log), (vec![0xee; size], [0xee; 20]));
@@ -163,6 +198,7 @@ mod tests {
             (&V3[..5], &R1[..], (1, 5, 0)),
             (&[2, 1, 0x84, 0x00, 4, 2][..], &R1[..], (1, 3, 0)),
             (&ONE_ROW_TOO_MANY[..], &R1[..], (2, 0, 0)),
+            (&HOPELESS[..], &R1[..], (16, 4, 0)),
             (&V3[..], &R1[..8], (14, 8, 0)),
             (&[1, 1, 2, 6, 1][..], &[0, 0][..], (14, 2, 0)),
             (&V3[..], &[0, 0, 0x82, 0x00][..], (14, 3, 0)),
@@ -180,11 +216,12 @@ mod tests {
     fn an_overflow_loses_to_any_other_refusal() {
         assert_eq!(replayed(&V3, &R1, &mut []), (12, 9, 0));
         assert_eq!(replayed(&V3, &R1[..8], &mut []), (14, 8, 0));
-        let hopeless = [1, 1, 1, 2, 3];
+        // Two jobs of two units each are due at the last tick, and there are two ticks for them.
+        let crowded = [1, 2, 1, 2, 2];
         let mut script = vec![0, 0, 1];
         script.extend(numbers::spell(LAST_TICK - 2).unwrap());
-        script.extend([0, 3]);
-        assert_eq!(replayed(&hopeless, &script, &mut []), (10, script.len() as u64, 0));
+        script.extend([0, 2, 0, 0, 2]);
+        assert_eq!(replayed(&crowded, &script, &mut []), (10, script.len() as u64, 0));
     }
 
     #[test]

@@ -31,6 +31,8 @@ pub enum Reason {
     AnswerNot16Bytes = 13,
     /// A number of a script is misspelled, too long or cut off.
     ScriptMisspelled = 14,
+    /// A row's c is above its d, so no job of full cost could ever be in time.
+    HopelessRow = 16,
     /// A number to write is above 2^42 - 1.
     NumberTooBig = 25,
 }

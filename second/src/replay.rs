@@ -215,9 +215,11 @@ mod tests {
 
     #[test]
     fn the_clock_stops_the_final_ticks() {
-        let hopeless = [[1, 1, 2, 3]];
-        let records = script(&[[LAST_TICK - 2, 0, 3]]);
-        assert_eq!(play(&hopeless, &records), Err((10, records.len())));
-        assert_eq!(play(&hopeless, &script(&[[LAST_TICK - 2, 0, 2]])).map(|replayed| replayed.late), Ok(0));
+        let crowded = [[2, 1, 2, 2]];
+        let three_units = script(&[[LAST_TICK - 2, 0, 2], [0, 0, 1]]);
+        assert_eq!(play(&crowded, &three_units), Err((10, three_units.len())));
+        let two_units = script(&[[LAST_TICK - 2, 0, 1], [0, 0, 1]]);
+        assert_eq!(play(&crowded, &two_units).map(|replayed| replayed.late), Ok(0));
+        assert_eq!(play(&crowded, &script(&[[LAST_TICK - 2, 0, 2]])).map(|replayed| replayed.late), Ok(0));
     }
 }

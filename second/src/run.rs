@@ -140,9 +140,9 @@ mod tests {
     #[test]
     fn examples_d1_to_d3_by_release_and_tick() {
         for (rule, releases, dues) in [
-            ([1, 2, 6, 9], vec![0, 0, 0, 3, 3, 6], vec![6, 8, 10, 12, 14, 16]),
-            ([3, 6, 6, 9], vec![0, 0, 0, 3, 3, 6], vec![6, 6, 6, 12, 12, 12]),
-            ([1, 2, 6, 9], vec![0, 20], vec![6, 26]),
+            ([1, 2, 6, 6], vec![0, 0, 0, 3, 3, 6], vec![6, 8, 10, 12, 14, 16]),
+            ([3, 6, 6, 6], vec![0, 0, 0, 3, 3, 6], vec![6, 6, 6, 12, 12, 12]),
+            ([1, 2, 6, 6], vec![0, 20], vec![6, 26]),
         ] {
             let mut run = run_on(&[rule]);
             for (serial, (release, due)) in releases.into_iter().zip(dues).enumerate() {
@@ -160,6 +160,9 @@ mod tests {
         assert_eq!(refusal, Some(Reason::TooManyRows.at(0)));
         assert_eq!(run.release(0, 1), Err(Reason::NoSuchRow));
         assert_eq!(run.tick(), idle(0));
+        let (mut run, refusal) = Run::start(&spell(&[[1, 4, 4, 4], [1, 4, 4, 5]]));
+        assert_eq!(refusal, Some(Reason::HopelessRow.at(8)));
+        assert_eq!(run.release(0, 1), Err(Reason::NoSuchRow));
     }
 
     #[test]
@@ -174,7 +177,7 @@ mod tests {
 
     #[test]
     fn the_earliest_due_time_goes_first_and_the_lowest_serial_among_equals() {
-        let mut run = run_on(&[[4, 9, 9, 9], [4, 9, 5, 9]]);
+        let mut run = run_on(&[[4, 9, 9, 9], [4, 9, 5, 5]]);
         assert_eq!(released(&mut run, 0, 1), (0, 9));
         assert_eq!(released(&mut run, 1, 2), (1, 5));
         assert_eq!(released(&mut run, 1, 1), (2, 5));
@@ -186,7 +189,7 @@ mod tests {
 
     #[test]
     fn late_is_unfinished_at_the_due_time_and_late_jobs_stay() {
-        let mut run = run_on(&[[4, 9, 2, 9]]);
+        let mut run = run_on(&[[4, 9, 2, 2]]);
         assert_eq!(released(&mut run, 0, 2), (0, 2));
         assert_eq!(released(&mut run, 0, 2), (1, 2));
         assert_eq!(run.tick(), ran(0, false, 0));

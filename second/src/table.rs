@@ -11,7 +11,8 @@ pub const MOST_D: u64 = 16_384;
 pub const MOST_C: u64 = 4_096;
 pub const LONGEST_PERIOD: u64 = 1_048_576;
 
-/// In a row, x executions are expected in any y ticks. Each is due d ticks after its release, and costs at most c.
+/// In a row, x executions are expected in any y ticks. Each is due d ticks after its release, and costs at most c. In a
+/// table that was read, c is at most d.
 #[derive(Clone, Copy, Debug, PartialEq, Eq)]
 pub struct Row {
     pub x: u64,
@@ -46,17 +47,17 @@ pub fn read(bytes: &[u8]) -> Result<Table, Refusal> {
     if count > MOST_ROWS {
         return Err(Reason::TooManyRows.at(0));
     }
-    let mut value = |most| {
-        let (number, after) = numbers::read(bytes, place)?;
-        if number < 1 || number > most {
-            return Err(Reason::ValueOutOfRange.at(place));
-        }
-        place = after;
-        Ok(number)
-    };
     let mut rows = vec![];
     for _ in 0..count {
-        rows.push(Row { x: value(MOST_X)?, y: value(MOST_Y)?, d: value(MOST_D)?, c: value(MOST_C)? });
+        let x = value(bytes, &mut place, MOST_X)?;
+        let y = value(bytes, &mut place, MOST_Y)?;
+        let d = value(bytes, &mut place, MOST_D)?;
+        let start_of_c = place;
+        let c = value(bytes, &mut place, MOST_C)?;
+        if c > d {
+            return Err(Reason::HopelessRow.at(start_of_c));
+        }
+        rows.push(Row { x, y, d, c });
     }
     if place < bytes.len() {
         return Err(Reason::ExtraBytes.at(place));
@@ -69,6 +70,16 @@ pub fn read(bytes: &[u8]) -> Result<Table, Refusal> {
         }
     }
     Ok(Table { rows, period })
+}
+
+/// Reads a value of a row, from 1 to its most, and moves the place to the byte after it.
+fn value(bytes: &[u8], place: &mut usize, most: u64) -> Result<u64, Refusal> {
+    let (number, after) = numbers::read(bytes, *place)?;
+    if number < 1 || number > most {
+        return Err(Reason::ValueOutOfRange.at(*place));
+    }
+    *place = after;
+    Ok(number)
 }
 
 fn least_common_multiple(a: u64, b: u64) -> u64 {
@@ -173,6 +184,65 @@ pub mod tests {
     fn a_bad_value_beats_what_comes_after_it() {
         assert_eq!(refused(&[1, 0, 0x80, 0x00]), (3, 1));
         assert_eq!(refused(&[1, 0x80, 0x00, 0]), (1, 2));
+    }
+
+    #[test]
+    fn c_above_d_is_16_at_the_start_of_c_and_c_equal_to_d_is_not() {
+        assert_eq!(refused(&[1, 1, 4, 4, 5]), (16, 4));
+        assert_eq!(refused(&[1, 1, 1, 1, 2]), (16, 4));
+        assert_eq!(refused(&spell(&[[1, 4, 1, 4_096]])), (16, 4));
+        assert_eq!(refused(&[1, 1, 4, 0x80, 0x01, 0x81, 0x01]), (16, 5));
+        assert_eq!(refused(&spell(&[[1, 200, 4_095, 4_096]])), (16, 6));
+        for (d, c) in [(1, 1), (4, 4), (4, 3), (127, 127), (128, 127), (128, 128), (4_096, 4_096), (16_384, 4_096)] {
+            assert_eq!(read(&spell(&[[1, 4, d, c]])).unwrap().rows, [Row { x: 1, y: 4, d, c }]);
+        }
+    }
+
+    #[test]
+    fn the_tests_of_d_and_of_c_alone_come_before_16() {
+        for c in [0, 4_097, 5_000, 1 << 14, 1 << 32, 1 << 41] {
+            for d in [1, 4, 127] {
+                assert_eq!(refused(&spell(&[[1, 4, d, c]])), (3, 4), "{d} {c}");
+            }
+        }
+        assert_eq!(refused(&[1, 1, 4, 0, 5]), (3, 3));
+        assert_eq!(refused(&spell(&[[1, 4, 16_385, 4_096]])), (3, 3));
+        assert_eq!(refused(&[1, 1, 4, 0x84, 0x00, 5]), (1, 4));
+        assert_eq!(refused(&[1, 1, 4, 4, 0x85, 0x00]), (1, 5));
+        assert_eq!(refused(&[1, 1, 4, 4, 0x85]), (1, 5));
+        assert_eq!(refused(&[1, 1, 4, 4]), (1, 4));
+    }
+
+    #[test]
+    fn of_16_and_the_refusal_of_another_row_the_earlier_is_given() {
+        assert_eq!(refused(&[2, 1, 4, 4, 4, 1, 4, 4, 5]), (16, 8));
+        assert_eq!(refused(&[2, 1, 4, 4, 5, 1, 4, 4, 5]), (16, 4));
+        assert_eq!(refused(&[2, 1, 4, 4, 0, 1, 4, 4, 5]), (3, 4));
+        assert_eq!(refused(&[2, 0x81, 0x00, 4, 4, 4, 1, 4, 4, 5]), (1, 2));
+        assert_eq!(refused(&[2, 1, 4, 4, 5, 0, 4, 4, 5]), (16, 4));
+        assert_eq!(refused(&[2, 1, 4, 4, 5, 1, 4, 4, 0]), (16, 4));
+        assert_eq!(refused(&[2, 1, 4, 4, 5, 0x81, 0x00, 4, 4, 4]), (16, 4));
+        assert_eq!(refused(&[2, 1, 4, 4, 5]), (16, 4));
+        assert_eq!(refused(&[2, 1, 4, 4, 5, 1, 4, 4]), (16, 4));
+    }
+
+    #[test]
+    fn a_row_count_too_high_comes_before_16_and_16_before_extra_bytes_and_a_long_period() {
+        let most = MOST_ROWS as usize;
+        assert_eq!(refused(&spell(&vec![[1, 1, 1, 2]; most + 1])), (2, 0));
+        let mut rows = vec![[1, 1, 1, 1]; most];
+        rows[most - 1][3] = 2;
+        assert_eq!(refused(&spell(&rows)), (16, 4 * most));
+        rows[0][3] = 2;
+        assert_eq!(refused(&spell(&rows)), (16, 4));
+        assert_eq!(refused(&[1, 1, 4, 4, 5, 0]), (16, 4));
+        assert_eq!(refused(&[1, 1, 4, 4, 5, 0x80, 0x00]), (16, 4));
+        for first in [1, 2] {
+            let long = spell(&[[1, 1_141, 1, first], [1, 919, 1, 2]]);
+            let place = if first == 2 { 5 } else { long.len() - 1 };
+            assert_eq!(refused(&long), (16, place));
+            assert_eq!(refused(&[&long[..], &[9]].concat()), (16, place));
+        }
     }
 
     #[test]

@@ -57,18 +57,21 @@ mod tests {
     #[test]
     fn every_kind_of_answer() {
         let release = |row, cost| Call::Release { row, cost };
-        let calls = [Call::Tick, release(0, 2), release(1, 1), release(0, 3), Call::Tick, Call::Tick];
-        let v7_with_cost_2 = [1, 2, 1, 1, 2];
+        let refused = [release(1, 1), release(0, 3)];
+        let calls = [&[Call::Tick, release(0, 2), release(0, 2)][..], &refused, &[Call::Tick; 3]].concat();
+        let two_at_a_time = [1, 2, 1, 2, 2];
         assert_eq!(
-            trace(&v7_with_cost_2, &calls),
+            trace(&two_at_a_time, &calls),
             [
                 [kind::STARTED, 0, 0, 0],
                 [kind::IDLE, 0, 0, 0],
-                [kind::RELEASED, 0, 2, 0],
+                [kind::RELEASED, 0, 3, 0],
+                [kind::RELEASED, 1, 3, 0],
                 [kind::REFUSED, 6, 0, 0],
                 [kind::REFUSED, 7, 0, 0],
-                [kind::RAN, 0, 0, 1],
-                [kind::FINISHED, 0, 0, 0],
+                [kind::RAN, 0, 0, 0],
+                [kind::FINISHED, 0, 0, 1],
+                [kind::RAN, 1, 0, 0],
             ]
         );
     }
@@ -80,5 +83,7 @@ mod tests {
         assert_eq!(trace(&[0, 0], &calls), answers);
         assert_eq!(trace(&[1, 0x80, 0x00, 1, 1, 1], &[]), [[kind::REFUSED, 1, 2, 0]]);
         assert_eq!(trace(&[1, 1, 0x82], &[]), [[kind::REFUSED, 1, 3, 0]]);
+        let hopeless = [[kind::REFUSED, 16, 4, 0], [kind::REFUSED, 6, 0, 0], [kind::IDLE, 0, 0, 0]];
+        assert_eq!(trace(&[1, 1, 4, 4, 5], &calls), hopeless);
     }
 }

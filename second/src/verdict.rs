@@ -107,7 +107,7 @@ mod tests {
         let mut rows = vec![];
         for (x, y) in [(1, 1), (1, 2), (1, 3), (2, 3), (1, 5), (2, 5), (1, 6)] {
             for d in [1, 2, 3, 4, 5, 7, 11, 20] {
-                rows.extend((1..=4).map(|c| [x, y, d, c]));
+                rows.extend((1..=d.min(4)).map(|c| [x, y, d, c]));
             }
         }
         for first in &rows {

@@ -11,12 +11,12 @@ use support::random::Random;
 use support::tally::{Tally, SCRIPT_MISSPELLED, TABLE_MISSPELLED};
 use support::{bad_bytes, edges, families, settings};
 
-const COMPARISONS: u64 = 200_000;
+const COMPARISONS: u64 = 250_000;
 /// One table and one script in so many comparisons are damaged at every byte.
 const DAMAGED_AT_EVERY_BYTE: u64 = 2_000;
 
-const VERDICT_STATUSES: [u32; 8] = [1, 2, 3, 4, 5, 13, 20, 21];
-const REPLAY_STATUSES: [u32; 15] = [1, 2, 3, 4, 5, 6, 7, 8, 9, 10, 12, 13, 14, 22, 23];
+const VERDICT_STATUSES: [u32; 9] = [1, 2, 3, 4, 5, 13, 16, 20, 21];
+const REPLAY_STATUSES: [u32; 16] = [1, 2, 3, 4, 5, 6, 7, 8, 9, 10, 12, 13, 14, 16, 22, 23];
 
 fn main() {
     let comparisons = settings::number("JYRMEKKO_COMPARISONS", COMPARISONS);

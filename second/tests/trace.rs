@@ -11,13 +11,16 @@ use support::case::hex;
 use support::random::Random;
 use support::tables::Row;
 use support::trace::{by_library, bytes_of};
-use support::{damage, scripts, settings, tables};
+use support::{damage, hopeless, scripts, settings, tables};
 
 /// There are at least this many traces, since with fewer some answers might not be met.
 const TRACES: u64 = 20_000;
 
 /// One trace in so many takes about all places before it goes on.
 const FILLED: u64 = 40;
+
+/// One trace in so many has a first row whose c is above its d, or about as high.
+const HOPELESS: u64 = 40;
 
 /// Makes releases and ticks by turns of random length, so that places fill up and empty again.
 fn random_calls(rows: &[Row], random: &mut Random) -> Vec<Call> {
@@ -76,7 +79,10 @@ fn single_calls() {
     let mut pending_jobs = BTreeSet::new();
     for index in 0..settings::number("JYRMEKKO_COMPARISONS", 0).max(settings::number("JYRMEKKO_TRACES", TRACES)) {
         let mut random = Random::of(seed, index);
-        let rows = tables::to_replay(&mut random);
+        let mut rows = tables::to_replay(&mut random);
+        if random.one_in(HOPELESS) {
+            rows.iter_mut().take(1).for_each(|row| hopeless::spoil(row, &mut random));
+        }
         let mut table = tables::spell(&rows);
         if random.one_in(20) {
             table = damage::mutate(&table, &mut random);
@@ -99,7 +105,7 @@ fn single_calls() {
     for kind in [kind::STARTED, kind::RELEASED, kind::IDLE, kind::RAN, kind::FINISHED] {
         assert!(met.contains(&(kind, 0)), "no answer of kind {kind} was met");
     }
-    for number in [1, 2, 3, 4, 6, 7, 8] {
+    for number in [1, 2, 3, 4, 6, 7, 8, 16] {
         assert!(met.contains(&(kind::REFUSED, number)), "no refusal {number}");
     }
     for rows in [MOST_ROWS - 1, MOST_ROWS] {

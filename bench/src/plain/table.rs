@@ -34,7 +34,11 @@ pub fn read_table(bytes: &[u8]) -> Result<Table, Refused> {
         let x = value(bytes, &mut at, X)?;
         let y = value(bytes, &mut at, Y)?;
         let d = value(bytes, &mut at, D)?;
+        let place = at;
         let c = value(bytes, &mut at, C)?;
+        if c > d {
+            return Err(Refused(16, place));
+        }
         rows.push(Row { x, y, d, c });
     }
     if at < bytes.len() {

@@ -16,7 +16,8 @@ use Rattle.theory.proofs.Cases.{by-lt, by-eq}
 use Rattle.table.specs.declared.TableAnswer.{TableAnswer}
 use Rattle.table.specs.declared.TableAnswer.the-variants as answer
 use Rattle.table.specs.Tables.{tableRead}
-use Rattle.table.proofs.Refusals.{refused-with-one-to-five}
+use Rattle.table.specs.Refusals.{TableRefusal}
+use Rattle.table.proofs.Refusals.{refused-as-a-table}
 use Rattle.words.specs.Words.{wordLength, lowestFirst}
 use Rattle.words.proofs.Storing.{lowest-first-length}
 use Rattle.verdict.specs.declared.Verdict.{Verdict}
@@ -93,22 +94,22 @@ replay-of-sixteen table script log answer status after left sixteen = rw (eq-eqb
 
 -- ---- numbers that no replay has
 
--- Of the numbers above 10, a replay says only 12, 14, 22 and 23.
-never-said : (table script : List ℕ) (room n : ℕ) → Bytes table → Bytes script → 10 < n → n ≢ 12 → n ≢ 14 → n ≢ 22 → n ≢ 23
+-- Of the numbers above 10, a replay says only 12, 14, 16, 22 and 23.
+never-said : (table script : List ℕ) (room n : ℕ) → Bytes table → Bytes script → 10 < n → n ≢ 12 → n ≢ 14 → n ≢ 16 → n ≢ 22 → n ≢ 23
     → replaySays (replayOf table script room) .number ≢ n
-never-said table script room n rows records above not-12 not-14 not-22 not-23 = by-outcome (replayOf table script room) refl
+never-said table script room n rows records above not-12 not-14 not-16 not-22 not-23 = by-outcome (replayOf table script room) refl
   where
     by-outcome : (v : Replayed) → replayOf table script room ≡ v → replaySays v .number ≢ n
     by-outcome (replayed.InTime m) e is = not-22 (sym is)
     by-outcome (replayed.Late l) e is = not-23 (sym is)
     by-outcome (replayed.Refused r) e is =
         let stopped = refused-means table script room r (λ room. not-12 (sym is ∙ ap refusalNumber room)) .0 e in
-        ⊎-elim (λ low. omega arith) (λ is-14. not-14 (sym is ∙ is-14)) (stopped-by table script r rows records stopped)
+        ⊎-elim (λ low. omega arith) (⊎-elim (λ is-14. not-14 (sym is ∙ is-14)) (λ is-16. not-16 (sym is ∙ is-16))) (stopped-by table script r rows records stopped)
 
 pub replay-is-13 : ReplayIs13
 replay-is-13 table script room size rows records = by-eq size answerLength
     (λ same. rw (eq-eqb size answerLength same) (
-      λ is. absurd (never-said table script room 13 rows records (omega arith) (λ e. omega arith) (λ e. omega arith) (λ e. omega arith) (λ e. omega arith) is),
+      λ is. absurd (never-said table script room 13 rows records (omega arith) (λ e. omega arith) (λ e. omega arith) (λ e. omega arith) (λ e. omega arith) (λ e. omega arith) is),
       λ other. absurd (other same),
     ))
     (λ other. rw (ne-eqb size answerLength other) (λ is. other, λ o. refl))
@@ -116,8 +117,8 @@ replay-is-13 table script room size rows records = by-eq size answerLength
 pub replay-never-11-or-25 : ReplayNever11Or25
 replay-never-11-or-25 table script room size rows records = by-eq size answerLength
     (λ same. rw (eq-eqb size answerLength same) (
-      never-said table script room 11 rows records (omega arith) (λ e. omega arith) (λ e. omega arith) (λ e. omega arith) (λ e. omega arith),
-      never-said table script room 25 rows records (omega arith) (λ e. omega arith) (λ e. omega arith) (λ e. omega arith) (λ e. omega arith),
+      never-said table script room 11 rows records (omega arith) (λ e. omega arith) (λ e. omega arith) (λ e. omega arith) (λ e. omega arith) (λ e. omega arith),
+      never-said table script room 25 rows records (omega arith) (λ e. omega arith) (λ e. omega arith) (λ e. omega arith) (λ e. omega arith) (λ e. omega arith),
     ))
     (λ other. rw (ne-eqb size answerLength other) (λ e. omega arith, λ e. omega arith))
 
@@ -137,17 +138,17 @@ ten-times-is-room table script room size rows records enough = by-eq size answer
 
 -- ---- numbers that a verdict has
 
--- A verdict that is right for a table says a number from 1 to 5 where the table is refused, and else 20 or 21.
+-- A verdict that is right for a table says a refusal of tables where the table is refused, and else 20 or 21.
 verdict-says : (table : List ℕ) (v : Verdict) → Bytes table → Judged table v
-    → ((1 ≤ verdictSays v .number) × (verdictSays v .number ≤ 5)) ⊎ ((20 ≤ verdictSays v .number) × (verdictSays v .number ≤ 21))
+    → TableRefusal (verdictSays v .number) ⊎ ((20 ≤ verdictSays v .number) × (verdictSays v .number ≤ 21))
 verdict-says table verdict.Feasible bytes j = inr (omega arith, omega arith)
 verdict-says table (verdict.Overloaded w) bytes j = inr (omega arith, omega arith)
 verdict-says table (verdict.Refused r) bytes j = inl (by-answer (tableRead table .answer) refl j)
   where
     by-answer : (a : TableAnswer) → tableRead table .answer ≡ a → RightOfRead (tableRead table .table) a (verdict.Refused r)
-        → (1 ≤ refusalNumber (r .refusal)) × (refusalNumber (r .refusal) ≤ 5)
+        → TableRefusal (refusalNumber (r .refusal))
     by-answer (answer.Accepted period) e right = absurd right
-    by-answer (answer.Refused q) e right = let same : r ≡ q = cc in rw same (refused-with-one-to-five table q bytes e)
+    by-answer (answer.Refused q) e right = let same : r ≡ q = cc in rw same (refused-as-a-table table q bytes e)
 
 pub verdict-statuses : VerdictStatuses
 verdict-statuses table answer status after bytes (wrong-size l s k) = inr (inl s)
@@ -157,6 +158,6 @@ verdict-statuses table answer status after bytes (said l v j s k) =
 pub verdict-is-13 : VerdictIs13
 verdict-is-13 table answer status after bytes (wrong-size l s k) = (λ is. l, λ other. s)
 verdict-is-13 table answer status after bytes (said l v j s k) = (
-  λ is. absurd (⊎-elim (λ low. omega arith) (λ high. omega arith) (verdict-says table v bytes j)),
+  λ is. absurd (⊎-elim (⊎-elim (λ low. omega arith) (λ sixteen. omega arith)) (λ high. omega arith) (verdict-says table v bytes j)),
   λ other. absurd (other l),
 )

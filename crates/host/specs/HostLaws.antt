@@ -6,6 +6,7 @@ use mathlib.Core.List.{List}
 use lib.ListN.{length}
 use Rattle.kinds.specs.Numbering.{Said}
 use Rattle.numbers.specs.SpelledNumbers.{Bytes}
+use Rattle.table.specs.Refusals.{TableRefusal}
 use Rattle.verdict.specs.declared.Verdict.{Verdict}
 use Rattle.verdict.specs.Verdict.{Judged, verdictSays}
 use Rattle.host.specs.Answer.{answerBytes, VerdictAnswered, replayStatus}
@@ -51,10 +52,10 @@ ReplayNever11Or25 = (table script : List ℕ) (room size : ℕ) → Bytes table 
 abbrev pub TenTimesIsRoom : Type 0
 TenTimesIsRoom = (table script : List ℕ) (room size : ℕ) → Bytes table → Bytes script → 10 * length script ≤ room → replayStatus table script room size ≢ 12
 
--- The verdict returns only the statuses 1 to 5, 13, 20 and 21. So it never returns 11 or 25. (9.2, 10.4, 10.6)
+-- The verdict returns only the statuses 1 to 5, 13, 16, 20 and 21. So it never returns 11 or 25. (9.2, 10.4, 10.6)
 abbrev pub VerdictStatuses : Type 0
 VerdictStatuses = (table answer : List ℕ) (status : ℕ) (after : List ℕ) → Bytes table → VerdictAnswered table answer status after
-    → ((1 ≤ status) × (status ≤ 5)) ⊎ ((status ≡ 13) ⊎ ((20 ≤ status) × (status ≤ 21)))
+    → TableRefusal status ⊎ ((status ≡ 13) ⊎ ((20 ≤ status) × (status ≤ 21)))
 
 -- The verdict returns 13 exactly where the answer buffer is not 16 bytes long. (9.6, 10.1)
 abbrev pub VerdictIs13 : Type 0

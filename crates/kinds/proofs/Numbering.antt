@@ -2,7 +2,7 @@
 use Prim.Native.Nat.{ℕ, _≤_}
 use mathlib.Core.Path.{_≡_, refl, sym, ap, ap₂, _∙_}
 use mathlib.Core.Logic.{inl, inr, ⊎-elim}
-use mathlib.Core.List.{List, _∷_}
+use mathlib.Core.List.{List, [], _∷_, _++_}
 use native.Mathlib.Decide.{decLe}
 use native.Mathlib.Omega.{arith}
 use lib.ListN.{take, getD, List·getD-eq-default}
@@ -12,9 +12,9 @@ use Rattle.kinds.specs.Numbering.{refusalNumber, allRefusals, NumbersDif
 use Rattle.kinds.specs.Numbering.{Said, Says, RefusalsApart, PlainRefusalsApart}
 use Rattle.kinds.specs.Numbering as says
 
--- The refusals numbered 1 to 14, each at the place of its number. (No refusal has the number 0, so place 0 is never looked at.)
+-- The refusals numbered 1 to 16, each at the place of its number. (No refusal has the number 0 or 15, so these two places are never looked at.)
 inOrder : List Refusal
-inOrder = refusal.Misspelled ∷ take 14 allRefusals
+inOrder = refusal.Misspelled ∷ (take 14 allRefusals ++ (refusal.Misspelled ∷ refusal.HopelessRow ∷ []))
 
 -- The refusal with a given number.
 numbered : ℕ → Refusal
@@ -38,6 +38,7 @@ back refusal.RunNotSound = refl
 back refusal.NoRoom = refl
 back refusal.AnswerNot16Bytes = refl
 back refusal.ScriptMisspelled = refl
+back refusal.HopelessRow = refl
 back refusal.NumberTooBig = refl
 
 pub numbers-differ : NumbersDiffer

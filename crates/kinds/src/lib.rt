@@ -48,6 +48,7 @@ pub enum Refusal {
     NoRoom,
     AnswerNot16Bytes,
     ScriptMisspelled,
+    HopelessRow,
     NumberTooBig,
 }
 
@@ -77,6 +78,7 @@ impl Refusal {
             Refusal::NoRoom => 12,
             Refusal::AnswerNot16Bytes => 13,
             Refusal::ScriptMisspelled => 14,
+            Refusal::HopelessRow => 16,
             Refusal::NumberTooBig => 25,
         }
     }

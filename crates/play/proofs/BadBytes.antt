@@ -1,10 +1,11 @@
--- A play that is stopped with 1 or 14 is stopped at the first bad byte of the table or the script. Up to the record that stops it the script is numbers, three
+-- A play that is stopped with 1 or 14 is stopped at the first bad byte of the table or the script, and one that is stopped with 16 by its table. Up to the record that stops it the script is numbers, three
 -- to a record. (docs/RULES.md, 3.8, 7.6, 8.1 and 8.5.)
 use Prim.Native.Nat.{ℕ, _≤_}
 use native.Mathlib.Omega.{arith}
-use mathlib.Core.Path.{_≡_}
+use mathlib.Core.Path.{_≡_, ap, _∙_}
+use mathlib.Core.Logic.{⊎-elim}
 use mathlib.Core.List.{List}
-use Rattle.kinds.specs.Numbering.{refusalNumber}
+use Rattle.kinds.specs.Numbering.{refusalNumber, refusedWith}
 use Rattle.kinds.specs.declared.RefusedAt.{RefusedAt}
 use Rattle.numbers.specs.declared.Number.{Number}
 use Rattle.numbers.specs.declared.NumberRead.the-variants as number
@@ -15,12 +16,13 @@ use Rattle.numbers.proofs.Spellings.{number-has-one-spelling}
 use Rattle.numbers.proofs.BadByte.{refused-at-the-bad-byte, numbers-joined, numbers-inside}
 use Rattle.table.specs.declared.TableAnswer.the-variants as answer
 use Rattle.table.specs.Tables.{tableRead}
+use Rattle.table.specs.Answers.{tableSays}
 use Rattle.table.proofs.Answers.{tables-said-apart}
-use Rattle.table.proofs.Refusals.{refused-with-one-to-five}
+use Rattle.table.proofs.Refusals.{refused-as-a-table}
 use Rattle.table.proofs.BadBytes.{refused-at-the-first-bad-byte}
 use Rattle.run.proofs.Ticking.{Good}
 use Rattle.play.specs.Play.{Progress}
-use Rattle.play.specs.StoppingLaws.{StoppedInTheScript, StoppedInTheTable}
+use Rattle.play.specs.StoppingLaws.{StoppedInTheScript, StoppedInTheTable, StoppedWithSixteen}
 use Rattle.play.specs.Refusals.{GapPassed, RowPassed, CostPassed, Unreadable, RecordRefused}
 use Rattle.play.specs.Refusals.{no-gap, too-late, no-row-number, no-such-row, no-cost, cost-out-of-range, release-refused}
 use Rattle.play.specs.Refusals.{ComesTo, begins, goes-further, StoppedFor, the-table, a-record, the-clock}
@@ -68,6 +70,23 @@ module _ (t s : List ℕ) (b : Bytes s) where
   record-bad {p = p} good before (release-refused gap row cost q number e) is =
       absurd (omega (arith, release-two-to-ten p (gap .value) (row .value) (cost .value) number good e))
 
+  -- No record is refused with 16.
+  record-not-sixteen : {at : ℕ} {p : Progress} {n place : ℕ} → Good (p .so-far .run) → RecordRefused s at p n place → n ≤ 14
+  record-not-sixteen good (no-gap e) = omega arith
+  record-not-sixteen good (too-late gap e late) = omega arith
+  record-not-sixteen good (no-row-number gap g e) = omega arith
+  record-not-sixteen good (no-such-row gap row g e unused) = omega arith
+  record-not-sixteen good (no-cost gap row q e) = omega arith
+  record-not-sixteen good (cost-out-of-range gap row cost q e out) = omega arith
+  record-not-sixteen {p = p} good (release-refused gap row cost q number e) =
+      omega (arith, release-two-to-ten p (gap .value) (row .value) (cost .value) number good e)
+
+  -- A play that is stopped with 16 is stopped by its table.
+  table-hopeless : (r : RefusedAt) → Bytes t → StoppedFor t s r → refusalNumber (r .refusal) ≡ 16 → tableSays (tableRead t .answer) ≡ refusedWith 16 (r .place)
+  table-hopeless r table (the-table e) is = e ∙ ap (λ number. refusedWith number (r .place)) is
+  table-hopeless r table (a-record at p c more refused) is = absurd (omega (arith, record-not-sixteen (comes-sound t s at p table c) refused))
+  table-hopeless r table (the-clock p c some ten place) is = absurd (omega arith)
+
   -- No record is refused with 1.
   record-not-one : {at : ℕ} {p : Progress} {n place : ℕ} → Good (p .so-far .run) → RecordRefused s at p n place → 2 ≤ n
   record-not-one good (no-gap e) = omega arith
@@ -81,7 +100,8 @@ module _ (t s : List ℕ) (b : Bytes s) where
   -- A play that is stopped with 14 is stopped at the script's first bad byte.
   script-bad : (r : RefusedAt) → Bytes t → StoppedFor t s r → refusalNumber (r .refusal) ≡ 14 → FirstBadByte s (r .place)
   script-bad r table (the-table e) is =
-      absurd (omega (arith, refused-with-one-to-five t r table (tables-said-apart (tableRead t .answer) (answer.Refused r) e)))
+      absurd (⊎-elim (λ low. omega (arith, low .1)) (λ sixteen. omega arith)
+      (refused-as-a-table t r table (tables-said-apart (tableRead t .answer) (answer.Refused r) e)))
   script-bad r table (a-record at p c more refused) is = record-bad (comes-sound t s at p table c) (numbers-to c) refused is
   script-bad r table (the-clock p c some ten place) is = absurd (omega arith)
 
@@ -93,6 +113,9 @@ module _ (t s : List ℕ) (b : Bytes s) where
 
 pub stopped-in-the-table : StoppedInTheTable
 stopped-in-the-table t s r table script e is = table-bad t s script r table (stopped-means t s r script .0 e) is
+
+pub stopped-with-sixteen : StoppedWithSixteen
+stopped-with-sixteen t s r table script e is = table-hopeless t s script r table (stopped-means t s r script .0 e) is
 
 pub stopped-in-the-script : StoppedInTheScript
 stopped-in-the-script t s r table script e is = script-bad t s script r table (stopped-means t s r script .0 e) is

@@ -1,7 +1,7 @@
 -- What stops a play, and when it comes to its end. (docs/RULES.md, sections 8.1, 8.2, 8.5, 8.7 and 10.4.)
 use Prim.Native.Nat.{ℕ, zero, suc, _+_, _≤_, _<_}
 use mathlib.Core.Path.{_≡_, refl, sym, ap, subst, _∙_}
-use mathlib.Core.Logic.{_⊎_, _≢_, inl, inr}
+use mathlib.Core.Logic.{_⊎_, _≢_, inl, inr, ⊎-elim}
 use mathlib.Core.Bool.{true}
 use mathlib.Core.List.{List}
 use native.Mathlib.Omega.{arith}
@@ -25,7 +25,7 @@ use Rattle.table.specs.Tables.{tableRead}
 use Rattle.table.specs.Answers.{tableSays}
 use Rattle.table.proofs.Answers.{tables-said-apart}
 use Rattle.table.specs.Costs.{costLimits}
-use Rattle.table.proofs.Refusals.{refused-with-one-to-five}
+use Rattle.table.proofs.Refusals.{refused-as-a-table}
 use Rattle.table.proofs.CostLimits.{CostTested, cost-tested}
 use Rattle.due.specs.declared.Due.{Due}
 use Rattle.due.specs.declared.Due.the-variants as due
@@ -245,19 +245,20 @@ release-two-to-ten p gap row cost number good e =
     rw (r .2) at so
 
 -- The refusals of a record are among those that can stop a play.
-record-can-stop : (s : List ℕ) (at : ℕ) (p : Progress) {n place : ℕ} → Good (p .so-far .run) → RecordRefused s at p n place → (n ≤ 10) ⊎ (n ≡ 14)
-record-can-stop s at p good (no-gap none) = inr refl
+record-can-stop : (s : List ℕ) (at : ℕ) (p : Progress) {n place : ℕ} → Good (p .so-far .run) → RecordRefused s at p n place → (n ≤ 10) ⊎ ((n ≡ 14) ⊎ (n ≡ 16))
+record-can-stop s at p good (no-gap none) = inr (inl refl)
 record-can-stop s at p good (too-late gap e late) = inl (omega arith)
-record-can-stop s at p good (no-row-number gap g none) = inr refl
+record-can-stop s at p good (no-row-number gap g none) = inr (inl refl)
 record-can-stop s at p good (no-such-row gap row g e unused) = inl (omega arith)
-record-can-stop s at p good (no-cost gap row q none) = inr refl
+record-can-stop s at p good (no-cost gap row q none) = inr (inl refl)
 record-can-stop s at p good (cost-out-of-range gap row cost q e out) = inl (omega arith)
 record-can-stop s at p good (release-refused gap row cost q number e) =
     inl (release-two-to-ten p (gap .value) (row .value) (cost .value) number good e .1)
 
 stops-so : (t s : List ℕ) (r : RefusedAt) → Bytes t → StoppedFor t s r → CanStop (r .refusal)
 stops-so t s r table (the-table e) =
-    inl (omega (arith, refused-with-one-to-five t r table (tables-said-apart (tableRead t .answer) (answer.Refused r) e)))
+    ⊎-elim (λ low. inl (omega (arith, low .1))) (λ is. inr (inr is))
+    (refused-as-a-table t r table (tables-said-apart (tableRead t .answer) (answer.Refused r) e))
 stops-so t s r table (a-record at p c more refused) = record-can-stop s at p (comes-sound t s at p table c) refused
 stops-so t s r table (the-clock p c some ten place) = inl (omega arith)
 

@@ -20,9 +20,10 @@ use Rattle.run.specs.Answers.{accepted, refused, releaseSays}
 use Rattle.records.specs.Numbers.{numbersAt}
 use Rattle.play.specs.Play.{Progress, begun, goes-on, stepped}
 
--- The refusals that can stop a play: those of a table, of a script's record, of a release and of the final ticks. Their numbers are 1 to 10 and 14. (10.4)
+-- The refusals that can stop a play: those of a table, of a script's record, of a release and of the final ticks. Their numbers are 1 to 10, 14 and
+-- 16. (10.4)
 abbrev pub CanStop : Refusal → Type 0
-CanStop r = (refusalNumber r ≤ 10) ⊎ (refusalNumber r ≡ 14)
+CanStop r = (refusalNumber r ≤ 10) ⊎ ((refusalNumber r ≡ 14) ⊎ (refusalNumber r ≡ 16))
 
 -- The gap of the record at a place is read, and the record's script time is at most 2^40. (8.5, steps 1 and 2)
 pub record GapPassed (s : List ℕ) (at : ℕ) (p : Progress) (gap : Number) : Type 0 where

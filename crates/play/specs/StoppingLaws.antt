@@ -4,10 +4,12 @@ use mathlib.Core.Path.{_≡_}
 use mathlib.Core.Logic.{_↔_}
 use mathlib.Core.List.{List}
 use lib.ListN.{length}
-use Rattle.kinds.specs.Numbering.{refusalNumber}
+use Rattle.kinds.specs.Numbering.{refusalNumber, refusedWith}
 use Rattle.kinds.specs.declared.RefusedAt.{RefusedAt}
 use Rattle.numbers.specs.SpelledNumbers.{Bytes}
 use Rattle.numbers.specs.BadByte.{FirstBadByte}
+use Rattle.table.specs.Tables.{tableRead}
+use Rattle.table.specs.Answers.{tableSays}
 use Rattle.records.specs.Numbers.{numbersAt}
 use Rattle.play.specs.Play.{Progress, goes-on, stops, stepped, whole, stopped, played}
 use Rattle.play.specs.Refusals.{CanStop, RecordRefused, RecordTaken, ComesTo, atLast, leftAtLast, StoppedFor}
@@ -35,11 +37,16 @@ StoppedInTheTable = (t s : List ℕ) (r : RefusedAt) → Bytes t → Bytes s →
 abbrev pub StoppedInTheScript : Type 0
 StoppedInTheScript = (t s : List ℕ) (r : RefusedAt) → Bytes t → Bytes s → played t s ≡ stopped r → refusalNumber (r .refusal) ≡ 14 → FirstBadByte s (r .place)
 
+-- A play that is stopped with 16 is stopped by its table, at the place that the table's refusal names. (3.3, 8.1)
+abbrev pub StoppedWithSixteen : Type 0
+StoppedWithSixteen = (t s : List ℕ) (r : RefusedAt) → Bytes t → Bytes s → played t s ≡ stopped r → refusalNumber (r .refusal) ≡ 16
+    → tableSays (tableRead t .answer) ≡ refusedWith 16 (r .place)
+
 -- A play comes to its end exactly where it comes to the script's end and nothing is pending after the final ticks. (8.3, 8.7)
 abbrev pub WholeMeans : Type 0
 WholeMeans = (t s : List ℕ) (q : Progress) → Bytes s
     → (played t s ≡ whole q) ↔ ((p : Progress) × ComesTo t s (length s) p × (leftAtLast p ≡ 0) × (q ≡ atLast p))
 
--- A play is stopped only by 1 to 10 and by 14. So 11, 13 and 25 never stop it, and neither does 12, which comes last of all. (8.12, 10.4, 10.6)
+-- A play is stopped only by 1 to 10, by 14 and by 16. So 11, 13 and 25 never stop it, and neither does 12, which comes last of all. (8.12, 10.4, 10.6)
 abbrev pub StoppedBy : Type 0
 StoppedBy = (t s : List ℕ) (r : RefusedAt) → Bytes t → Bytes s → played t s ≡ stopped r → CanStop (r .refusal)

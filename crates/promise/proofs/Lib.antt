@@ -23,3 +23,4 @@ pub mod Spelling
 pub mod Instances
 pub mod Cheats
 pub mod BadByte
+pub mod HopelessRows

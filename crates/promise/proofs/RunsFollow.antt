@@ -191,7 +191,12 @@ module _ {t : Table} {run : Run} {es : List Event} (b : Bridge t run es) where
 table-of-sound : (run : Run) → Good run → InRange (run .table)
 table-of-sound run still =
     let sound = facts run still in
-    record { few-rows = sound .few-rows; all-places = still .1 .all-rows; rows-in-range = λ i h. in-range-means (rowAt (run .table) i) .1 (sound .rows i h) }
+    record {
+      few-rows = sound .few-rows;
+      all-places = still .1 .all-rows;
+      rows-in-range = λ i h. in-range-means (rowAt (run .table) i) .1 (sound .rows i h);
+      c-within-d = sound .c-within-d;
+    }
 
 -- The bridge holds for a run that was just started, before any call.
 pub bridge-of-started : (bytes : List ℕ) → Bytes bytes → Bridge (tableRead bytes .table) (started bytes .run) []

@@ -14,3 +14,4 @@ pub mod Spelling
 pub mod Instances
 pub mod Cheats
 pub mod BadByte
+pub mod HopelessRows

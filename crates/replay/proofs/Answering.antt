@@ -116,7 +116,7 @@ pub no-room-answered : (t s : List ℕ) (room place : ℕ) → Bytes t → Bytes
     → (replayOf t s room ≡ replayed.Refused (record { refusal = NoRoom; place = place }))
     ↔ ((p : Progress) × (n : ℕ) × Ended t s n p × (room < n) × (place ≡ length s))
 no-room-answered t s room place table script = (
-  λ said. ⊎-elim (λ e. absurd (⊎-elim (λ h. omega arith) (λ h. omega arith) (stopped-by t s _ table script e)))
+  λ said. ⊎-elim (λ e. absurd (⊎-elim (λ h. omega arith) (⊎-elim (λ h. omega arith) (λ h. omega arith)) (stopped-by t s _ table script e)))
       (λ w. (w .0, w .1, w .2, w .3, ap (λ (r : RefusedAt). r .place) (w .4))) (said-means t s room said),
   λ w. rw (w .4) (too-long t s room (w .0) (w .2 .came-to-its-end) (rw (w .2 .log-length) at (w .3))),
 )

@@ -35,6 +35,7 @@ module _ (t : Table) (in-range : InRange t) where
     clock-in-time = omega arith;
     few-pending = omega arith;
     rows = λ i h. in-range-means (rowAt t i) .0 (in-range .rows-in-range i h);
+    c-within-d = in-range .c-within-d;
     kept = λ i h.
         rw (getD-replicate maxRows i nothingKept _ (omega (arith, in-range .few-rows)))
         (kept-means nothingKept (rowAt t i) .0 (empty-is-sound (rowAt t i)));

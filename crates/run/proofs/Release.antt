@@ -268,6 +268,7 @@ module _ {run : Run} {row cost : ℕ} (t : Tick) (whole : Whole run) (p : Passed
     clock-in-time = sound-before .clock-in-time;
     few-pending = put-keeps-form (run .pending) job well-formed .in-places;
     rows = sound-before .rows;
+    c-within-d = sound-before .c-within-d;
     kept = kept-after;
     jobs = rw jobs-after
         (one-more (SoundJob (run .table) (run .clock .0) (next .next .0)) (jobsOf (run .pending)) job (λ i h. still-sound _ (sound-before .jobs i h)) job-sound);

@@ -21,11 +21,10 @@ use Rattle.table.specs.declared.CostAnswer.the-variants as answer
 use Rattle.table.specs.Costs.{csOf, costLimits, limitOf, costAnswer}
 use Rattle.table.specs.declared.Table.{Table}
 use Rattle.table.specs.Limits.{maxRows}
-use Rattle.table.specs.Rows.{fromOneTo, rowInRange}
+use Rattle.table.specs.Rows.{fromOneTo, rowAcceptable}
 use Rattle.table.specs.Tables.{noRow, rowsOf}
 use Rattle.table.proofs.CostLimits.{CostTested, not-in-use, out-of-range, allowed, cost-tested, limits-are-the-first, one-limit-for-each-row, limit-is-its-c}
-use Rattle.table.proofs.SpelledTables.{in-range-means}
-use Rattle.table.proofs.Ranges.{both-true}
+use Rattle.table.proofs.Ranges.{both-true, acceptable-means}
 use Rattle.due.specs.declared.Kept.{Kept}
 use Rattle.due.specs.Kept.{noKept, keptSound}
 use Rattle.due.proofs.NewestKept.{kept-sound-means as kept-means}
@@ -119,9 +118,9 @@ module _ (limits : List ℕ) (clock next : ℕ) where
   all-jobs [] f = refl
   all-jobs (j ∷ js) f = rw (f 0 (omega arith)) (all-jobs js (λ i h. f (suc i) (suc-le-suc h)))
 
--- A row is in range, and its kept due times are sound.
+-- A table may have the row, and its kept due times are sound.
 abbrev RowSound : Row → Kept → Type 0
-RowSound r k = (rowInRange r ≡ true) × (keptSound k r ≡ true)
+RowSound r k = (rowAcceptable r ≡ true) × (keptSound k r ≡ true)
 
 -- Where the test of all rows holds, each row and its kept due times are sound.
 each-row : (rs : List Row) (ks : List Kept) → length rs ≤ length ks → rowsSound rs ks ≡ true
@@ -130,7 +129,7 @@ each-row [] ks l e i h = absurd (not-suc-le-zero h)
 each-row (r ∷ rs) [] l e i h = absurd (not-suc-le-zero l)
 each-row (r ∷ rs) (k ∷ ks) l e zero h = both-true _ _ (both-true _ (rowsSound rs ks) e .0)
 each-row (r ∷ rs) (k ∷ ks) l e (suc i) h =
-    each-row rs ks (le-of-suc-le-suc l) (both-true (rowInRange r && keptSound k r) _ e .1) i (le-of-suc-le-suc h)
+    each-row rs ks (le-of-suc-le-suc l) (both-true (rowAcceptable r && keptSound k r) _ e .1) i (le-of-suc-le-suc h)
 
 -- Where each row and its kept due times are sound, the test of all rows holds.
 all-rows : (rs : List Row) (ks : List Kept) → ((i : ℕ) → i < length rs → RowSound (getD rs i noRow) (getD ks i noKept)) → rowsSound rs ks ≡ true
@@ -238,7 +237,8 @@ module _ (run : Run) (whole : Whole run) where
         few-rows = few;
         clock-in-time = leb-true _ _ (clock .1);
         few-pending = leb-true _ _ (places .1);
-        rows = λ i h. in-range-means (rowAt table i) .0 (each-numbered few (rows .1) i h .0);
+        rows = λ i h. acceptable-means (rowAt table i) .0 (each-numbered few (rows .1) i h .0) .within-limits;
+        c-within-d = λ i h. acceptable-means (rowAt table i) .0 (each-numbered few (rows .1) i h .0) .c-within-d;
         kept = λ i h. kept-means (keptOf run i) (rowAt table i) .0 (each-numbered few (rows .1) i h .1);
         jobs = λ i h. job-facts _ _ _ (getD pending i noJob) (each-job _ _ _ pending (jobs .1) i h);
         apart = distinct-means pending .0 (apart .1);
@@ -249,7 +249,10 @@ module _ (run : Run) (whole : Whole run) where
   sound-tested : Sound run → soundOf run ≡ true
   sound-tested s =
       let row : (i : ℕ) → i < table .count → RowSound (rowAt table i) (keptOf run i) =
-      λ i h. (in-range-means (rowAt table i) .1 (s .rows i h), kept-means (keptOf run i) (rowAt table i) .1 (s .kept i h)) in
+      λ i h. (
+        acceptable-means (rowAt table i) .1 (record { within-limits = s .rows i h; c-within-d = s .c-within-d i h }),
+        kept-means (keptOf run i) (rowAt table i) .1 (s .kept i h),
+      ) in
       let before : AllBefore run = record {
         few-rows = s .few-rows;
         clock-in-time = s .clock-in-time;
@@ -329,17 +332,17 @@ module _ {t : Table} {ks : List Kept} {i : ℕ} (from : RowsFrom t ks i) where
 
   module _ (here : i < t .count) where
     -- Where a row is left, all rows are sound exactly when the row at i, its kept due times and the rows after it are.
-    row-and-later : (rowInRange (rowAt t i) && keptSound (getD ks i noKept) (rowAt t i) && rowsSound (drop (i + 1) (rowsOf t)) (drop (i + 1) ks))
+    row-and-later : (rowAcceptable (rowAt t i) && keptSound (getD ks i noKept) (rowAt t i) && rowsSound (drop (i + 1) (rowsOf t)) (drop (i + 1) ks))
         ≡ rowsSound (rowsOf t) ks
     row-and-later =
         let inside : i < length (rowsOf t) = omega (arith, length-take (t .count) (t .rows)) in
         (rw (rest-cons (t .count) (t .rows) i noRow inside, drop-cons ks i noKept (omega arith), ← add-one i) at (from .settled))
 
-    -- Where the row at i is out of range, not all rows are sound.
-    pub row-out-of-range : rowInRange (rowAt t i) ≡ false → false ≡ rowsSound (rowsOf t) ks
-    row-out-of-range r = simp r at row-and-later
+    -- Where the row at i is not one that a table may have, not all rows are sound.
+    pub row-unacceptable : rowAcceptable (rowAt t i) ≡ false → false ≡ rowsSound (rowsOf t) ks
+    row-unacceptable r = simp r at row-and-later
 
-    module _ (r : rowInRange (rowAt t i) ≡ true) where
+    module _ (r : rowAcceptable (rowAt t i) ≡ true) where
       -- Where the kept due times of the row at i are not sound, not all rows are sound.
       pub kept-unsound : keptSound (getD ks i noKept) (rowAt t i) ≡ false → false ≡ rowsSound (rowsOf t) ks
       kept-unsound k = simp (r, k) at row-and-later

@@ -136,6 +136,7 @@ module _ (run : Run) (good : Good run) where
           clock-in-time = omega arith;
           few-pending = l .form .in-places;
           rows = facts .rows;
+          c-within-d = facts .c-within-d;
           kept = facts .kept;
           jobs = l .jobs;
           apart = distinct-means (jobsOf p) .0 (l .apart);

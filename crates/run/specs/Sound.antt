@@ -13,7 +13,7 @@ use Rattle.table.specs.Limits.{maxRows}
 use Rattle.table.specs.declared.CostAnswer.{CostAnswer}
 use Rattle.table.specs.declared.CostAnswer.the-variants as answer
 use Rattle.table.specs.Costs.{costLimits, limitOf, costAnswer}
-use Rattle.table.specs.Rows.{fromOneTo, rowInRange}
+use Rattle.table.specs.Rows.{fromOneTo, rowAcceptable}
 use Rattle.table.specs.Tables.{rowsOf}
 use Rattle.table.specs.SpelledTables.{WithinLimits}
 use Rattle.due.specs.declared.Kept.{Kept}
@@ -48,12 +48,12 @@ abbrev pub jobsSound : (limits : List ℕ) (clock next : ℕ) → List Job → B
 jobsSound limits clock next [] = true
 jobsSound limits clock next (j ∷ js) = jobSound limits clock next j && jobsSound limits clock next js
 
--- Each row is in range, and has at most x due times kept, none of them above 2^40. A run has kept due times for every row that a table may have, so the case
--- of a row without them does not come up. (6.21, 6.24)
+-- Each row is one that a table may have, and has at most x due times kept, none of them above 2^40. A run has kept due times for every row that a table may
+-- have, so the case of a row without them does not come up. (6.21, 6.24)
 abbrev pub rowsSound : List Row → List Kept → Bool
 rowsSound [] ks = true
 rowsSound (r ∷ rs) [] = true
-rowsSound (r ∷ rs) (k ∷ ks) = rowInRange r && keptSound k r && rowsSound rs ks
+rowsSound (r ∷ rs) (k ∷ ks) = rowAcceptable r && keptSound k r && rowsSound rs ks
 
 -- The most that the next serial may be: the clock plus the number of pending jobs. The job of each serial given out is pending or was finished by a tick.
 -- (6.23)
@@ -90,6 +90,7 @@ pub record Sound (run : Run) : Type 0 where
   pub clock-in-time : run .clock .0 ≤ maxTime
   pub few-pending : run .pending .count ≤ maxPlaces
   pub rows : (i : ℕ) → i < run .table .count → WithinLimits (rowAt (run .table) i)
+  pub c-within-d : (i : ℕ) → i < run .table .count → rowAt (run .table) i .c ≤ rowAt (run .table) i .d
   pub kept : (i : ℕ) → i < run .table .count → SoundKept (keptOf run i) (rowAt (run .table) i .x)
   pub jobs : (i : ℕ) → i < length (jobsOf (run .pending)) → SoundJob (run .table) (run .clock .0) (run .next .0) (getD (jobsOf (run .pending)) i noJob)
   pub apart : (i k : ℕ) → i < k → k < length (jobsOf (run .pending))

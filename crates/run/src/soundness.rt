@@ -45,7 +45,7 @@ fn job_fits(job: Job, clock: Tick, next: Serial) -> bool
         & (job.serial.0 < next.0)
 }
 
-// Each row in use is in range, and has at most x due times kept, none of them above 2^40. (6.21, 6.24)
+// Each row in use is one that a table may have, and has at most x due times kept, none of them above 2^40. (6.21, 6.24)
 pub(crate) fn rows_sound(table: Table, kept: [Kept; Table::MAX_ROWS]) -> bool
     requires { ⌜ table .count ≤ maxRows ⌝ }
     ensures { λ r. ⌜ r ≡ rowsSound (rowsOf table) kept ⌝ }
@@ -54,7 +54,7 @@ pub(crate) fn rows_sound(table: Table, kept: [Kept; Table::MAX_ROWS]) -> bool
     while i < table.count {
         let row = table.rows[i];
         let times = kept[i];
-        if !row.in_range() {
+        if !row.acceptable() {
             return false;
         }
         if !times.sound(row) {

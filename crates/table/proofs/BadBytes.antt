@@ -9,9 +9,9 @@ use Rattle.numbers.specs.BadByte.{NumbersBetween, nothing-between, number-first
 use Rattle.numbers.proofs.Spellings.{spelled-rest}
 use Rattle.numbers.proofs.BadByte.{numbers-joined}
 use Rattle.table.specs.declared.Row.{Row}
-use Rattle.table.specs.SpelledTables.{WithinLimits, spelledRow}
+use Rattle.table.specs.SpelledTables.{WithinLimits, AcceptableRow, spelledRow}
 use Rattle.table.specs.Refusals.{PartStands, ValueNext, misspelled, out-of-range}
-use Rattle.table.specs.Refusals.{no-count, too-large-count, bad-value, RefusedSo, bad-rows, bytes-after, long-period}
+use Rattle.table.specs.Refusals.{no-count, too-large-count, bad-value, hopeless-row, RefusedSo, bad-rows, bytes-after, long-period}
 use Rattle.table.specs.Refusals.{RefusedAtTheFirstBadByte}
 use Rattle.table.proofs.Each.{each-head, each-tail}
 use Rattle.table.proofs.Spelling.{parted}
@@ -44,13 +44,13 @@ module _ {s : List ℕ} where
       (numbers-joined (number-there (r .d) (omega (arith, w .most-d)) (d .1)) (number-there (r .c) (omega (arith, w .most-c)) (d .2))))
 
   -- Where the spellings of rows stand, numbers stand.
-  rows-there : {at next : ℕ} (rows : List Row) → ((r : Row) → List·Memᴰ r rows → WithinLimits r) → PartStands s at (flatten (map spelledRow rows)) next
+  rows-there : {at next : ℕ} (rows : List Row) → ((r : Row) → List·Memᴰ r rows → AcceptableRow r) → PartStands s at (flatten (map spelledRow rows)) next
       → NumbersBetween s at next
   unfolding flatten
   rows-there {at} {next} [] each p = let same : at ≡ next = omega (arith, p .ends) in subst (λ end. NumbersBetween s at end) same nothing-between
   rows-there (r ∷ rows) each p =
       let t = parted (spelledRow r) (flatten (map spelledRow rows)) p in
-      numbers-joined (row-there r (each-head each) (t .1)) (rows-there rows (each-tail each) (t .2))
+      numbers-joined (row-there r (each-head each .within-limits) (t .1)) (rows-there rows (each-tail each) (t .2))
 
   -- Up to a value that is next, numbers stand.
   numbers-before : {from at most : ℕ} → ValueNext s from at most → NumbersBetween s from at
@@ -61,7 +61,7 @@ module _ {s : List ℕ} where
       let small : (i : ℕ) → i < length (p .values) → getD (p .values) i 0 ≤ maxNumber =
       λ i h. omega (arith, p .first-values .within i h, limits-small i) in
       numbers-joined (number-there (p .count) (omega (arith, p .few-rows)) (t .1))
-      (numbers-joined (rows-there (p .rows) (p .rows-within) (u .1)) (values-there (p .values) small (u .2)))
+      (numbers-joined (rows-there (p .rows) (p .rows-acceptable) (u .1)) (values-there (p .values) small (u .2)))
 
   -- What is to be refused with 1 has its first bad byte there.
   first-bad : {number place : ℕ} → RefusedSo s number place → number ≡ 1 → FirstBadByte s place
@@ -69,6 +69,7 @@ module _ {s : List ℕ} where
   first-bad (bad-rows (too-large-count n read many)) one = absurd (omega arith)
   first-bad (bad-rows (bad-value {at} next (misspelled p))) one = record { start = at; before = numbers-before next; bad = p }
   first-bad (bad-rows (bad-value next (out-of-range n p o))) one = absurd (omega arith)
+  first-bad (bad-rows (hopeless-row p)) one = absurd (omega arith)
   first-bad (bytes-after p l) one = absurd (omega arith)
   first-bad (long-period p l) one = absurd (omega arith)
 

@@ -1,16 +1,17 @@
--- A value, a row or rows that are refused: good values stand up to a bad one, and the refusal is that of the bad one. Each level is shown from
--- the one below, both ways. (docs/RULES.md, 3.7, 3.8 and 3.10.)
+-- A value, a row or rows that are refused: good values stand up to a bad one, or up to a c above its d, and the refusal is that of this value. Each level is shown from
+-- the one below, both ways. (docs/RULES.md, 3.3, 3.7, 3.8 and 3.10.)
 use Prim.Native.Nat.{ℕ, zero, suc, _≤_, _<_}
 use native.Mathlib.Decide.{decLe}
 use native.Mathlib.Omega.{arith}
-use mathlib.Core.Path.{_≡_, refl, sym, ap, _∙_}
+use mathlib.Core.Path.{_≡_, refl, sym, ap, subst, _∙_}
+use mathlib.Core.Bool.{true}
 use mathlib.Core.Logic.{_⊎_, inl, inr, ⊎-elim}
-use mathlib.Core.List.{List, [], _∷_, flatten, map}
+use mathlib.Core.List.{List, [], _∷_, _++_, flatten, map}
 use lib.ListN.{length, getD}
 use borrow.Author.Tests.{le-leb, lt-leb}
 use Rattle.kinds.specs.Numbering.{refusalNumber}
 use Rattle.kinds.specs.declared.Refusal.{Refusal}
-use Rattle.kinds.specs.declared.Refusal.the-variants.{Misspelled, ValueOutOfRange}
+use Rattle.kinds.specs.declared.Refusal.the-variants.{Misspelled, ValueOutOfRange, HopelessRow}
 use Rattle.kinds.specs.declared.RefusedAt.{RefusedAt}
 use Rattle.kinds.proofs.Apart.{impossible}
 use Rattle.numbers.specs.declared.Number.{Number}
@@ -25,11 +26,14 @@ use Rattle.numbers.proofs.BadByte.{bad-read, refused-bad}
 use Rattle.table.specs.declared.Row.{Row}
 use Rattle.table.specs.declared.RowRead.{RowRead}
 use Rattle.table.specs.declared.RowRead.the-variants as row
-use Rattle.table.specs.Rows.{withinLimit, readValue, afterValue, readRow}
-use Rattle.table.specs.Tables.{Rows, rows, refused, inFront, afterRow, readRows}
-use Rattle.table.specs.SpelledTables.{spelledRow}
+use Rattle.table.specs.Limits.{maxX, maxY, maxD, maxC}
+use Rattle.table.specs.Rows.{withinLimit, fine, ruleOfX, ruleOfY, ruleOfD, rangeOfC, ruleOfC, readValue, afterValue, readRow}
+use Rattle.table.specs.Tables.{noRow, Rows, rows, refused, inFront, afterRow, readRows}
+use Rattle.table.specs.SpelledTables.{WithinLimits, spelledRow}
 use Rattle.table.specs.Refusals.{PartStands, valueLimits, FirstValues, BadValue, misspelled, out-of-range}
 use Rattle.table.proofs.Each.{each-none, each-cons, each-head, each-tail}
+use Rattle.table.proofs.Ranges.{fine-limits}
+use Rattle.table.proofs.Reading.{value-stands, value-before, after-value, after-refused, c-stands, c-hopeless, c-refused}
 use Rattle.table.proofs.Spelling.{parted, joined, ends-inside, spelled-stands, value-read, RowStands, row-read, row-stands, RowsStand}
 
 -- ---- a value
@@ -81,6 +85,16 @@ module _ {s : List ℕ} {at most : ℕ} where
           let p = refused-bad b inside e .1 in
           rw (misspelled-refused most b p) (bad (record { refusal = Misspelled; place = r .place }) (misspelled p))
 
+-- A value that is answered is spelled there, and is from 1 to its limit.
+good-parts : {s : List ℕ} {at most : ℕ} {n : Number} → Bytes s → readValue (withinLimit most) s at ≡ number.Number n
+    → Spelled s at n × (1 ≤ n .value) × (n .value ≤ most)
+good-parts {s} {at} {most} {n} b e =
+    let v = value-before (withinLimit most) s at (readAt s at) (λ m. row.Row (record { row = noRow; next = m .next })) _ refl (after-value _ e) in
+    let same : v .0 ≡ n = cc (sym (value-stands (withinLimit most) s at (v .0) (v .1)) ∙ e) in
+    let n-fine : fine (withinLimit most (n .value)) ≡ true = subst (λ m. fine (withinLimit most (m .value)) ≡ true) same (v .1 .is-fine) in
+    let limits = fine-limits most (n .value) n-fine in
+    (number-has-one-spelling s at n b (v .1 .reads ∙ ap number.Number same), limits .0, limits .1)
+
 -- A value that begins at `at` is refused with a refusal of that number, at that place.
 pub record ValueRefused (s : List ℕ) (at most n place : ℕ) : Type 0 where
   pub kind : Refusal
@@ -107,10 +121,37 @@ ofFour values next = row.Row (record {
   next = next;
 })
 
--- Reading a row is reading one value for each of the four limits.
-row-from-values : (s : List ℕ) (at : ℕ) → readRow s at ≡ fromValues valueLimits s at ofFour
-unfolding fromValues ofFour
-row-from-values s at = refl
+-- Four values are read, one for each of the four limits, and the last is not compared with d.
+readFour : List ℕ → (at : ℕ) → RowRead
+readFour s at = fromValues valueLimits s at ofFour
+
+-- If values are refused after a first value was read, or because it was refused, they are refused with another use of that value that is refused as well.
+still-refused : (v : NumberRead) (k l : Number → RowRead) {r : RefusedAt} → ((n : Number) → k n ≡ row.Refused r → l n ≡ row.Refused r)
+    → afterValue v k ≡ row.Refused r → afterValue v l ≡ row.Refused r
+still-refused (number.Number n) k l more e = more n e
+still-refused (number.Refused q) k l more e = e
+
+-- If the four values of a row are refused, the row is refused so.
+four-refused : (s : List ℕ) (at : ℕ) {r : RefusedAt} → readFour s at ≡ row.Refused r → readRow s at ≡ row.Refused r
+unfolding readFour fromValues ofFour
+four-refused s at {r} =
+    still-refused (readValue ruleOfX s at) _ _ λ x.
+    still-refused (readValue ruleOfY s (x .next)) _ _ λ y.
+    still-refused (readValue ruleOfD s (y .next)) _ _ λ d e.
+    last x y d (readValue rangeOfC s (d .next)) refl e
+  where
+    last : (x y d : Number) (v : NumberRead) → readValue rangeOfC s (d .next) ≡ v
+        → afterValue v (λ c. row.Row (record { row = record { x = x .value; y = y .value; d = d .value; c = c .value }; next = c .next })) ≡ row.Refused r
+        → afterValue (readValue (ruleOfC (d .value)) s (d .next))
+        (λ c. row.Row (record { row = record { x = x .value; y = y .value; d = d .value; c = c .value }; next = c .next })) ≡ row.Refused r
+    last x y d (number.Number c) f e = impossible cc
+    last x y d (number.Refused q) f e = after-refused _ (c-refused (d .value) s (d .next) q f) ∙ e
+
+-- A value that was read, or that ended a row.
+by-value : {G : Type 0} (v : NumberRead) (k : Number → RowRead) {r : RefusedAt} → afterValue v k ≡ row.Refused r → (v ≡ number.Refused r → G)
+    → ((n : Number) → v ≡ number.Number n → k n ≡ row.Refused r → G) → G
+by-value (number.Number n) k e ended read = read n refl e
+by-value (number.Refused q) k e ended read = ended cc
 
 -- The first values of a row still are its first values with one more in front, if that one is from 1 to its limit.
 first-more : {most v : ℕ} {limits values : List ℕ} → 1 ≤ v → v ≤ most → FirstValues limits values → FirstValues (most ∷ limits) (v ∷ values)
@@ -197,35 +238,115 @@ limits-small (suc (suc (suc zero))) = omega arith
 limits-small (suc (suc (suc (suc i)))) = omega arith
 
 -- A row is refused where a value of it is.
-row-refused : {s : List ℕ} {at next number place : ℕ} (values : List ℕ) → FirstValues valueLimits values → PartStands s at (flatten (map spelling values)) next
+pub row-refused : {s : List ℕ} {at next number place : ℕ} (values : List ℕ) → FirstValues valueLimits values → PartStands s at (flatten (map spelling values)) next
     → (wrong : ValueRefused s next (getD valueLimits (length values) 0) number place)
     → readRow s at ≡ row.Refused (record { refusal = wrong .kind; place = place })
-row-refused {s} {at} values first stand wrong = row-from-values s at ∙ badly-refused valueLimits values at ofFour limits-small first stand wrong
+unfolding readFour
+row-refused {s} {at} values first stand wrong = four-refused s at (badly-refused valueLimits values at ofFour limits-small first stand wrong)
 
--- If a row is refused, its values end badly.
-row-ends-badly : {s : List ℕ} {at : ℕ} {r : RefusedAt} → Bytes s → at ≤ length s → readRow s at ≡ row.Refused r → EndsBadly valueLimits s at r
-unfolding ofFour
-row-ends-badly {s} {at} b inside e =
-    ends-badly valueLimits at ofFour b inside (λ values next made. impossible cc) (sym (row-from-values s at) ∙ e)
+-- From the place `at` on stands a row whose values are in range and whose c is above its d. Its c begins at the place `last`.
+pub record HopelessHere (s : List ℕ) (at last : ℕ) : Type 0 where
+  pub row : Row
+  pub next : ℕ
+  pub in-range : WithinLimits row
+  pub c-above-d : row .d < row .c
+  pub before : PartStands s at (spelling (row .x) ++ (spelling (row .y) ++ spelling (row .d))) last
+  pub its-c : PartStands s last (spelling (row .c)) next
+
+-- A hopeless row is refused with 16, at the start of its c.
+pub hopeless-refused : {s : List ℕ} {at last : ℕ} → HopelessHere s at last → readRow s at ≡ row.Refused (record { refusal = HopelessRow; place = last })
+hopeless-refused {s} {at} {last} p =
+    let r = p .row in
+    let w = p .in-range in
+    let x = parted (spelling (r .x)) (spelling (r .y) ++ spelling (r .d)) (p .before) in
+    let y = parted (spelling (r .y)) (spelling (r .d)) (x .2) in
+    simp (
+      value-read maxX (r .x) (omega arith) (w .some-x) (w .most-x) (x .1),
+      value-read maxY (r .y) (omega arith) (w .some-y) (w .most-y) (y .1),
+      value-read maxD (r .d) (omega arith) (w .some-d) (w .most-d) (y .2),
+      c-hopeless (r .d) s last _ (value-read maxC (r .c) (omega arith) (w .some-c) (w .most-c) (p .its-c)) (p .c-above-d),
+    )
+
+-- How a row is refused: its values end badly, or it is hopeless.
+pub data RowEnds (s : List ℕ) (at : ℕ) : RefusedAt → Type 0 where
+  badly : {r : RefusedAt} → EndsBadly valueLimits s at r → RowEnds s at r
+  hopelessly : {last : ℕ} → HopelessHere s at last → RowEnds s at (record { refusal = HopelessRow; place = last })
+
+-- If the four values of a row are refused, they end badly.
+four-end-badly : {s : List ℕ} {at : ℕ} {r : RefusedAt} → Bytes s → at ≤ length s → readFour s at ≡ row.Refused r → RowEnds s at r
+unfolding readFour ofFour
+four-end-badly {s} {at} b inside e = badly (ends-badly valueLimits at ofFour b inside (λ values next made. impossible cc) e)
+
+-- If a row is refused, its values end badly or it is hopeless.
+row-ends : {s : List ℕ} {at : ℕ} {r : RefusedAt} → Bytes s → at ≤ length s → readRow s at ≡ row.Refused r → RowEnds s at r
+unfolding readFour fromValues ofFour
+row-ends {s} {at} {r} b inside e =
+    by-value (readValue ruleOfX s at) _ e (λ f. four (after-refused _ f)) λ x x-read e-y.
+    by-value (readValue ruleOfY s (x .next)) _ e-y (λ f. four (after-value _ x-read ∙ after-refused _ f)) λ y y-read e-d.
+    by-value (readValue ruleOfD s (y .next)) _ e-d (λ f. four (after-value _ x-read ∙ after-value _ y-read ∙ after-refused _ f)) λ d d-read e-c.
+    last x y d x-read y-read d-read (readValue rangeOfC s (d .next)) refl e-c
+  where
+    four : readFour s at ≡ row.Refused r → RowEnds s at r
+    four = four-end-badly b inside
+
+    last : (x y d : Number) → readValue ruleOfX s at ≡ number.Number x → readValue ruleOfY s (x .next) ≡ number.Number y
+        → readValue ruleOfD s (y .next) ≡ number.Number d → (v : NumberRead) → readValue rangeOfC s (d .next) ≡ v
+        → afterValue (readValue (ruleOfC (d .value)) s (d .next))
+        (λ c. row.Row (record { row = record { x = x .value; y = y .value; d = d .value; c = c .value }; next = c .next })) ≡ row.Refused r
+        → RowEnds s at r
+    last x y d x-read y-read d-read (number.Refused q) f g =
+        let same : q ≡ r = cc (sym (after-refused _ (c-refused (d .value) s (d .next) q f)) ∙ g) in
+        four (after-value _ x-read ∙ after-value _ y-read ∙ after-value _ d-read ∙ after-refused _ (f ∙ ap number.Refused same))
+    last x y d x-read y-read d-read (number.Number c) f g = elim (decLe (c .value) (d .value)) [
+      | yes h ↦
+          let z : row.Row (record { row = record { x = x .value; y = y .value; d = d .value; c = c .value }; next = c .next }) ≡ row.Refused r =
+          sym (after-value _ (c-stands (d .value) s (d .next) c f h)) ∙ g
+          in
+          impossible cc
+      | no h ↦
+          let above : d .value < c .value = omega arith in
+          let is : record { refusal = HopelessRow; place = d .next } ≡ r = cc (sym (after-refused _ (c-hopeless (d .value) s (d .next) c f above)) ∙ g) in
+          let x-good = good-parts b x-read in
+          let y-good = good-parts b y-read in
+          let d-good = good-parts b d-read in
+          let c-good = good-parts b f in
+          rw (← is) (hopelessly (record {
+            row = record { x = x .value; y = y .value; d = d .value; c = c .value };
+            next = c .next;
+            in-range = record {
+              some-x = x-good .1;
+              most-x = x-good .2;
+              some-y = y-good .1;
+              most-y = y-good .2;
+              some-d = d-good .1;
+              most-d = d-good .2;
+              some-c = c-good .1;
+              most-c = c-good .2;
+            };
+            c-above-d = above;
+            before = joined (spelled-stands (x-good .0)) (joined (spelled-stands (y-good .0)) (spelled-stands (d-good .0)));
+            its-c = spelled-stands (c-good .0);
+          }))
+    ]
 
 -- ---- rows
 
--- From the place `at` on stand fewer than n rows, and the values of the next row end badly.
+-- From the place `at` on stand fewer than n rows, and the next row is refused.
 pub record RowsEndBadly (n : ℕ) (s : List ℕ) (at : ℕ) (r : RefusedAt) : Type 0 where
   pub before : List Row
   pub next : ℕ
   pub fewer : length before < n
   pub stand : RowsStand s at before next
-  pub then : EndsBadly valueLimits s next r
+  pub then : RowEnds s next r
 
--- Rows end badly where the values of the first do.
-first-ends-badly : {n : ℕ} {s : List ℕ} {at : ℕ} {r : RefusedAt} → EndsBadly valueLimits s at r → RowsEndBadly (suc n) s at r
+-- Rows end badly where the first is refused.
+first-ends-badly : {n : ℕ} {s : List ℕ} {at : ℕ} {r : RefusedAt} → RowEnds s at r → RowsEndBadly (suc n) s at r
 unfolding flatten
 first-ends-badly {at} e = record {
   before = [];
   next = at;
   fewer = omega arith;
-  stand = record { limits = each-none _; stand = record { here = refl; ends = omega arith } };
+  stand = record { acceptable = each-none _; stand = record { here = refl; ends = omega arith } };
   then = e;
 }
 
@@ -237,7 +358,7 @@ later-ends-badly {q} p e = record {
   before = q ∷ e .before;
   next = e .next;
   fewer = omega (arith, e .fewer);
-  stand = record { limits = each-cons (p .limits) (e .stand .limits); stand = joined (p .stands) (e .stand .stand) };
+  stand = record { acceptable = each-cons (p .acceptable) (e .stand .acceptable); stand = joined (p .stands) (e .stand .stand) };
   then = e .then;
 }
 
@@ -257,20 +378,18 @@ rows-end-badly (suc n) {s} at {r} b inside e = go (readRow s at) refl e (λ next
     go (row.Row q) f g more =
         let one = row-stands at q b f in
         later-ends-badly one (more (q .next) (ends-inside (one .stands) inside) (behind-front (q .row) (readRows n s (q .next)) g))
-    go (row.Refused q) f g more = let same : q ≡ r = cc in first-ends-badly (row-ends-badly b inside (f ∙ ap row.Refused same))
+    go (row.Refused q) f g more = let same : q ≡ r = cc in first-ends-badly (row-ends b inside (f ∙ ap row.Refused same))
 
--- If fewer than n rows stand up to a row with a refused value, reading n rows ends in that refusal.
-pub rows-refused : (n : ℕ) {s : List ℕ} (at : ℕ) (before : List Row) {mid next number place : ℕ} (values : List ℕ) → length before < n
-    → RowsStand s at before mid → FirstValues valueLimits values → PartStands s mid (flatten (map spelling values)) next
-    → (wrong : ValueRefused s next (getD valueLimits (length values) 0) number place)
-    → readRows n s at ≡ refused (record { refusal = wrong .kind; place = place })
+-- If fewer than n rows stand up to a row that is refused, reading n rows ends in that refusal.
+pub rows-refused : (n : ℕ) {s : List ℕ} (at : ℕ) (before : List Row) {mid : ℕ} {r : RefusedAt} → length before < n → RowsStand s at before mid
+    → readRow s mid ≡ row.Refused r → readRows n s at ≡ refused r
 unfolding readRows flatten
-rows-refused zero at before values fewer p first stand wrong = absurd (omega arith)
-rows-refused (suc n) {s} at [] {mid} values fewer p first stand wrong =
+rows-refused zero at before fewer p wrong = absurd (omega arith)
+rows-refused (suc n) {s} at [] {mid} fewer p wrong =
     let same : mid ≡ at = omega (arith, p .stand .ends) in
-    rw (row-refused values first (rw same at stand) wrong)
-rows-refused (suc n) {s} at (q ∷ before) values fewer p first stand wrong =
+    rw (rw same at wrong)
+rows-refused (suc n) {s} at (q ∷ before) fewer p wrong =
     let t = parted (spelledRow q) (flatten (map spelledRow before)) (p .stand) in
-    let one = row-read (record { limits = each-head (p .limits); stands = t .1 }) in
-    let others = rows-refused n (t .0) before values (omega arith) (record { limits = each-tail (p .limits); stand = t .2 }) first stand wrong in
+    let one = row-read (record { acceptable = each-head (p .acceptable); stands = t .1 }) in
+    let others = rows-refused n (t .0) before (omega arith) (record { acceptable = each-tail (p .acceptable); stand = t .2 }) wrong in
     simp (one, others)

@@ -35,14 +35,15 @@ use Rattle.table.specs.SpelledTables.{GoodRows}
 use Rattle.table.proofs.Each.{Each, each-none, each-cons, each-mapped}
 use Rattle.table.proofs.Columns.{map-take}
 use Rattle.table.proofs.Ranges.{limits-of}
-use Rattle.table.proofs.Reading.{four-values, row-in-range}
+use Rattle.table.proofs.Reading.{four-values, row-in-range, row-not-hopeless}
 
 -- ---- rows that were read
 
--- There are n rows, and each is in range.
+-- There are n rows, each is in range, and none has a c above its d.
 record ManyInRange (n : ℕ) (rs : List Row) : Type 0 where
   many : length rs ≡ n
   in-range : Each (λ r. rowInRange r ≡ true) rs
+  not-hopeless : Each (λ r. r .c ≤ r .d) rs
 
 -- If n + 1 rows are read, the first of them is read.
 pub first-row : (n : ℕ) (s : List ℕ) (v : RowRead) {rs : List Row} {next : ℕ} → afterRow v (λ r after. inFront r (readRows n s after)) ≡ rows rs next
@@ -55,15 +56,20 @@ pub other-rows : (r : Row) (v : Rows) {rs : List Row} {next : ℕ} → inFront r
 other-rows r (rows qs next) e = (qs, cc, cc)
 other-rows r (refused at) e = impossible cc
 
--- If n rows are read, there are n of them, each in range.
+-- If n rows are read, there are n of them, each in range and none with a c above its d.
 many-in-range : (n : ℕ) (s : List ℕ) (at : ℕ) {rs : List Row} {next : ℕ} → readRows n s at ≡ rows rs next → ManyInRange n rs
 unfolding readRows
-many-in-range zero s at {rs} e = let none : [] ≡ rs = cc in rw (← none) (record { many = refl; in-range = each-none _ })
+many-in-range zero s at {rs} e = let none : [] ≡ rs = cc in rw (← none) (record { many = refl; in-range = each-none _; not-hopeless = each-none _ })
 many-in-range (suc n) s at e =
     let f = first-row n s (readRow s at) e in
     let o = other-rows (f .0 .row) (readRows n s (f .0 .next)) (f .2) in
     let more = many-in-range n s (f .0 .next) (o .1) in
-    rw (← o .2) (record { many = ap suc (more .many); in-range = each-cons (row-in-range (four-values s at (f .0) (f .1))) (more .in-range) })
+    let four = four-values s at (f .0) (f .1) in
+    rw (← o .2) (record {
+      many = ap suc (more .many);
+      in-range = each-cons (row-in-range four) (more .in-range);
+      not-hopeless = each-cons (row-not-hopeless four) (more .not-hopeless);
+    })
 
 -- If rows are read, their count was read before them, and it is at most the limit of rows.
 pub record CountRead (s : List ℕ) (v : NumberRead) (rs : List Row) (next : ℕ) : Type 0 where
@@ -86,7 +92,7 @@ pub good-rows : (s : List ℕ) (at : ℕ) {rs : List Row} {next : ℕ} → rowsF
 good-rows s at e =
     let c = count-read s at (readAt s at) e in
     let m = many-in-range (c .count .value) s (c .count .next) (c .then) in
-    record { few-rows = omega (arith, m .many, c .few-rows); in-range = m .in-range }
+    record { few-rows = omega (arith, m .many, c .few-rows); in-range = m .in-range; c-within-d = m .not-hopeless }
 
 -- ---- a table
 

@@ -11,7 +11,7 @@ use lib.ListN.{length, take, drop, set, replicate, length-replicate, length-set,
 use lib.Seq.{length-take-le, take-suc-set, drop-set-lt, drop-drop}
 use borrow.Author.Tests.{le-leb, lt-leb}
 use Rattle.kinds.specs.declared.Refusal.{Refusal}
-use Rattle.kinds.specs.declared.Refusal.the-variants.{TooManyRows, ValueOutOfRange}
+use Rattle.kinds.specs.declared.Refusal.the-variants.{TooManyRows, ValueOutOfRange, HopelessRow}
 use Rattle.kinds.specs.declared.RefusedAt.{RefusedAt}
 use Rattle.kinds.proofs.Apart.{impossible}
 use Rattle.numbers.specs.declared.Number.{Number}
@@ -24,9 +24,10 @@ use Rattle.table.specs.declared.RowRead.{RowRead}
 use Rattle.table.specs.declared.RowRead.the-variants as row
 use Rattle.table.specs.declared.RowsAnswer.the-variants as answer
 use Rattle.table.specs.Limits.{maxRows}
-use Rattle.table.specs.Rows.{withinLimit, ruleOfX, ruleOfY, ruleOfD, ruleOfC, fine, rowInRange, testedAt, tested, readValue, afterValue, readRow}
+use Rattle.table.specs.Rows.{withinLimit, ruleOfX, ruleOfY, ruleOfD, rangeOfC, withinD, afterRange, ruleOfC, fine, rowInRange, testedAt}
+use Rattle.table.specs.Rows.{tested, readValue, afterValue, readRow}
 use Rattle.table.specs.Tables.{noRow, heldRows, Rows, rows, refused, inFront, readRows, rowsFrom, heldAs}
-use Rattle.table.proofs.Ranges.{nothing-wrong, out-of-range}
+use Rattle.table.proofs.Ranges.{nothing-wrong, out-of-range, fine-c, within-d, above-d}
 
 -- ---- a value
 
@@ -49,6 +50,42 @@ pub value-misspelled : (rule : ℕ → Option Refusal) (s : List ℕ) (at : ℕ)
     → readValue rule s at ≡ number.Refused r
 value-misspelled rule s at r e = rw e
 
+-- ---- a c, whose rule looks at d after its own range was tested
+
+-- A number that passed the first test goes on to the second.
+second-test : (rule next : ℕ → Option Refusal) (at : ℕ) (v : NumberRead) (n : Number) → tested rule at v ≡ number.Number n
+    → tested (λ c. afterRange (rule c) (next c)) at v ≡ testedAt at (next (n .value)) n
+second-test rule next at (number.Number m) n e = by-rule (rule (m .value)) e
+  where
+    by-rule : (o : Option Refusal) → testedAt at o m ≡ number.Number n → testedAt at (afterRange o (next (m .value))) m ≡ testedAt at (next (n .value)) n
+    by-rule none f = let same : m ≡ n = cc in rw same
+    by-rule (some r) f = impossible cc
+second-test rule next at (number.Refused r) n e = impossible cc
+
+-- A number that the first test refuses stays refused.
+first-test : (rule next : ℕ → Option Refusal) (at : ℕ) (v : NumberRead) (r : RefusedAt) → tested rule at v ≡ number.Refused r
+    → tested (λ c. afterRange (rule c) (next c)) at v ≡ number.Refused r
+first-test rule next at (number.Number m) r e = by-rule (rule (m .value)) e
+  where
+    by-rule : (o : Option Refusal) → testedAt at o m ≡ number.Refused r → testedAt at (afterRange o (next (m .value))) m ≡ number.Refused r
+    by-rule none f = impossible cc
+    by-rule (some q) f = f
+first-test rule next at (number.Refused q) r e = e
+
+module _ (d : ℕ) (s : List ℕ) (at : ℕ) where
+  -- A c in its range that is at most d is answered.
+  pub c-stands : (n : Number) → readValue rangeOfC s at ≡ number.Number n → n .value ≤ d → readValue (ruleOfC d) s at ≡ number.Number n
+  c-stands n e h = second-test rangeOfC (withinD d) at (readAt s at) n e ∙ rw (within-d d (n .value) h)
+
+  -- A c in its range that is above d is refused with 16, at its start.
+  pub c-hopeless : (n : Number) → readValue rangeOfC s at ≡ number.Number n → d < n .value
+      → readValue (ruleOfC d) s at ≡ number.Refused (record { refusal = HopelessRow; place = at })
+  c-hopeless n e h = second-test rangeOfC (withinD d) at (readAt s at) n e ∙ rw (above-d d (n .value) h)
+
+  -- A c that can't be read or is out of its range is refused so.
+  pub c-refused : (r : RefusedAt) → readValue rangeOfC s at ≡ number.Refused r → readValue (ruleOfC d) s at ≡ number.Refused r
+  c-refused r e = first-test rangeOfC (withinD d) at (readAt s at) r e
+
 -- ---- a row
 
 -- After a value that was read the row goes on.
@@ -66,7 +103,7 @@ fine-before at none n k r e = (refl, e)
 fine-before at (some f) n k r e = (cc, cc)
 
 -- If a row is read past a place, a number that is fine stood there.
-value-before : (rule : ℕ → Option Refusal) (s : List ℕ) (at : ℕ) (v : NumberRead) (k : Number → RowRead) (r : RowAt) → readAt s at ≡ v
+pub value-before : (rule : ℕ → Option Refusal) (s : List ℕ) (at : ℕ) (v : NumberRead) (k : Number → RowRead) (r : RowAt) → readAt s at ≡ v
     → afterValue (tested rule at v) k ≡ row.Row r → (n : Number) × ValueAt rule s at n × (k n ≡ row.Row r)
 value-before rule s at (number.Number n) k r q e =
     let p = fine-before at (rule (n .value)) n k r e in
@@ -82,7 +119,7 @@ pub record FourValues (s : List ℕ) (at : ℕ) (r : RowAt) : Type 0 where
   pub x-stands : ValueAt ruleOfX s at x
   pub y-stands : ValueAt ruleOfY s (x .next) y
   pub d-stands : ValueAt ruleOfD s (y .next) d
-  pub c-stands : ValueAt ruleOfC s (d .next) c
+  pub c-stands : ValueAt (ruleOfC (d .value)) s (d .next) c
   pub made-of-them : r ≡ record { row = record { x = x .value; y = y .value; d = d .value; c = c .value }; next = c .next }
 
 -- A row that was read is made of four values.
@@ -91,7 +128,7 @@ four-values s at r e =
     let x = value-before ruleOfX s at _ _ _ refl e in
     let y = value-before ruleOfY s (x .0 .next) _ _ _ refl (x .2) in
     let d = value-before ruleOfD s (y .0 .next) _ _ _ refl (y .2) in
-    let c = value-before ruleOfC s (d .0 .next) _ _ _ refl (d .2) in
+    let c = value-before (ruleOfC (d .0 .value)) s (d .0 .next) _ _ _ refl (d .2) in
     record {
       x = x .0;
       y = y .0;
@@ -106,7 +143,13 @@ four-values s at r e =
 
 -- A row that is made of four such values is in range.
 pub row-in-range : {s : List ℕ} {at : ℕ} {r : RowAt} → FourValues s at r → rowInRange (r .row) ≡ true
-row-in-range p = rw (p .made-of-them, p .x-stands .is-fine, p .y-stands .is-fine, p .d-stands .is-fine, p .c-stands .is-fine)
+row-in-range p =
+    let c = fine-c (p .d .value) (p .c .value) (p .c-stands .is-fine) in
+    rw (p .made-of-them, p .x-stands .is-fine, p .y-stands .is-fine, p .d-stands .is-fine, c .0)
+
+-- Its c is at most its d.
+pub row-not-hopeless : {s : List ℕ} {at : ℕ} {r : RowAt} → FourValues s at r → r .row .c ≤ r .row .d
+row-not-hopeless p = rw (p .made-of-them) (fine-c (p .d .value) (p .c .value) (p .c-stands .is-fine) .1)
 
 -- ---- rows
 

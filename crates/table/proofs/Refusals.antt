@@ -1,13 +1,14 @@
--- Bytes are refused exactly as the rules say: for their row count, for a bad value, for bytes after the rows, or for their H. (docs/RULES.md, 3.7 to 3.12.)
+-- Bytes are refused exactly as the rules say: for their row count, for a bad value, for a hopeless row, for bytes after the rows, or for their H. (docs/RULES.md, 3.3 and 3.7 to 3.12.)
 use Prim.Native.Nat.{ℕ, _+_, _≤_}
 use native.Mathlib.Decide.{decLe}
 use native.Mathlib.Omega.{arith}
 use mathlib.Core.Path.{_≡_, refl, ap, _∙_}
-use mathlib.Core.List.{List, _++_, flatten, map}
+use mathlib.Core.Logic.{_↔_, inl, inr}
+use mathlib.Core.List.{List, _++_, flatten, map, append-assoc}
 use lib.ListN.{length, getD}
 use borrow.Author.Tests.{le-leb, lt-leb, lt-ltb, le-ltb}
 use Rattle.kinds.specs.Numbering.{refusalNumber, refusedWith}
-use Rattle.kinds.specs.declared.Refusal.the-variants.{Misspelled, TooManyRows, ExtraBytes, PeriodTooLong}
+use Rattle.kinds.specs.declared.Refusal.the-variants.{Misspelled, TooManyRows, ExtraBytes, PeriodTooLong, HopelessRow}
 use Rattle.kinds.specs.declared.RefusedAt.{RefusedAt}
 use Rattle.kinds.proofs.Apart.{impossible}
 use Rattle.numbers.specs.declared.Number.{Number}
@@ -25,10 +26,10 @@ use Rattle.table.specs.Period.{periodOf}
 use Rattle.table.specs.Tables.{Rows, rows, refused, readRows, rowsFrom, afterCount, atEnd, afterRows, tableRead}
 use Rattle.table.specs.Answers.{tableSays}
 use Rattle.table.specs.SpelledTables.{spelledRow}
-use Rattle.table.specs.Refusals.{PartStands, valueLimits, ValueNext, RowsEnd, ContentEnds, BadValue, misspelled, out-of-range}
-use Rattle.table.specs.Refusals.{RowsRefusedSo, no-count, too-large-count, bad-value, RefusedSo, bad-rows, bytes-after, long-period}
+use Rattle.table.specs.Refusals.{PartStands, valueLimits, ValueNext, RowsEnd, ContentEnds, BadValue, misspelled, out-of-range, HopelessRowAt, TableRefusal}
+use Rattle.table.specs.Refusals.{RowsRefusedSo, no-count, too-large-count, bad-value, hopeless-row, RefusedSo, bad-rows, bytes-after, long-period}
 use Rattle.table.proofs.Spelling.{parted, joined, ends-inside, number-stands, RowsStand, count-then, rows-then, rows-end}
-use Rattle.table.proofs.BadValues.{RowsEndBadly, rows-end-badly, bad-refused, rows-refused}
+use Rattle.table.proofs.BadValues.{RowsEndBadly, rows-end-badly, bad-refused, row-refused, rows-refused, RowEnds, badly, hopelessly, HopelessHere, hopeless-refused}
 
 -- ---- rows
 
@@ -53,32 +54,67 @@ rows-refused-if-so {s} {place = place} b (bad-value p w) =
     let front = spelling (p .count) in
     let t = parted front (flatten (map spelledRow (p .rows)) ++ flatten (map spelling (p .values))) (p .before) in
     let u = parted (flatten (map spelledRow (p .rows))) (flatten (map spelling (p .values))) (t .2) in
-    let stand : RowsStand s (t .0) (p .rows) (u .0) = record { limits = p .rows-within; stand = u .1 } in
+    let stand : RowsStand s (t .0) (p .rows) (u .0) = record { acceptable = p .rows-acceptable; stand = u .1 } in
     let wrong = bad-refused b (rw (p .its-limit) at w) in
     record {
       how = record { refusal = wrong .kind; place = place };
       its-number = wrong .its-number;
       its-place = refl;
-      answer = count-then (p .count) (p .few-rows) (t .1) ∙ rows-refused (p .count) (t .0) (p .rows) (p .values) (p .fewer) stand (p .first-values) (u .2) wrong;
+      answer = count-then (p .count) (p .few-rows) (t .1) ∙ rows-refused (p .count) (t .0) (p .rows) (p .fewer) stand (row-refused (p .values) (p .first-values) (u .2) wrong);
+    }
+rows-refused-if-so {s} b (hopeless-row {at} p) =
+    let r = p .row in
+    let first = spelling (r .x) ++ (spelling (r .y) ++ spelling (r .d)) in
+    let t = parted (spelling (p .count)) (flatten (map spelledRow (p .rows)) ++ first) (p .before) in
+    let u = parted (flatten (map spelledRow (p .rows))) first (t .2) in
+    let stand : RowsStand s (t .0) (p .rows) (u .0) = record { acceptable = p .rows-acceptable; stand = u .1 } in
+    let here : HopelessHere s (u .0) at = record {
+      row = r;
+      next = p .next;
+      in-range = p .in-range;
+      c-above-d = p .c-above-d;
+      before = u .2;
+      its-c = p .its-c;
+    } in
+    record {
+      how = record { refusal = HopelessRow; place = at };
+      its-number = refl;
+      its-place = refl;
+      answer = count-then (p .count) (p .few-rows) (t .1) ∙ rows-refused (p .count) (t .0) (p .rows) (p .fewer) stand (hopeless-refused here);
     }
 
--- If rows end badly after a count of at most the limit of rows, the rules refuse them so, for the bad value.
+-- If rows end badly after a count of at most the limit of rows, the rules refuse them so, for the bad value or the hopeless row.
 badly-behind-count : {s : List ℕ} {from c n : ℕ} {r : RefusedAt} → n ≤ maxRows → PartStands s from (spelling n) c → RowsEndBadly n s c r
     → RowsRefusedSo s from (refusalNumber (r .refusal)) (r .place)
-badly-behind-count {s} {from} {n = n} few p e =
-    let values = e .then in
-    let next : ValueNext s from (values .next) (getD valueLimits (length (values .values)) 0) = record {
+badly-behind-count {s} {from} {n = n} few p e = last (e .then)
+  where
+    last : {r : RefusedAt} → RowEnds s (e .next) r → RowsRefusedSo s from (refusalNumber (r .refusal)) (r .place)
+    last (badly values) =
+        let next : ValueNext s from (values .next) (getD valueLimits (length (values .values)) 0) = record {
+          count = n;
+          rows = e .before;
+          values = values .values;
+          few-rows = few;
+          fewer = e .fewer;
+          rows-acceptable = e .stand .acceptable;
+          first-values = values .first;
+          its-limit = refl;
+          before = joined p (joined (e .stand .stand) (values .stand));
+        } in
+        bad-value next (values .wrong)
+    last (hopelessly here) = hopeless-row (record {
       count = n;
       rows = e .before;
-      values = values .values;
+      row = here .row;
+      next = here .next;
       few-rows = few;
       fewer = e .fewer;
-      rows-within = e .stand .limits;
-      first-values = values .first;
-      its-limit = refl;
-      before = joined p (joined (e .stand .stand) (values .stand));
-    } in
-    bad-value next (values .wrong)
+      rows-acceptable = e .stand .acceptable;
+      in-range = here .in-range;
+      c-above-d = here .c-above-d;
+      before = joined p (joined (e .stand .stand) (here .before));
+      its-c = here .its-c;
+    })
 
 -- If reading the rows is refused, the rules refuse them so.
 rows-so-if-refused : {s : List ℕ} (from : ℕ) {r : RefusedAt} → Bytes s → from ≤ length s → rowsFrom s from ≡ refused r
@@ -138,19 +174,32 @@ so-if-refused s r b e = after (rowsFrom s 0) refl e
     after (rows rs at) f g = refused-at-end {content = record { rows = rs }} (rows-end 0 b f) g
     after (refused q) f g = let same : q ≡ r = cc in bad-rows (rows-so-if-refused 0 b (omega arith) (f ∙ ap refused same))
 
--- The rules refuse bytes with the numbers 1 to 5 only.
-pub one-to-five : {s : List ℕ} {number place : ℕ} → RefusedSo s number place → (1 ≤ number) × (number ≤ 5)
-one-to-five (bad-rows (no-count none)) = (omega arith, omega arith)
-one-to-five (bad-rows (too-large-count n read many)) = (omega arith, omega arith)
-one-to-five (bad-rows (bad-value next bad)) = of-a-value bad
+-- The rules refuse bytes with the numbers 1 to 5 and 16 only.
+pub table-refusal : {s : List ℕ} {number place : ℕ} → RefusedSo s number place → TableRefusal number
+table-refusal (bad-rows (no-count none)) = inl (omega arith, omega arith)
+table-refusal (bad-rows (too-large-count n read many)) = inl (omega arith, omega arith)
+table-refusal (bad-rows (bad-value next bad)) = of-a-value bad
   where
-    of-a-value : {s : List ℕ} {at most number place : ℕ} → BadValue s at most number place → (1 ≤ number) × (number ≤ 5)
-    of-a-value (misspelled none) = (omega arith, omega arith)
-    of-a-value (out-of-range n read outside) = (omega arith, omega arith)
-one-to-five (bytes-after ended more) = (omega arith, omega arith)
-one-to-five (long-period ended long) = (omega arith, omega arith)
+    of-a-value : {s : List ℕ} {at most number place : ℕ} → BadValue s at most number place → TableRefusal number
+    of-a-value (misspelled none) = inl (omega arith, omega arith)
+    of-a-value (out-of-range n read outside) = inl (omega arith, omega arith)
+table-refusal (bad-rows (hopeless-row p)) = inr refl
+table-refusal (bytes-after ended more) = inl (omega arith, omega arith)
+table-refusal (long-period ended long) = inl (omega arith, omega arith)
 
--- The refusals of a table are numbered 1 to 5.
-pub refused-with-one-to-five : (s : List ℕ) (r : RefusedAt) → Bytes s → tableRead s .answer ≡ Refused r
-    → (1 ≤ refusalNumber (r .refusal)) × (refusalNumber (r .refusal) ≤ 5)
-refused-with-one-to-five s r bytes e = one-to-five (so-if-refused s r bytes e)
+-- The refusals of a table are numbered 1 to 5 and 16.
+pub refused-as-a-table : (s : List ℕ) (r : RefusedAt) → Bytes s → tableRead s .answer ≡ Refused r → TableRefusal (refusalNumber (r .refusal))
+refused-as-a-table s r bytes e = table-refusal (so-if-refused s r bytes e)
+
+-- The rules refuse bytes with 16 for a hopeless row only.
+pub sixteen-is-hopeless : {s : List ℕ} {number place : ℕ} → number ≡ 16 → RefusedSo s number place → HopelessRowAt s 0 place
+sixteen-is-hopeless e (bad-rows (no-count none)) = absurd (omega arith)
+sixteen-is-hopeless e (bad-rows (too-large-count n read many)) = absurd (omega arith)
+sixteen-is-hopeless {s} e (bad-rows (bad-value next bad)) = of-a-value e bad
+  where
+    of-a-value : {at most number place : ℕ} → number ≡ 16 → BadValue s at most number place → HopelessRowAt s 0 place
+    of-a-value f (misspelled none) = absurd (omega arith)
+    of-a-value f (out-of-range n read outside) = absurd (omega arith)
+sixteen-is-hopeless e (bad-rows (hopeless-row p)) = p
+sixteen-is-hopeless e (bytes-after ended more) = absurd (omega arith)
+sixteen-is-hopeless e (long-period ended long) = absurd (omega arith)

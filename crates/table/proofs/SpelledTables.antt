@@ -42,7 +42,7 @@ spelled-is-read content a =
     let s = spelledTable content in
     let ended : RowsEnd s 0 (length s) (content .rows) = record {
       few-rows = a .good-rows .few-rows;
-      rows-within = λ r m. limits-of r (a .good-rows .in-range r m);
+      rows-acceptable = λ r m. record { within-limits = limits-of r (a .good-rows .in-range r m); c-within-d = a .good-rows .c-within-d r m };
       before = stands-whole s;
     } in
     ap (afterRows s) (rows-then ended) ∙ simp (le-ltb (length s) (length s) (omega arith), le-leb (periodOf content) maxPeriod (a .period-within))
@@ -92,7 +92,11 @@ accepted-is-spelled s h b e =
       rowsAlone (r .all),
       record {
         acceptable = record {
-          good-rows = record { few-rows = ended .few-rows; in-range = λ q m. in-range-of q (ended .rows-within q m) };
+          good-rows = record {
+            few-rows = ended .few-rows;
+            in-range = λ q m. in-range-of q (ended .rows-acceptable q m .within-limits);
+            c-within-d = λ q m. ended .rows-acceptable q m .c-within-d;
+          };
           period-within = r .period-within;
         };
         spelled = ended .before .here ∙ rw (drop-of-length-le s (r .nothing-after), append-nil);
@@ -120,6 +124,7 @@ usable-content s h content a =
     record {
       accepted-as = a;
       within-limits = λ r m. limits-of r (good r m);
+      c-within-d = a .acceptable .good-rows .c-within-d;
       some-period = rw (a .period) (least .positive);
       most-period = rw (a .period) (a .acceptable .period-within);
       divides-period = λ y m. rw (a .period) (least .multiple y m);

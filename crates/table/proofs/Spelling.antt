@@ -20,11 +20,11 @@ use Rattle.table.specs.declared.RowRead.the-variants as row
 use Rattle.table.specs.Limits.{maxRows, maxX, maxY, maxD, maxC}
 use Rattle.table.specs.Rows.{withinLimit, readValue, readRow}
 use Rattle.table.specs.Tables.{rows, readRows, rowsFrom}
-use Rattle.table.specs.SpelledTables.{spelledRow, WithinLimits}
+use Rattle.table.specs.SpelledTables.{spelledRow, AcceptableRow}
 use Rattle.table.specs.Refusals.{PartStands, RowsEnd}
 use Rattle.table.proofs.Each.{Each, each-none, each-cons, each-head, each-tail}
 use Rattle.table.proofs.Ranges.{within-fine, limits-of}
-use Rattle.table.proofs.Reading.{value-stands, four-values, row-in-range}
+use Rattle.table.proofs.Reading.{value-stands, c-stands, four-values, row-in-range, row-not-hopeless}
 use Rattle.table.proofs.ReadTables.{first-row, other-rows, count-read}
 
 -- ---- parts of the bytes
@@ -76,15 +76,15 @@ value-read {s} {at} most v m l h p = value-stands (withinLimit most) s at _ (rec
 
 -- ---- a row
 
--- From the place `at` up to `next` stands the spelling of the row r, which is within its limits.
+-- From the place `at` up to `next` stands the spelling of the row r, which a table may have.
 pub record RowStands (s : List ℕ) (at : ℕ) (r : Row) (next : ℕ) : Type 0 where
-  pub limits : WithinLimits r
+  pub acceptable : AcceptableRow r
   pub stands : PartStands s at (spelledRow r) next
 
--- A row within its limits is read where its spelling stands.
+-- A row that a table may have is read where its spelling stands.
 pub row-read : {s : List ℕ} {at next : ℕ} {r : Row} → RowStands s at r next → readRow s at ≡ row.Row (record { row = r; next = next })
 row-read {r} p =
-    let w = p .limits in
+    let w = p .acceptable .within-limits in
     let x = parted (spelling (r .x)) (spelling (r .y) ++ (spelling (r .d) ++ spelling (r .c))) (p .stands) in
     let y = parted (spelling (r .y)) (spelling (r .d) ++ spelling (r .c)) (x .2) in
     let d = parted (spelling (r .d)) (spelling (r .c)) (y .2) in
@@ -92,10 +92,10 @@ row-read {r} p =
       value-read maxX (r .x) (omega arith) (w .some-x) (w .most-x) (x .1),
       value-read maxY (r .y) (omega arith) (w .some-y) (w .most-y) (y .1),
       value-read maxD (r .d) (omega arith) (w .some-d) (w .most-d) (d .1),
-      value-read maxC (r .c) (omega arith) (w .some-c) (w .most-c) (d .2),
+      c-stands (r .d) _ (d .0) _ (value-read maxC (r .c) (omega arith) (w .some-c) (w .most-c) (d .2)) (p .acceptable .c-within-d),
     )
 
--- Where a row is read, its spelling stands, and it is within its limits.
+-- Where a row is read, its spelling stands, and a table may have it.
 pub row-stands : {s : List ℕ} (at : ℕ) (r : RowAt) → Bytes s → readRow s at ≡ row.Row r → RowStands s at (r .row) (r .next)
 row-stands {s} at r b e =
     let v = four-values s at r e in
@@ -103,32 +103,35 @@ row-stands {s} at r b e =
     let y = number-stands (v .x .next) (v .y) b (v .y-stands .reads) in
     let d = number-stands (v .y .next) (v .d) b (v .d-stands .reads) in
     let c = number-stands (v .d .next) (v .c) b (v .c-stands .reads) in
-    record { limits = limits-of (r .row) (row-in-range v); stands = rw (v .made-of-them) (joined x (joined y (joined d c))) }
+    record {
+      acceptable = record { within-limits = limits-of (r .row) (row-in-range v); c-within-d = row-not-hopeless v };
+      stands = rw (v .made-of-them) (joined x (joined y (joined d c)));
+    }
 
 -- ---- rows, one after another
 
--- From the place `at` up to `next` stand the spellings of the rows, one after another, and each row is within its limits.
+-- From the place `at` up to `next` stand the spellings of the rows, one after another, and a table may have each row.
 pub record RowsStand (s : List ℕ) (at : ℕ) (rs : List Row) (next : ℕ) : Type 0 where
-  pub limits : Each WithinLimits rs
+  pub acceptable : Each AcceptableRow rs
   pub stand : PartStands s at (flatten (map spelledRow rs)) next
 
--- Rows within their limits are read where their spellings stand.
+-- Rows that a table may have are read where their spellings stand.
 pub rows-read : {s : List ℕ} {at next : ℕ} (rs : List Row) → RowsStand s at rs next → readRows (length rs) s at ≡ rows rs next
 unfolding readRows flatten
 rows-read [] p = ap (rows []) (omega arith)
 rows-read (r ∷ rs) p =
     let t = parted (spelledRow r) (flatten (map spelledRow rs)) (p .stand) in
-    let one = row-read (record { limits = each-head (p .limits); stands = t .1 }) in
-    let more = rows-read rs (record { limits = each-tail (p .limits); stand = t .2 }) in
+    let one = row-read (record { acceptable = each-head (p .acceptable); stands = t .1 }) in
+    let more = rows-read rs (record { acceptable = each-tail (p .acceptable); stand = t .2 }) in
     simp (one, more)
 
--- Where n rows are read, their spellings stand, and each row is within its limits.
+-- Where n rows are read, their spellings stand, and a table may have each row.
 pub rows-stand : {s : List ℕ} (n at : ℕ) (rs : List Row) (next : ℕ) → Bytes s → readRows n s at ≡ rows rs next
     → (length rs ≡ n) × RowsStand s at rs next
 unfolding readRows flatten
 rows-stand zero at [] next b e =
     let same : at ≡ next = cc in
-    (refl, record { limits = each-none _; stand = record { here = rw same; ends = omega arith } })
+    (refl, record { acceptable = each-none _; stand = record { here = rw same; ends = omega arith } })
 rows-stand zero at (r ∷ rs) next b e = impossible cc
 rows-stand {s} (suc n) at rs next b e =
     let f = first-row n s (readRow s at) e in
@@ -138,7 +141,7 @@ rows-stand {s} (suc n) at rs next b e =
     rw (← o .2) (
       ap suc (more .0),
       record {
-        limits = each-cons (one .limits) (more .1 .limits);
+        acceptable = each-cons (one .acceptable) (more .1 .acceptable);
         stand = joined (one .stands) (more .1 .stand);
       },
     )
@@ -153,7 +156,7 @@ count-then n few p = simp (number-read n (omega arith) p, le-leb n maxRows few)
 pub rows-then : {s : List ℕ} {from at : ℕ} {rs : List Row} → RowsEnd s from at rs → rowsFrom s from ≡ rows rs at
 rows-then {s} {from} {at} {rs} p =
     let t = parted (spelling (length rs)) (flatten (map spelledRow rs)) (p .before) in
-    count-then (length rs) (p .few-rows) (t .1) ∙ rows-read rs (record { limits = p .rows-within; stand = t .2 })
+    count-then (length rs) (p .few-rows) (t .1) ∙ rows-read rs (record { acceptable = p .rows-acceptable; stand = t .2 })
 
 -- If rows are read up to a place, they end there in the sense of `RowsEnd`.
 pub rows-end : {s : List ℕ} (from : ℕ) {at : ℕ} {rs : List Row} → Bytes s → rowsFrom s from ≡ rows rs at → RowsEnd s from at rs
@@ -161,4 +164,4 @@ rows-end {s} from {at} {rs} b e =
     let c = count-read s from (readAt s from) e in
     let t = rows-stand (c .count .value) (c .count .next) rs at b (c .then) in
     let counted : PartStands s from (spelling (length rs)) (c .count .next) = rw (t .0) (number-stands from (c .count) b (c .was-read)) in
-    record { few-rows = omega (arith, t .0, c .few-rows); rows-within = t .1 .limits; before = joined counted (t .1 .stand) }
+    record { few-rows = omega (arith, t .0, c .few-rows); rows-acceptable = t .1 .acceptable; before = joined counted (t .1 .stand) }

@@ -1,16 +1,16 @@
 -- The laws of a table, proved for what its answers say: bytes are accepted and refused exactly when the rules say so. (docs/RULES.md, section 3.)
 use Prim.Native.Nat.{ℕ}
-use mathlib.Core.Path.{_≡_, ap}
+use mathlib.Core.Path.{_≡_, refl, ap}
 use mathlib.Core.List.{List}
 use Rattle.table.specs.declared.TableRead.{TableRead}
 use Rattle.table.specs.Tables.{tableRead, contentOf}
 use Rattle.table.specs.Answers.{tableSays}
 use Rattle.table.specs.TableLaws.{SpelledIsAccepted, AcceptedIsSpelled, AcceptedExactly, AcceptedIsUsable, RefusedIsEmpty}
-use Rattle.table.specs.Refusals.{RefusedSo, RefusedExactly, RefusedWithOneToFive}
+use Rattle.table.specs.Refusals.{RefusedSo, bad-rows, hopeless-row, RefusedExactly, RefusedAsATable, RefusedWithSixteen}
 use Rattle.table.proofs.Answers.{said-accepted, said-refused}
 use Rattle.table.proofs.SpelledTables as cases
 use Rattle.table.proofs.Tables as tables
-use Rattle.table.proofs.Refusals.{says-refused-if-so, so-if-refused, one-to-five}
+use Rattle.table.proofs.Refusals.{says-refused-if-so, so-if-refused, table-refusal, sixteen-is-hopeless}
 
 pub spelled-is-accepted : SpelledIsAccepted
 spelled-is-accepted content a =
@@ -42,5 +42,11 @@ refused-exactly s number place b = (
   says-refused-if-so b,
 )
 
-pub refused-with-one-to-five : RefusedWithOneToFive
-refused-with-one-to-five s number place b e = one-to-five (refused-exactly s number place b .0 e)
+pub refused-as-a-table : RefusedAsATable
+refused-as-a-table s number place b e = table-refusal (refused-exactly s number place b .0 e)
+
+pub refused-with-sixteen : RefusedWithSixteen
+refused-with-sixteen s place b = (
+  λ e. sixteen-is-hopeless refl (refused-exactly s 16 place b .0 e),
+  λ p. refused-exactly s 16 place b .1 (bad-rows (hopeless-row p)),
+)

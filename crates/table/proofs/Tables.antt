@@ -52,7 +52,7 @@ unused-held rs i h =
 
 -- A table may have no rows at all.
 no-rows-good : GoodRows []
-no-rows-good = record { few-rows = omega arith; in-range = each-none _ }
+no-rows-good = record { few-rows = omega arith; in-range = each-none _; c-within-d = each-none _ }
 
 -- ---- tables in range
 
@@ -64,6 +64,7 @@ good-in-range content good =
       few-rows = good .few-rows;
       all-places = places-held rs good;
       rows-in-range = λ i h. rw (row-held rs i h) (good .in-range (getD rs i noRow) (stands-in rs i noRow h));
+      c-within-d = λ i h. rw (row-held rs i h) (good .c-within-d (getD rs i noRow) (stands-in rs i noRow h));
     }
 
 module _ {t : Table} (r : InRange t) where

@@ -1,5 +1,5 @@
 -- Which bytes are refused as a table, with which number and at which place. There is one case for each test, in the order of the tests. A case describes the
--- bytes before the place by their spelling, and not by what the reader does with them. (docs/RULES.md, 3.7 to 3.12.)
+-- bytes before the place by their spelling, and not by what the reader does with them. (docs/RULES.md, 3.3 and 3.7 to 3.12.)
 use Prim.Native.Nat.{ℕ, _+_, _≤_, _<_}
 use mathlib.Core.Path.{_≡_}
 use mathlib.Core.Logic.{_↔_, _⊎_}
@@ -13,7 +13,7 @@ use Rattle.table.specs.declared.Row.{Row}
 use Rattle.table.specs.Limits.{maxRows, maxX, maxY, maxD, maxC, maxPeriod}
 use Rattle.table.specs.Content.{Content}
 use Rattle.table.specs.Period.{periodOf}
-use Rattle.table.specs.SpelledTables.{WithinLimits, spelledRow, spelledRows, SaysRefused}
+use Rattle.table.specs.SpelledTables.{WithinLimits, AcceptableRow, spelledRow, spelledRows, SaysRefused}
 
 -- In the bytes s, `part` stands from the place `at` on, and `next` is the place right after it.
 pub record PartStands (s : List ℕ) (at : ℕ) (part : List ℕ) (next : ℕ) : Type 0 where
@@ -32,14 +32,14 @@ pub record FirstValues (limits values : List ℕ) : Type 0 where
   pub within : (i : ℕ) → i < length values → (1 ≤ getD values i 0) × (getD values i 0 ≤ getD limits i 0)
 
 -- No test before the place `at` refuses, and a value with the limit `most` begins there. Between the row count's place `from` and `at` stand a row count of at
--- most the limit of rows, fewer rows than it counts, and the first values of the next row, all of them in range. (3.7)
+-- most the limit of rows, fewer rows than it counts, each of which a table may have, and the first values of the next row, all of them in range. (3.7)
 pub record ValueNext (s : List ℕ) (from at most : ℕ) : Type 0 where
   pub count : ℕ
   pub rows : List Row
   pub values : List ℕ
   pub few-rows : count ≤ maxRows
   pub fewer : length rows < count
-  pub rows-within : (r : Row) → List·Memᴰ r rows → WithinLimits r
+  pub rows-acceptable : (r : Row) → List·Memᴰ r rows → AcceptableRow r
   pub first-values : FirstValues valueLimits values
   pub its-limit : most ≡ getD valueLimits (length values) 0
   pub before : PartStands s from (spelling count ++ (flatten (map spelledRow rows) ++ flatten (map spelling values))) at
@@ -47,7 +47,7 @@ pub record ValueNext (s : List ℕ) (from at most : ℕ) : Type 0 where
 -- No test before the place `at` refuses, and the rows end there: their spelling stands between the row count's place `from` and `at`. (3.6, 3.7)
 pub record RowsEnd (s : List ℕ) (from at : ℕ) (rows : List Row) : Type 0 where
   pub few-rows : length rows ≤ maxRows
-  pub rows-within : (r : Row) → List·Memᴰ r rows → WithinLimits r
+  pub rows-acceptable : (r : Row) → List·Memᴰ r rows → AcceptableRow r
   pub before : PartStands s from (spelledRows rows) at
 
 -- A value that begins at `at` is refused with 1, at its bad byte, if it can't be read, and with 3, at its start, if it is out of its range. (3.8, 3.10)
@@ -55,7 +55,23 @@ pub data BadValue (s : List ℕ) (at most : ℕ) : (number place : ℕ) → Type
   misspelled : {place : ℕ} → BadByteAt s at place → BadValue s at most 1 place
   out-of-range : (n : Number) → Spelled s at n → (n .value ≡ 0) ⊎ (most < n .value) → BadValue s at most 3 at
 
--- The rules refuse the rows whose count stands at the place `from`, with this number and at this place. (3.7 to 3.10)
+-- No test before the place `at` refuses, the c of a row begins there, and this row is hopeless. Between the row count's place `from` and `at` stand a row count of
+-- at most the limit of rows, fewer rows than it counts, each of which a table may have, and the x, y and d of the next row. Its four values are in range, and its
+-- c is above its d. (3.3)
+pub record HopelessRowAt (s : List ℕ) (from at : ℕ) : Type 0 where
+  pub count : ℕ
+  pub rows : List Row
+  pub row : Row
+  pub next : ℕ
+  pub few-rows : count ≤ maxRows
+  pub fewer : length rows < count
+  pub rows-acceptable : (r : Row) → List·Memᴰ r rows → AcceptableRow r
+  pub in-range : WithinLimits row
+  pub c-above-d : row .d < row .c
+  pub before : PartStands s from (spelling count ++ (flatten (map spelledRow rows) ++ (spelling (row .x) ++ (spelling (row .y) ++ spelling (row .d))))) at
+  pub its-c : PartStands s at (spelling (row .c)) next
+
+-- The rules refuse the rows whose count stands at the place `from`, with this number and at this place. (3.3, 3.7 to 3.10)
 pub data RowsRefusedSo (s : List ℕ) (from : ℕ) : (number place : ℕ) → Type 0 where
   -- If the row count can't be read, that is refusal 1, at its bad byte. (3.8)
   no-count : {place : ℕ} → BadByteAt s from place → RowsRefusedSo s from 1 place
@@ -63,6 +79,8 @@ pub data RowsRefusedSo (s : List ℕ) (from : ℕ) : (number place : ℕ) → Ty
   too-large-count : (n : Number) → Spelled s from n → maxRows < n .value → RowsRefusedSo s from 2 from
   -- If a value can't be read, that is refusal 1, at its bad byte. If it is out of its range, that is refusal 3, at its start. (3.8, 3.10)
   bad-value : {number place at most : ℕ} → ValueNext s from at most → BadValue s at most number place → RowsRefusedSo s from number place
+  -- If a row's four values are in range and its c is above its d, that is refusal 16, at the start of c, whatever follows. (3.3)
+  hopeless-row : {at : ℕ} → HopelessRowAt s from at → RowsRefusedSo s from 16 at
 
 -- ---- tables
 
@@ -70,14 +88,18 @@ pub data RowsRefusedSo (s : List ℕ) (from : ℕ) : (number place : ℕ) → Ty
 abbrev pub ContentEnds : List ℕ → (at : ℕ) → Content → Type 0
 ContentEnds s at content = RowsEnd s 0 at (content .rows)
 
--- The rules refuse the bytes s as a table, with this number and at this place. (3.7 to 3.12)
+-- The rules refuse the bytes s as a table, with this number and at this place. (3.3, 3.7 to 3.12)
 pub data RefusedSo (s : List ℕ) : (number place : ℕ) → Type 0 where
-  -- If the rules refuse the rows, whose count stands at place 0, that is refusal 1, 2 or 3. (3.8 to 3.10)
+  -- If the rules refuse the rows, whose count stands at place 0, that is refusal 1, 2, 3 or 16. (3.3, 3.8 to 3.10)
   bad-rows : {number place : ℕ} → RowsRefusedSo s 0 number place → RefusedSo s number place
   -- If there are bytes after the last row, that is refusal 4, at the first of them. (3.11)
   bytes-after : {at : ℕ} {content : Content} → ContentEnds s at content → at < length s → RefusedSo s 4 at
   -- If H is above 1,048,576, that is refusal 5, at the table's length. (3.12)
   long-period : {content : Content} → ContentEnds s (length s) content → maxPeriod < periodOf content → RefusedSo s 5 (length s)
+
+-- A table is refused with these numbers and no other: 1 to 5 and 16. (10.4)
+abbrev pub TableRefusal : (number : ℕ) → Type 0
+TableRefusal number = ((1 ≤ number) × (number ≤ 5)) ⊎ (number ≡ 16)
 
 -- ---- what is proved (proofs/TableAnswers.antt and BadBytes.antt)
 
@@ -90,6 +112,10 @@ RefusedExactly = (s : List ℕ) (number place : ℕ) → Bytes s → SaysRefused
 abbrev pub RefusedAtTheFirstBadByte : Type 0
 RefusedAtTheFirstBadByte = (s : List ℕ) (place : ℕ) → Bytes s → SaysRefused s 1 place → FirstBadByte s place
 
--- Bytes are refused as a table with the numbers 1 to 5 only. (10.4)
-abbrev pub RefusedWithOneToFive : Type 0
-RefusedWithOneToFive = (s : List ℕ) (number place : ℕ) → Bytes s → SaysRefused s number place → (1 ≤ number) × (number ≤ 5)
+-- Bytes are refused as a table with the numbers 1 to 5 and 16 only. (10.4)
+abbrev pub RefusedAsATable : Type 0
+RefusedAsATable = (s : List ℕ) (number place : ℕ) → Bytes s → SaysRefused s number place → TableRefusal number
+
+-- Bytes are refused with 16 exactly where a row is hopeless and no test before its c refuses, and at the start of that c. (3.3)
+abbrev pub RefusedWithSixteen : Type 0
+RefusedWithSixteen = (s : List ℕ) (place : ℕ) → Bytes s → SaysRefused s 16 place ↔ HopelessRowAt s 0 place

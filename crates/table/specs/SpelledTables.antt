@@ -25,6 +25,11 @@ pub record WithinLimits (r : Row) : Type 0 where
   pub some-c : 1 ≤ r .c
   pub most-c : r .c ≤ maxC
 
+-- A table may have this row: each value is from 1 to its limit, and c is at most d. (3.2, 3.3)
+pub record AcceptableRow (r : Row) : Type 0 where
+  pub within-limits : WithinLimits r
+  pub c-within-d : r .c ≤ r .d
+
 -- A row is spelled as its x, y, d and c, one after the other. (3.6)
 abbrev pub spelledRow : Row → List ℕ
 spelledRow r = spelling (r .x) ++ (spelling (r .y) ++ (spelling (r .d) ++ spelling (r .c)))
@@ -33,10 +38,11 @@ spelledRow r = spelling (r .x) ++ (spelling (r .y) ++ (spelling (r .d) ++ spelli
 abbrev pub spelledRows : List Row → List ℕ
 spelledRows rows = spelling (length rows) ++ flatten (map spelledRow rows)
 
--- A table may have these rows: there are at most as many as the limit of rows says, and each is in range. (3.1, 3.2)
+-- A table may have these rows: there are at most as many as the limit of rows says, each is in range, and none has a c above its d. (3.1 to 3.3)
 pub record GoodRows (rows : List Row) : Type 0 where
   pub few-rows : length rows ≤ maxRows
   pub in-range : (r : Row) → List·Memᴰ r rows → rowInRange r ≡ true
+  pub c-within-d : (r : Row) → List·Memᴰ r rows → r .c ≤ r .d
 
 -- A table is spelled as its rows are, with nothing after them. (3.6)
 abbrev pub spelledTable : Content → List ℕ
@@ -54,11 +60,12 @@ pub record AcceptedAs (s : List ℕ) (h : ℕ) (content : Content) : Type 0 wher
   pub read-as : tableRead s .table ≡ tableOf content
   pub period : h ≡ periodOf content
 
--- Other crates may use this about an accepted table: the bytes s were accepted as this content, each row is within its limits, and h is at least 1, at most
--- 1,048,576 and a multiple of each y. (3.2, 3.4)
+-- Other crates may use this about an accepted table: the bytes s were accepted as this content, each row is within its limits and has a c of at most its d, and
+-- h is at least 1, at most 1,048,576 and a multiple of each y. (3.2 to 3.4)
 pub record UsableContent (s : List ℕ) (h : ℕ) (content : Content) : Type 0 where
   pub accepted-as : AcceptedAs s h content
   pub within-limits : (r : Row) → List·Memᴰ r (content .rows) → WithinLimits r
+  pub c-within-d : (r : Row) → List·Memᴰ r (content .rows) → r .c ≤ r .d
   pub some-period : 1 ≤ h
   pub most-period : h ≤ maxPeriod
   pub divides-period : (y : ℕ) → List·Memᴰ y (periodsOf content) → y ∣ h

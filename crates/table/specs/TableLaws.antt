@@ -1,5 +1,5 @@
 -- The laws of tables: which bytes are accepted, as what, and what every table that was read holds. (docs/RULES.md, section 3.)
-use Prim.Native.Nat.{ℕ, _≤_}
+use Prim.Native.Nat.{ℕ, _≤_, _<_}
 use mathlib.Core.Path.{_≡_}
 use mathlib.Core.Logic.{_↔_}
 use mathlib.Core.Bool.{true}
@@ -10,9 +10,9 @@ use Rattle.table.specs.declared.Row.{Row}
 use Rattle.table.specs.Limits.{maxRows, limits}
 use Rattle.table.specs.Content.{Content}
 use Rattle.table.specs.Period.{periodOf}
-use Rattle.table.specs.Rows.{rowInRange}
+use Rattle.table.specs.Rows.{rowInRange, hopeless, rowAcceptable}
 use Rattle.table.specs.Tables.{contentOf, tableOf, emptyTable, noRow, InRange, tableRead}
-use Rattle.table.specs.SpelledTables.{WithinLimits, spelledTable, Acceptable, AcceptedAs, UsableContent, SaysAccepted, SaysRefused}
+use Rattle.table.specs.SpelledTables.{WithinLimits, AcceptableRow, spelledTable, Acceptable, AcceptedAs, UsableContent, SaysAccepted, SaysRefused}
 
 -- ---- what is proved (proofs/SpelledTables.antt and proofs/TableAnswers.antt)
 
@@ -23,6 +23,14 @@ LimitsOfTables = limits ≡ record { rows = maxRows; x = 64; y = 4096; d = 16384
 -- A row passes the test `rowInRange` exactly when each of its values is from 1 to its limit. (3.2)
 abbrev pub InRangeMeans : Type 0
 InRangeMeans = (r : Row) → (rowInRange r ≡ true) ↔ WithinLimits r
+
+-- A row passes the test `hopeless` exactly when its c is above its d. (3.3)
+abbrev pub HopelessMeans : Type 0
+HopelessMeans = (r : Row) → (hopeless r ≡ true) ↔ (r .d < r .c)
+
+-- A row passes the test `rowAcceptable` exactly when each of its values is from 1 to its limit and its c is at most its d. (3.2, 3.3)
+abbrev pub AcceptableMeans : Type 0
+AcceptableMeans = (r : Row) → (rowAcceptable r ≡ true) ↔ AcceptableRow r
 
 -- The table that holds a content has exactly that content.
 abbrev pub ContentOfTable : Type 0
@@ -50,7 +58,7 @@ SpellingsOfTablesDiffer = (content other : Content) → Acceptable content → A
 abbrev pub AcceptedIsUsable : Type 0
 AcceptedIsUsable = (s : List ℕ) (h : ℕ) → Bytes s → SaysAccepted s h → UsableContent s h (contentOf (tableRead s .table))
 
--- Whatever the bytes are, the table that they are read as is in range. (3.1, 3.2)
+-- Whatever the bytes are, the table that they are read as is in range, and none of its rows has a c above its d. (3.1 to 3.3)
 abbrev pub ReadInRange : Type 0
 ReadInRange = (s : List ℕ) → Bytes s → InRange (tableRead s .table)
 

@@ -49,11 +49,13 @@ tableOf content = record { rows = heldRows (content .rows); count = length (cont
 abbrev pub emptyTable : Table
 emptyTable = tableOf (rowsAlone [])
 
--- A table is in range when it has room for as many rows as the limit of rows says, no more rows are in use, and each row in use is in range. (3.1, 3.2, 3.14)
+-- A table is in range when it has room for as many rows as the limit of rows says, no more rows are in use, and each row in use is in range and has a c of at
+-- most its d. (3.1 to 3.3, 3.14)
 pub record InRange (t : Table) : Type 0 where
   pub few-rows : t .count ≤ maxRows
   pub all-places : length (t .rows) ≡ maxRows
   pub rows-in-range : (i : ℕ) → i < t .count → rowInRange (getD (t .rows) i noRow) ≡ true
+  pub c-within-d : (i : ℕ) → i < t .count → getD (t .rows) i noRow .c ≤ getD (t .rows) i noRow .d
 
 -- ---- how rows are read
 

@@ -10,7 +10,7 @@ use periods::Period;
 ghost use mathlib.Core.Path.{_≡_};
 ghost use Rattle.table.specs.Limits.{limits};
 ghost use Rattle.table.specs.Period.{ysOf};
-ghost use Rattle.table.specs.Rows.{withinLimit, fine, rowInRange};
+ghost use Rattle.table.specs.Rows.{withinLimit, fine, rowInRange, hopeless, rowAcceptable};
 ghost use Rattle.table.specs.Tables.{emptyTable, refusedTable, tableRead};
 
 // A row expects x jobs in any y ticks, each due d ticks after its release and costing at most c units. (1.1)
@@ -104,6 +104,20 @@ impl Row {
             & within_limit(Row::MAX_Y, self.y)
             & within_limit(Row::MAX_D, self.d)
             & within_limit(Row::MAX_C, self.c)
+    }
+
+    // A row is hopeless when its c is above its d: a job of full cost can never be met. (3.3)
+    pub fn hopeless(self) -> bool
+        ensures { λ r. ⌜ r ≡ hopeless self ⌝ }
+    {
+        self.d < self.c
+    }
+
+    // A table may have a row that is in range and not hopeless. (3.2, 3.3)
+    pub fn acceptable(self) -> bool
+        ensures { λ r. ⌜ r ≡ rowAcceptable self ⌝ }
+    {
+        self.in_range() & !self.hopeless()
     }
 }
 

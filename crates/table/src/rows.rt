@@ -1,4 +1,4 @@
-// How rows are read: a value, a row of four values, and rows one after another after their count. (docs/RULES.md, 3.6 to 3.10.)
+// How rows are read: a value, a row of four values, and rows one after another after their count. (docs/RULES.md, 3.3 and 3.6 to 3.10.)
 use crate::Row;
 use crate::RowAt;
 use crate::RowRead;
@@ -32,7 +32,7 @@ fn read_value(bytes: &[u8], at: usize, most: u64) -> NumberRead
     }
 }
 
-// A row is read as x, y, d and c, from left to right. (3.6, 3.7)
+// A row is read as x, y, d and c, from left to right. A c above d is refused after its own range was tested, at its start. (3.3, 3.6, 3.7)
 fn read_row(bytes: &[u8], at: usize) -> RowRead
     ensures { λ r. ⌜ r ≡ readRow (now (bytes .entry)) at ⌝ }
 {
@@ -52,15 +52,19 @@ fn read_row(bytes: &[u8], at: usize) -> RowRead
         NumberRead::Number(n) => n,
         NumberRead::Refused(r) => return RowRead::Refused(r),
     };
-    RowRead::Row(RowAt {
-        row: Row {
-            x: x.value,
-            y: y.value,
-            d: d.value,
-            c: c.value,
-        },
-        next: c.next,
-    })
+    let row = Row {
+        x: x.value,
+        y: y.value,
+        d: d.value,
+        c: c.value,
+    };
+    if row.hopeless() {
+        return RowRead::Refused(RefusedAt {
+            refusal: Refusal::HopelessRow,
+            place: d.next,
+        });
+    }
+    RowRead::Row(RowAt { row, next: c.next })
 }
 
 // If rows are refused, no row is in use.

@@ -8,6 +8,7 @@ use kinds::RowNumber;
 use kinds::Serial;
 use kinds::Tick;
 use run::Run;
+use table::Row;
 use table::Table;
 
 // The run after one change. `what` is the first letter of the change.
@@ -20,6 +21,7 @@ pub fn changed(what: u8, numbers: [u64; Case::NUMBERS], run: Run) -> Run {
         b'n' => with_next(run, a),
         b'r' => with_rows(run, a as usize),
         b'y' => with_y(run, a as usize, b),
+        b'd' => with_d(run, a as usize, b),
         b'p' => with_pending(run, a as usize),
         b'j' => with_job(run, numbers),
         b'k' => with_kept(run, a as usize, b as usize, numbers[2]),
@@ -53,12 +55,25 @@ fn with_rows(mut run: Run, count: usize) -> Run {
 }
 
 // Sets the y of one row: `y of row 1 = 919`.
-fn with_y(mut run: Run, row: usize, y: u64) -> Run {
-    let at = row % Table::MAX_ROWS;
-    let mut table = run.table;
-    let mut its = table.rows[at];
+fn with_y(run: Run, row: usize, y: u64) -> Run {
+    let table = run.table;
+    let mut its = table.rows[row % Table::MAX_ROWS];
     its.y = y;
-    table.rows[at] = its;
+    with_row(run, row, its)
+}
+
+// Sets the d of one row: `d of row 0 = 1`.
+fn with_d(run: Run, row: usize, d: u64) -> Run {
+    let table = run.table;
+    let mut its = table.rows[row % Table::MAX_ROWS];
+    its.d = d;
+    with_row(run, row, its)
+}
+
+// The run with another row at a row number.
+fn with_row(mut run: Run, row: usize, its: Row) -> Run {
+    let mut table = run.table;
+    table.rows[row % Table::MAX_ROWS] = its;
     run.table = table;
     run
 }

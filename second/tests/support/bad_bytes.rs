@@ -150,14 +150,12 @@ pub fn tables(seed: u64, count: u64) -> impl Iterator<Item = Vec<u8>> {
     in_every_number(&tables::numbers_of(&longest), &mut random).into_iter().chain(random_ones)
 }
 
-/// A row in range, whose y, d and c have spellings of all lengths that the range allows.
+/// A row that is accepted, whose y, d and c have spellings of all lengths that the range allows.
 fn row_of_any_length(random: &mut Random) -> Row {
-    let mut up_to_bits = |most| {
-        let bits = random.within(0, most);
-        random.within(1, 1 << bits)
-    };
-    let (d, c) = (up_to_bits(14), up_to_bits(12));
-    [random.within(1, MOST_X), 1 << random.within(0, 12), d, c]
+    let bits_of_d = random.pick(&[0, 7, 12, 14, 14, 14]);
+    let bits_of_c = random.pick(&[0, 0, 0, 4, 8, 12]);
+    let (d, c) = (random.within(1, 1 << bits_of_d), random.within(1, 1 << bits_of_c));
+    [random.within(1, MOST_X), 1 << random.within(0, 12), d, c.min(d)]
 }
 
 /// Tables with scripts of at most so many records. The script has one byte damaged, each byte in turn: one script in

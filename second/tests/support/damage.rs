@@ -59,6 +59,12 @@ pub fn mutate(good: &[u8], random: &mut Random) -> Vec<u8> {
     bytes
 }
 
+/// Puts one to four bytes after the others.
+pub fn lengthen(good: &[u8], random: &mut Random) -> Vec<u8> {
+    let length = random.within(1, 4) as usize;
+    [good, &random.bytes(length)].concat()
+}
+
 /// The damages to one byte: another in its place, its top bit turned, removed, doubled, or cut off with all after it.
 pub fn at(good: &[u8], place: usize) -> Vec<Vec<u8>> {
     let byte = good[place];

@@ -2,6 +2,7 @@
 
 use super::case::Case;
 use super::damage::replaced;
+use super::hopeless;
 use super::scripts::{self, Record};
 use super::tables::{self, Row};
 use second::run::{LAST_TICK, MOST_PENDING};
@@ -54,6 +55,7 @@ fn edge_tables() -> Vec<Vec<u8>> {
     }
     let full = tables::spell(&[[1, 300, 300, 4]; MOST_ROWS as usize]);
     tables.extend((full.len() - 6..full.len()).map(|cut| full[..cut].to_vec()));
+    tables.extend(hopeless::edge_tables());
     tables
 }
 
@@ -88,10 +90,12 @@ fn edge_rows() -> Vec<Vec<Row>> {
     let limits = [MOST_X, MOST_Y, MOST_D, MOST_C];
     for (index, most) in limits.into_iter().enumerate() {
         for value in [0, 1, most - 1, most, most + 1, most + (1 << 8), most + (1 << 16), most + (1 << 32), 1 << 41] {
-            let mut row = [1, 8, 8, 1];
-            row[index] = value;
-            lists.push(vec![row]);
-            lists.push(vec![[1, 4, 4, 1], row]);
+            for d in [8, MOST_D] {
+                let mut row = [1, 8, d, 1];
+                row[index] = value;
+                lists.push(vec![row]);
+                lists.push(vec![[1, 4, 4, 1], row]);
+            }
         }
     }
     lists
@@ -156,15 +160,15 @@ fn edge_scripts() -> Vec<(Vec<Row>, Vec<u8>)> {
 }
 
 fn edge_records() -> Vec<(Vec<Row>, Vec<Record>)> {
-    let d1 = vec![[1, 2, 6, 9]];
-    let d2 = vec![[3, 6, 6, 9]];
+    let d1 = vec![[1, 2, 6, 6]];
+    let d2 = vec![[3, 6, 6, 6]];
     let v2 = vec![[1, 2, 6, 1]];
     // The jobs of a burst come from these rows in turn, so that all places are taken before the spacing by y sets in.
-    let wide = vec![[MOST_X, 1, 8, 9]; MOST_PENDING / MOST_X as usize];
+    let wide = vec![[MOST_X, 1, 8, 8]; MOST_PENDING / MOST_X as usize];
     let in_time = vec![[MOST_X, 1, 2 * MOST_PENDING as u64, 9]; wide.len()];
     let and_one_due_later = [&wide[..], &[[1, 1, 9, 9]]].concat();
     let every_row = vec![[4, MOST_ROWS, MOST_ROWS, 1]; MOST_ROWS as usize];
-    let hopeless = vec![[1, 1, 2, 3]];
+    let crowded = vec![[2, 1, 2, 2]];
     let as_in_the_paper = vec![[0, 0, 1], [0, 0, 1], [0, 0, 1], [3, 0, 1], [0, 0, 1], [3, 0, 1]];
     let burst_of_rows = |rows: &[Row], count: usize, gap| {
         let mut records: Vec<Record> = (0..count).map(|job| [0, (job % rows.len()) as u64, 1]).collect();
@@ -196,9 +200,9 @@ fn edge_records() -> Vec<(Vec<Row>, Vec<Record>)> {
         (wide.clone(), burst(MOST_PENDING, 0)),
         (wide.clone(), burst(MOST_PENDING + 1, 0)),
         (wide.clone(), burst(2 * MOST_PENDING, 0)),
-        (vec![[MOST_X, 1, 8, 9]], vec![[0, 0, 1]; MOST_X as usize + 1]),
-        (vec![[1, 1, 8, 9]], vec![[0, 0, 1]; MOST_PENDING]),
-        (vec![[1, 1, 8, 9]], vec![[0, 0, 1]; MOST_PENDING + 1]),
+        (vec![[MOST_X, 1, 8, 8]], vec![[0, 0, 1]; MOST_X as usize + 1]),
+        (vec![[1, 1, 8, 8]], vec![[0, 0, 1]; MOST_PENDING]),
+        (vec![[1, 1, 8, 8]], vec![[0, 0, 1]; MOST_PENDING + 1]),
         (in_time.clone(), burst(MOST_PENDING, 0)),
         (in_time.clone(), burst(MOST_PENDING + 1, 0)),
         (in_time, then(burst(MOST_PENDING, 0), [1, 0, 1])),
@@ -227,9 +231,13 @@ fn edge_records() -> Vec<(Vec<Row>, Vec<Record>)> {
         (v2.clone(), vec![[LAST_TICK - 7, 0, 1], [0, 0, 1]]),
         (v2, vec![[LAST_TICK - 8, 0, 1], [0, 0, 1], [0, 0, 1]]),
         // The clock comes to 2^40 in the final ticks, with a job pending or just without one.
-        (hopeless.clone(), vec![[LAST_TICK - 2, 0, 2]]),
-        (hopeless.clone(), vec![[LAST_TICK - 2, 0, 3]]),
-        (hopeless, vec![[0, 0, 3], [LAST_TICK - 2, 0, 3]]),
+        (crowded.clone(), vec![[LAST_TICK - 2, 0, 2]]),
+        (crowded.clone(), vec![[LAST_TICK - 2, 0, 1], [0, 0, 1]]),
+        (crowded.clone(), vec![[LAST_TICK - 2, 0, 2], [0, 0, 1]]),
+        (crowded, vec![[0, 0, 2], [LAST_TICK - 2, 0, 2], [0, 0, 2]]),
+        // A job that costs all of its d finishes exactly at its due time, also where that is 2^40, and a second one late.
+        (vec![[1, 4, 4, 4]], vec![[0, 0, 4], [4, 0, 4], [LAST_TICK - 8, 0, 4]]),
+        (vec![[2, 4, 4, 4]], vec![[0, 0, 4], [0, 0, 4]]),
         // One job finishes exactly at its due time, and another one tick later.
         (vec![[2, 1, 1, 1]], vec![[0, 0, 1]]),
         (vec![[2, 1, 1, 1]], vec![[0, 0, 1], [0, 0, 1]]),
@@ -238,6 +246,6 @@ fn edge_records() -> Vec<(Vec<Row>, Vec<Record>)> {
         // The serials and times have three groups, and the due times are far past their releases.
         (vec![[64, 80, 8, 1]], vec![[1, 0, 1]; 20_000]),
         // Among equal due times the lowest serial goes first.
-        (vec![[9, 9, 9, 9], [9, 9, 5, 9]], vec![[0, 0, 2], [4, 1, 3], [0, 0, 1], [0, 1, 2]]),
+        (vec![[9, 9, 9, 9], [9, 9, 5, 5]], vec![[0, 0, 2], [4, 1, 3], [0, 0, 1], [0, 1, 2]]),
     ]
 }

@@ -2,7 +2,7 @@
 
 use super::case::Case;
 use super::random::Random;
-use super::{bad_bytes, damage, scripts, tables};
+use super::{bad_bytes, damage, hopeless, scripts, tables};
 use second::{replay, table};
 
 /// As many lengths as a program that looks at every length can be waited for.
@@ -13,13 +13,13 @@ pub const RECORDS: usize = 5;
 
 pub type Family = (&'static str, fn(&mut Random) -> Case);
 
-pub const ALL: [Family; 11] = [
+pub const ALL: [Family; 12] = [
     ("verdicts", |random| {
         let rows = tables::any(random);
         judge(tables::spell(&rows), random)
     }),
     ("verdicts with late witnesses", |random| {
-        let rows = tables::late_witness(random);
+        let rows = tables::to_search(random);
         judge(tables::spell(&rows), random)
     }),
     ("verdicts of damaged tables", |random| {
@@ -66,6 +66,15 @@ pub const ALL: [Family; 11] = [
         let table = damaged(&tables::numbers_of(&rows), random);
         let records = scripts::any(&rows, random);
         play(table, scripts::spell(&records), random)
+    }),
+    ("hopeless rows", |random| {
+        let (rows, table) = hopeless::any(random);
+        if random.one_in(2) {
+            judge(table, random)
+        } else {
+            let records = scripts::any(&rows, random);
+            play(table, scripts::spell(&records), random)
+        }
     }),
     ("noise", |random| {
         let table = noise(random);
@@ -138,10 +147,10 @@ fn answer(random: &mut Random) -> Vec<u8> {
 }
 
 fn damaged(numbers: &[u64], random: &mut Random) -> Vec<u8> {
-    if random.one_in(2) {
-        damage::misspell_one(numbers, random)
-    } else {
-        damage::mutate(&tables::spell_numbers(numbers), random)
+    match random.below(17) {
+        0..=2 => damage::lengthen(&tables::spell_numbers(numbers), random),
+        3..=11 => damage::misspell_one(numbers, random),
+        _ => damage::mutate(&tables::spell_numbers(numbers), random),
     }
 }
 

@@ -11,6 +11,7 @@ pub mod damage;
 pub mod edges;
 pub mod families;
 pub mod fenced;
+pub mod hopeless;
 pub mod random;
 pub mod scripts;
 pub mod settings;

@@ -2,7 +2,7 @@
 
 use super::random::Random;
 use second::numbers;
-use second::table::{self, Table, MOST_ROWS};
+use second::table::{self, Table, MOST_C, MOST_D, MOST_ROWS};
 use second::verdict::{verdict, Verdict};
 
 /// A row is x, y, d and c.
@@ -39,21 +39,44 @@ pub fn last_of_first_period(table: &Table) -> u64 {
 /// Makes rows of any of the kinds below.
 pub fn any(random: &mut Random) -> Vec<Row> {
     let kinds = [small, balanced, balanced, balanced, many, late_witness, long_period, at_limits];
-    random.pick(&kinds)(random)
+    let rows = random.pick(&kinds)(random);
+    with_hope(rows, random)
 }
 
 /// Makes a table to replay on: it is accepted, and has room for many jobs.
 pub fn to_replay(random: &mut Random) -> Vec<Row> {
-    random.pick(&[small, small, hasty, hasty, balanced, many, wide])(random)
+    let rows = random.pick(&[small, small, hasty, hasty, balanced, many, wide])(random);
+    with_hope(rows, random)
 }
 
-pub fn small(random: &mut Random) -> Vec<Row> {
+/// Makes a table whose witness is long.
+pub fn to_search(random: &mut Random) -> Vec<Row> {
+    let rows = late_witness(random);
+    with_hope(rows, random)
+}
+
+/// Mends the rows that are hopeless by chance, where d and c are in range: c comes down to d, or d goes up to c. Hopeless
+/// rows are made on purpose elsewhere, and would otherwise leave too few tables that are accepted.
+fn with_hope(mut rows: Vec<Row>, random: &mut Random) -> Vec<Row> {
+    for [_, _, d, c] in &mut rows {
+        if *c > *d && (1..=MOST_D).contains(d) && (1..=MOST_C).contains(c) {
+            if random.one_in(2) {
+                *c = *d;
+            } else {
+                *d = *c;
+            }
+        }
+    }
+    rows
+}
+
+fn small(random: &mut Random) -> Vec<Row> {
     let count = if random.one_in(12) { 0 } else { random.within(1, 5) };
     (0..count).map(|_| [random.within(1, 3), random.within(1, 12), random.within(1, 24), random.within(1, 4)]).collect()
 }
 
 /// Makes rows that take about the whole processor: the last row fills it up, to a unit or so.
-pub fn balanced(random: &mut Random) -> Vec<Row> {
+fn balanced(random: &mut Random) -> Vec<Row> {
     let period: u64 = random.pick(&[6, 12, 24, 60, 120, 210, 1_024]);
     let divisors: Vec<u64> = (1..=period).filter(|divisor| period.is_multiple_of(*divisor)).collect();
     let mut free = period;
@@ -102,7 +125,7 @@ fn many(random: &mut Random) -> Vec<Row> {
 }
 
 /// Makes rows that ask for a little more than there is, but are due so late that the witness is long.
-pub fn late_witness(random: &mut Random) -> Vec<Row> {
+fn late_witness(random: &mut Random) -> Vec<Row> {
     let y = random.within(1, 40);
     let d = random.pick(&[20, 100, 400, 2_000]) + random.below(50);
     let mut rows = vec![[1, y, d, y]];
@@ -115,7 +138,7 @@ pub fn late_witness(random: &mut Random) -> Vec<Row> {
 }
 
 /// Makes periods near the limit: 1023 with 1025 is just accepted, and 1141 with 919 is just refused.
-pub fn long_period(random: &mut Random) -> Vec<Row> {
+fn long_period(random: &mut Random) -> Vec<Row> {
     let (one, other) = random.pick(&[
         (1_023, 1_025),
         (1_141, 919),
@@ -139,7 +162,7 @@ pub fn long_period(random: &mut Random) -> Vec<Row> {
 }
 
 /// Makes rows with each value at one of its limits, and now and then past it.
-pub fn at_limits(random: &mut Random) -> Vec<Row> {
+fn at_limits(random: &mut Random) -> Vec<Row> {
     let count = if random.one_in(3) { near_the_limit(random) } else { random.pick(&[1, 1, 2, 3]) };
     (0..count)
         .map(|_| {
@@ -160,7 +183,7 @@ pub fn at_limits(random: &mut Random) -> Vec<Row> {
 /// Makes rows that are due sooner than they can all be served.
 fn hasty(random: &mut Random) -> Vec<Row> {
     let count = random.within(1, 3);
-    (0..count).map(|_| [random.within(1, 4), random.within(1, 3), random.within(1, 6), random.within(1, 4)]).collect()
+    (0..count).map(|_| [random.within(2, 6), random.within(1, 3), random.within(1, 4), random.within(1, 4)]).collect()
 }
 
 /// Makes few rows with a large x, so that many jobs come before the spacing by y sets in.

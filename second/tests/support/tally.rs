@@ -2,6 +2,7 @@
 
 use super::bad_bytes::Met;
 use super::case::{Call, Case, Outcome};
+use super::hopeless;
 use super::tables::last_of_first_period;
 use second::host::{FEASIBLE, IN_TIME, LATE, OVERLOADED};
 use second::numbers;
@@ -14,8 +15,9 @@ pub const TABLE_MISSPELLED: u32 = 1;
 pub const SCRIPT_MISSPELLED: u32 = 14;
 const TOO_MANY_ROWS: u32 = 2;
 const PLACES_FULL: u32 = 8;
+const ANSWER_NOT_16_BYTES: u32 = 13;
 
-/// What a comparison met near the limit of rows or the limit of pending jobs.
+/// What a comparison met near the limit of rows or the limit of pending jobs, or near the rule that c is at most d.
 #[derive(Clone, Copy, Debug, PartialEq, Eq, PartialOrd, Ord)]
 pub enum Limit {
     /// A table of so many rows was accepted.
@@ -26,6 +28,8 @@ pub enum Limit {
     Pending(usize),
     /// A release was refused with 8.
     PlacesFull,
+    /// A table had this on either side of the rule that c is at most d.
+    Hopeless(hopeless::Met),
 }
 
 #[derive(Default)]
@@ -114,18 +118,22 @@ fn limits_wanted(call: Call) -> BTreeSet<Limit> {
     let rows = [Limit::Rows(MOST_ROWS - 1), Limit::Rows(MOST_ROWS), Limit::TooManyRows(MOST_ROWS + 1)];
     let pending = [Limit::Pending(MOST_PENDING - 1), Limit::Pending(MOST_PENDING), Limit::PlacesFull];
     let of_replay = pending.into_iter().filter(|_| call == Call::Replay);
-    rows.into_iter().chain(of_replay).collect()
+    rows.into_iter().chain(of_replay).chain(hopeless::wanted().into_iter().map(Limit::Hopeless)).collect()
 }
 
 fn limits(case: &Case, outcome: &Outcome) -> Vec<Limit> {
+    if outcome.status == ANSWER_NOT_16_BYTES {
+        return vec![];
+    }
     let rows = numbers::read(&case.table, 0).map_or(0, |(count, _)| count);
-    match outcome.status {
+    let at_the_counts = match outcome.status {
         FEASIBLE | OVERLOADED => vec![Limit::Rows(rows)],
         IN_TIME | LATE => vec![Limit::Rows(rows), Limit::Pending(most_pending(&outcome.log[..outcome.first()]))],
         TOO_MANY_ROWS => vec![Limit::TooManyRows(rows)],
         PLACES_FULL => vec![Limit::Rows(rows), Limit::PlacesFull],
         _ => vec![],
-    }
+    };
+    at_the_counts.into_iter().chain(hopeless::met(&case.table).into_iter().map(Limit::Hopeless)).collect()
 }
 
 /// Returns how many jobs of a whole log were pending at a time, at most. A job is pending from its release until its

@@ -6,9 +6,9 @@ use native.Mathlib.Omega.{arith}
 use borrow.Author.Needs.{needs}
 use borrow.Author.Tests.{not-true, not-false}
 use Rattle.kinds.proofs.Lists.{length-mapped}
-use Rattle.table.specs.Rows.{rowInRange}
+use Rattle.table.specs.Rows.{rowAcceptable}
 use Rattle.run.specs.Runs.{rowAt}
-use Rattle.run.proofs.Sound.{RowsFrom, row-out-of-range, kept-unsound, row-sound, no-row-left}
+use Rattle.run.proofs.Sound.{RowsFrom, row-unacceptable, kept-unsound, row-sound, no-row-left}
 use Rattle.run.proofs.soundness.rows_sound.Statement.{statement}
 use Rattle.run.proofs.soundness.rows_sound.Tie as tie
 
@@ -18,10 +18,10 @@ Inv-loop table kept i₀ i = RowsFrom table kept i
 abbrev μ-loop : tie.MeasureT-loop
 μ-loop table kept i₀ i = table .count - i
 
--- A row that passed the test is in range.
-in-range : (c : tie.Else1 Inv-loop μ-loop)
-    → (let t = c .before .before .before .before .before in rowInRange (rowAt (t .before .args .t1) (t .loop .i)) ≡ true)
-in-range c = sym (c .before .in-range .ensures) ∙ not-false _ (c .if1 .left)
+-- A row that passed the test is one that a table may have.
+acceptable : (c : tie.Else1 Inv-loop μ-loop)
+    → (let t = c .before .before .before .before .before in rowAcceptable (rowAt (t .before .args .t1) (t .loop .i)) ≡ true)
+acceptable c = sym (c .before .acceptable .ensures) ∙ not-false _ (c .if1 .left)
 
 loop-holds : tie.Need-loop-holds Inv-loop μ-loop
 loop-holds c = record { all-rows = search (needs, length-mapped); all-kept = search (needs, length-mapped); few-rows = c .pre; settled = refl }
@@ -38,13 +38,13 @@ mul-times c = omega arith
 array-copy-out-times : tie.Need-array-copy-out-times Inv-loop μ-loop
 array-copy-out-times c = omega arith
 
-in-range-requires : tie.Need-in-range-requires Inv-loop μ-loop
-in-range-requires c κs = search needs
+acceptable-requires : tie.Need-acceptable-requires Inv-loop μ-loop
+acceptable-requires c κs = search needs
 
 returns : tie.Need-returns Inv-loop μ-loop
 returns c =
     let t = c .before .before .before .before in
-    row-out-of-range (t .before .loop .inv) (t .loop-test .taken) (sym (c .before .in-range .ensures) ∙ not-true _ (c .if1 .taken))
+    row-unacceptable (t .before .loop .inv) (t .loop-test .taken) (sym (c .before .acceptable .ensures) ∙ not-true _ (c .if1 .taken))
 
 sound-requires : tie.Need-sound-requires Inv-loop μ-loop
 sound-requires c κs = search needs
@@ -52,7 +52,7 @@ sound-requires c κs = search needs
 returns-2 : tie.Need-returns-2 Inv-loop μ-loop
 returns-2 c =
     let t = c .before .before .before .before .before .before in
-    kept-unsound (t .before .loop .inv) (t .loop-test .taken) (in-range (c .before .before)) (sym (c .before .sound .ensures) ∙ not-true _ (c .if2 .taken))
+    kept-unsound (t .before .loop .inv) (t .loop-test .taken) (acceptable (c .before .before)) (sym (c .before .sound .ensures) ∙ not-true _ (c .if2 .taken))
 
 add-i : tie.Need-add-i Inv-loop μ-loop
 add-i c = omega arith
@@ -63,7 +63,7 @@ loop-less c = omega arith
 loop-again : tie.Need-loop-again Inv-loop μ-loop
 loop-again c =
     let t = c .before .before .before .before .before .before in
-    row-sound (t .before .loop .inv) (t .loop-test .taken) (in-range (c .before .before)) (sym (c .before .sound .ensures) ∙ not-false _ (c .if2 .left))
+    row-sound (t .before .loop .inv) (t .loop-test .taken) (acceptable (c .before .before)) (sym (c .before .sound .ensures) ∙ not-false _ (c .if2 .left))
 
 returns-3 : tie.Need-returns-3 Inv-loop μ-loop
 returns-3 c = no-row-left (c .before .loop .inv) (c .loop-test .left)
@@ -79,7 +79,7 @@ rows-sound-spec =
     element-copy-out-row
     mul-times
     array-copy-out-times
-    in-range-requires
+    acceptable-requires
     returns
     sound-requires
     returns-2
