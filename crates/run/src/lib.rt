@@ -147,9 +147,6 @@ impl Run {
         if !jobs_sound(&limits[..used], clock, next, pending) {
             return false;
         }
-        if !pending.distinct() {
-            return false;
-        }
         next.0 <= clock.0 + pending.count as u64
     }
 
