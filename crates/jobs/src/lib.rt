@@ -26,6 +26,7 @@ ghost use Rattle.jobs.specs.Serials.{distinctSerials};
 ghost use Rattle.jobs.specs.Turns.{turned};
 
 // A pending job holds what its release settled, and its units left. (1.7, 6.1)
+#[repr(C)]
 pub struct Job {
     pub serial: Serial,
     pub row: RowNumber,
@@ -36,6 +37,7 @@ pub struct Job {
 }
 
 // The pending jobs are those in the first `count` places. A count above the number of places means all of them. (6.1)
+#[repr(C)]
 pub struct Pending {
     pub places: [Job; Pending::PLACES],
     pub count: usize,

@@ -25,6 +25,7 @@ ghost use Rattle.run.specs.Release.{refusedRelease, released};
 ghost use Rattle.run.specs.Ticking.{ticked};
 
 // A run holds its rows, the clock, the pending jobs, the next serial, and the kept due times of each row. (6.1)
+#[repr(C)]
 pub struct Run {
     pub table: Table,
     pub clock: Tick,
