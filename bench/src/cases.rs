@@ -1,10 +1,10 @@
 //! The cases that are measured: tables, scripts and lists of calls, each with the status that it has to end in.
 
-use crate::plain::{PLACES, ROWS, X};
+use crate::library::RUN_SIZE;
 
 pub struct Case {
     pub group: &'static str,
-    pub name: &'static str,
+    pub name: String,
     /// This says in words how much there is to do.
     pub size: String,
     pub work: Work,
@@ -21,21 +21,29 @@ pub enum Work {
     /// A script is replayed on a table.
     Replay { table: Vec<u8>, script: Vec<u8> },
     /// These calls are played one after another on a fresh run of a table, and the answer of each has to start with this word.
-    Calls { table: Vec<u8>, calls: Vec<u8>, kinds: Vec<u64> },
+    Calls { form: Form, table: Vec<u8>, calls: Vec<u8>, kinds: Vec<u64> },
+}
+
+/// The proved calls take a run by value and hand back the next one, or a run is lent to them.
+#[derive(Clone, Copy)]
+pub enum Form {
+    ByValue,
+    Lent,
 }
 
 type Row = [u64; 4];
 
 const RECORDS: usize = 100_000;
 const NUMBERS: usize = 1_000_000;
-/// A list of calls on a run goes on for this many ticks, with a release after each.
-const TICKS: u64 = 5_000;
+/// A list of calls on a run goes on for this many ticks. No job has so many units left, so that a job of the most units is
+/// not finished by them.
+const TICKS: u64 = 4_000;
 
 pub fn all() -> Vec<Case> {
     let mut cases = verdicts();
     cases.extend(replays());
     cases.extend(readings());
-    cases.extend(runs());
+    cases.extend(ticks());
     cases
 }
 
@@ -70,7 +78,7 @@ fn verdict(name: &'static str, rows: &[Row], lengths: u64) -> Case {
     let size = format!("{} lengths", grouped(lengths));
     Case {
         group: "verdict",
-        name,
+        name: name.to_string(),
         size,
         work: Work::Verdicts(vec![table(rows)]),
         status: 0,
@@ -130,7 +138,7 @@ fn replay(name: &'static str, rows: &[Row], records: &[(u64, u64, u64)]) -> Case
     let units: u64 = records.iter().map(|record| record.2).sum();
     let size = format!("{} records, {} units", grouped(records.len() as u64), grouped(units));
     let work = Work::Replay { table: table(rows), script };
-    Case { group: "replay", name, size, work, status: 22, first: None, target: Some(2.0) }
+    Case { group: "replay", name: name.to_string(), size, work, status: 22, first: None, target: Some(2.0) }
 }
 
 /// Numbers are read in tables of 65 numbers with one extra byte. All are read and tested, and then comes refusal 4.
@@ -158,34 +166,51 @@ fn reading(name: &'static str, most: Row) -> Case {
         })
         .collect();
     let size = format!("{} numbers", grouped(65 * count as u64));
-    Case { group: "reading", name, size, work: Work::Verdicts(tables), status: 4, first: None, target: Some(1.5) }
+    let work = Work::Verdicts(tables);
+    Case { group: "reading", name: name.to_string(), size, work, status: 4, first: None, target: Some(1.5) }
 }
 
-/// A run's size in bytes, by its fields: the rows and their count, the clock, the pending jobs and their count, the next
-/// serial, and for each row the kept due times and their count. Each number has eight bytes.
-const RUN_SIZE: u64 = 8 * ((4 * ROWS + 1) + 1 + (6 * PLACES as u64 + 1) + 1 + ROWS * (X + 1));
+/// So many jobs are pending all the time, in both forms of the calls.
+fn ticks() -> Vec<Case> {
+    let mut cases = Vec::new();
+    for (form, said) in [(Form::ByValue, "by value"), (Form::Lent, "lent")] {
+        for pending in [1, 16, 64, 256] {
+            cases.push(only_ticks(format!("tick, {said}, {pending} pending"), form, pending));
+        }
+        for pending in [1, 16, 64, 256] {
+            cases.push(ticks_and_releases(format!("tick and release, {said}, {pending} pending"), form, pending));
+        }
+    }
+    cases
+}
 
-fn runs() -> Vec<Case> {
-    vec![run("64 pending", 64), run("256 pending", 256)]
+/// So many jobs are released. Then there are only ticks, and each gives a unit to the same job and does not finish it.
+fn only_ticks(name: String, form: Form, pending: u64) -> Case {
+    let each = pending.min(4);
+    let rows = vec![[each, 4_096, 16_384, 4_096]; (pending / each) as usize];
+    let releases = (0..pending).map(|i| ([1, i / each, 4_096], 2));
+    let ticks = (0..TICKS).map(|_| ([2, 0, 0], 4));
+    run(name, form, &rows, releases.chain(ticks).collect())
 }
 
 /// So many jobs are released. Then a tick, which finishes a job, and a release take turns.
-fn run(name: &'static str, pending: u64) -> Case {
-    let mut calls = Vec::new();
-    let mut kinds = Vec::new();
-    for i in 0..pending + TICKS {
-        if i >= pending {
-            calls.extend([2, 0, 0]);
-            kinds.push(5);
-        }
-        calls.extend([1, i % (pending / 4), 1]);
-        kinds.push(2);
-    }
-    let size = format!("{} calls on a run of {} bytes", grouped(kinds.len() as u64), grouped(RUN_SIZE));
-    let status = 1 + kinds.len() as u32;
-    let calls = calls.into_iter().flat_map(u64::to_le_bytes).collect();
-    let work = Work::Calls { table: table(&four_jobs_a_row(pending, 1)), calls, kinds };
-    Case { group: "run", name, size, work, status, first: None, target: None }
+fn ticks_and_releases(name: String, form: Form, pending: u64) -> Case {
+    let each = pending.min(4);
+    let rows = vec![[each, pending, pending, 1]; (pending / each) as usize];
+    let release = |i: u64| ([1, i % (pending / each), 1], 2);
+    let first = (0..pending).map(release);
+    let turns = (pending..pending + TICKS).flat_map(|i| [([2, 0, 0], 5), release(i)]);
+    run(name, form, &rows, first.chain(turns).collect())
+}
+
+/// Each call comes with the first word of its answer.
+fn run(name: String, form: Form, rows: &[Row], played: Vec<([u64; 3], u64)>) -> Case {
+    let size = format!("{} calls on a run of {} bytes", grouped(played.len() as u64), grouped(RUN_SIZE as u64));
+    let status = 1 + played.len() as u32;
+    let calls = played.iter().flat_map(|call| call.0).flat_map(u64::to_le_bytes).collect();
+    let kinds = played.iter().map(|call| call.1).collect();
+    let work = Work::Calls { form, table: table(rows), calls, kinds };
+    Case { group: "tick", name, size, work, status, first: None, target: None }
 }
 
 fn table(rows: &[Row]) -> Vec<u8> {

@@ -1,7 +1,37 @@
-//! These are the proved program's two calls, as include/jyrmekko.h has them, and the probe library's list of calls on a
-//! run, which is there for comparisons only.
+//! These are the proved program's two calls, as include/jyrmekko.h has them, and the probe library's calls on a run, which
+//! are there for comparisons only: a list of calls by value, and single calls on a run that is lent.
+
+use crate::plain::{PLACES, ROWS, X};
+
+/// A run's size in bytes, by its fields: the rows and their count, the clock, the pending jobs and their count, the next
+/// serial, and for each row the kept due times and their count. Each number has eight bytes.
+pub const RUN_SIZE: usize = 8 * ((4 * ROWS as usize + 1) + 1 + (6 * PLACES + 1) + 1 + ROWS as usize * (X as usize + 1));
+
+/// This is memory for a run. The library does not say how large a run is, so there is room behind it, which has to stay as
+/// it was: a run of another size is noticed.
+#[repr(C, align(8))]
+pub struct Run {
+    run: [u8; RUN_SIZE],
+    behind: [u8; RUN_SIZE],
+}
+
+/// A byte of this memory that was never written has this value. A start overwrites whatever stands there.
+const UNTOUCHED: u8 = 0xA5;
+
+#[repr(C)]
+pub struct RowNumber(u64);
+
+/// The answer of a call on a run that is lent.
+#[repr(C)]
+pub struct FourWords([u64; 4]);
+
+const WORD: usize = 8;
+/// The first word of a call that is a release. A call with any other first word is a tick.
+const RELEASE: u64 = 1;
 
 mod calls {
+    use super::{FourWords, RowNumber, Run};
+
     extern "C" {
         pub fn verdict(table: *const u8, table_len: usize, answer: *mut u8, answer_len: usize) -> u32;
         pub fn replay(
@@ -22,6 +52,9 @@ mod calls {
             answers: *mut u8,
             answers_len: usize,
         ) -> u32;
+        pub fn lent_start(table: *const u8, table_len: usize, run: *mut Run) -> FourWords;
+        pub fn lent_release(run: *mut Run, row: RowNumber, cost: u64) -> FourWords;
+        pub fn lent_tick(run: *mut Run) -> FourWords;
     }
 }
 
@@ -48,5 +81,34 @@ pub fn replay(table: &[u8], script: &[u8], log: &mut [u8], answer: &mut [u8]) ->
 pub fn trace(table: &[u8], calls: &[u8], answers: &mut [u8]) -> u32 {
     unsafe {
         calls::trace(table.as_ptr(), table.len(), calls.as_ptr(), calls.len(), answers.as_mut_ptr(), answers.len())
+    }
+}
+
+/// Plays the same calls as `trace`, on a run that is lent to one call after another, and answers in the same form.
+pub fn lent(table: &[u8], calls: &[u8], answers: &mut [u8]) -> u32 {
+    let mut run = Box::new(Run { run: [UNTOUCHED; RUN_SIZE], behind: [UNTOUCHED; RUN_SIZE] });
+    let mut room = answers.chunks_exact_mut(4 * WORD);
+    let Some(answer) = room.next() else {
+        return 0;
+    };
+    // Each call writes inside the run that it is lent, whatever bytes stand there.
+    put(answer, unsafe { calls::lent_start(table.as_ptr(), table.len(), &mut *run) });
+    let mut shown = 1;
+    for (call, answer) in calls.chunks_exact(3 * WORD).zip(room) {
+        let word = |index| u64::from_le_bytes(call[index * WORD..(index + 1) * WORD].try_into().unwrap());
+        let said = match word(0) {
+            RELEASE => unsafe { calls::lent_release(&mut *run, RowNumber(word(1)), word(2)) },
+            _ => unsafe { calls::lent_tick(&mut *run) },
+        };
+        put(answer, said);
+        shown += 1;
+    }
+    assert!(run.behind.iter().all(|&byte| byte == UNTOUCHED), "a run is larger than {RUN_SIZE} bytes");
+    shown
+}
+
+fn put(place: &mut [u8], answer: FourWords) {
+    for (bytes, word) in place.chunks_exact_mut(WORD).zip(answer.0) {
+        bytes.copy_from_slice(&word.to_le_bytes());
     }
 }

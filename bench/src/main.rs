@@ -7,7 +7,7 @@ mod clock;
 mod library;
 mod plain;
 
-use cases::{Case, Work};
+use cases::{Case, Form, Work};
 use std::env;
 use std::hint::black_box;
 use std::time::Duration;
@@ -18,15 +18,19 @@ const TOGETHER: Duration = Duration::from_millis(1_000);
 /// A byte of a log buffer that still has this value was not written.
 const UNTOUCHED: u8 = 0xA5;
 
-/// The two calls of one of the programs, and its list of calls on a run.
+/// The two calls of one of the programs, and its list of calls on a run: by value, and lent. A plain run is always changed
+/// in place.
 struct Program {
     verdict: fn(&[u8], &mut [u8]) -> u32,
     replay: fn(&[u8], &[u8], &mut [u8], &mut [u8]) -> u32,
     trace: fn(&[u8], &[u8], &mut [u8]) -> u32,
+    lent: fn(&[u8], &[u8], &mut [u8]) -> u32,
 }
 
-const LIBRARY: Program = Program { verdict: library::verdict, replay: library::replay, trace: library::trace };
-const PLAIN: Program = Program { verdict: plain::verdict, replay: plain::replay, trace: plain::trace };
+const LIBRARY: Program =
+    Program { verdict: library::verdict, replay: library::replay, trace: library::trace, lent: library::lent };
+const PLAIN: Program =
+    Program { verdict: plain::verdict, replay: plain::replay, trace: plain::trace, lent: plain::trace };
 
 /// An answer in a list of calls on a run has this many bytes.
 const ANSWER: usize = 32;
@@ -58,9 +62,15 @@ fn main() {
     };
     println!("| | case | size | proved, ms | plain, ms | ratio | at most | |");
     println!("|---|---|---|--:|--:|--:|--:|---|");
-    for case in cases::all() {
-        if words.is_empty() || words.iter().any(|word| case.group == word || case.name.contains(word.as_str())) {
-            println!("{}", measure(&case, rounds));
+    let cases = cases::all();
+    // A word that is a group's chooses that group alone.
+    let chooses = |word: &String, case: &Case| match cases.iter().any(|other| other.group == word) {
+        true => case.group == word,
+        false => case.name.contains(word.as_str()),
+    };
+    for case in &cases {
+        if words.is_empty() || words.iter().any(|word| chooses(word, case)) {
+            println!("{}", measure(case, rounds));
         }
     }
     println!("\nBest of at least {rounds} rounds, by turns; processor time.");
@@ -104,7 +114,7 @@ fn measure(case: &Case, rounds: usize) -> String {
     let each = match &case.work {
         Work::Calls { kinds, .. } => {
             let [proved, plain] = [proved, plain].map(|time| time * 1e3 / kinds.len() as f64);
-            format!("{proved:.2} and {plain:.2} µs a call ")
+            format!("{proved:.2} and {plain:.3} µs a call ")
         }
         _ => String::new(),
     };
@@ -134,8 +144,12 @@ fn make(program: &Program, work: &Work, said: &mut Said) {
             let (status, answer) = &mut said.answers[0];
             *status = black_box(program.replay)(table, script, &mut said.log, answer);
         }
-        Work::Calls { table, calls, .. } => {
-            said.answers[0].0 = black_box(program.trace)(table, calls, &mut said.log);
+        Work::Calls { form, table, calls, .. } => {
+            let play = match form {
+                Form::ByValue => program.trace,
+                Form::Lent => program.lent,
+            };
+            said.answers[0].0 = black_box(play)(table, calls, &mut said.log);
         }
     }
 }

@@ -7,6 +7,7 @@ ghost use Prim.Native.Nat.{min};
 ghost use Rattle.due.specs.Kept.{maxKept, nothingKept, dueOf, keepStep, keptSound};
 
 // The first `count` times are the due times of a row's newest accepted jobs, oldest first. A count above the array's length means all of the array. (4.6)
+#[repr(C)]
 pub struct Kept {
     pub times: [Tick; Kept::MAX],
     pub count: usize,

@@ -1,6 +1,6 @@
 -- Which of two jobs goes first, and the search for the job that goes first, one job at a time.
 use Prim.Native.Nat.{ℕ, zero, suc, _+_, _≤_, _<_}
-use mathlib.Core.Path.{_≡_, refl}
+use mathlib.Core.Path.{_≡_, refl, sym, _∙_}
 use mathlib.Core.List.{List, [], _∷_}
 use mathlib.Core.Bool.{Bool, true, false, cond}
 use native.Mathlib.Omega.{arith}
@@ -30,11 +30,15 @@ module _ (a b : Job) where
   unfolding goesBefore
   goes-by-serial h k = rw (le-ltb (a .due .0) (b .due .0) h, le-ltb (b .due .0) (a .due .0) k)
 
+-- No job goes before itself.
+not-before-itself : (j : Job) → goesBefore j j ≡ false
+not-before-itself j = sym (goes-by-serial j j (omega arith) (omega arith)) ∙ le-ltb (j .serial .0) (j .serial .0) (omega arith)
+
 -- The search starts with the first job.
-pub first-start : (n : ℕ) (l : List Job) (d : Job) → firstFrom 1 0 (getD l 0 d) (drop 1 (take n l)) ≡ firstPlace (take n l)
+pub first-start : (n : ℕ) (l : List Job) (d : Job) → firstFrom 0 0 (getD l 0 d) (take n l) ≡ firstPlace (take n l)
 first-start zero l d = refl
 first-start (suc n) [] d = refl
-first-start (suc n) (j ∷ js) d = refl
+first-start (suc n) (j ∷ js) d = rw (not-before-itself j)
 
 -- The next job becomes the best so far if it goes before the one that was.
 pub first-next : (n : ℕ) (l : List Job) (i at : ℕ) (best d : Job) → i < length (take n l) → (b : Bool) → goesBefore (getD l i d) best ≡ b

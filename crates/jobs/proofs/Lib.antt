@@ -1,6 +1,7 @@
 pub mod Places
 pub mod First
 pub mod Late
+pub mod OneLook
 pub mod Turns
 pub mod Serials
 pub mod Changes

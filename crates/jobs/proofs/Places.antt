@@ -84,16 +84,6 @@ pub nothing-taken-out : (p : Pending) (at : ℕ) → used p ≤ at → p ≡ tak
 unfolding takenOut
 nothing-taken-out p at h = simp (le-ltb at (used p) h)
 
--- Taking a job out hands back the job whose place was filled by moving the later ones down.
-pub take-moved : (p : Pending) (at last : ℕ) → at ≤ last → last + 1 ≡ used p
-    → record {
-      pending = record { places = set (moved (p .places) at last) last noJob; count = last };
-      answer = answer.Taken (getD (p .places) at noJob);
-    }
-    ≡ takeStep p at
-unfolding takeStep
-take-moved p at last h e = rw (moved-is-taken-out p at last h e, lt-ltb at (used p) (omega arith))
-
 -- If no job is pending at the place, taking one out answers that nobody is there.
 pub take-nobody : (p : Pending) (at : ℕ) → used p ≤ at → record { pending = p; answer = answer.Nobody } ≡ takeStep p at
 unfolding takeStep

@@ -2,6 +2,7 @@ pub mod Places
 pub mod Choice
 pub mod Units
 pub mod Late
+pub mod OneLook
 pub mod Serials
 pub mod Turns
 pub mod Answers

@@ -5,6 +5,7 @@ mod one_job;
 
 use crate::distinct::meets_again;
 use crate::distinct::rising;
+use crate::one_job::finishes_when_due;
 use crate::one_job::goes_before;
 use crate::one_job::is_late;
 use crate::one_job::no_job;
@@ -15,14 +16,17 @@ use kinds::Serial;
 use kinds::Tick;
 ghost use mathlib.Core.Path.{_≡_};
 ghost use Prim.Native.Nat.{_<_, min};
-ghost use Rattle.jobs.specs.Places.{maxPlaces, emptyPending, jobsOf, used, putStep, takeStep};
+ghost use lib.ListN.{getD};
+ghost use Rattle.jobs.specs.Places.{maxPlaces, noJob, emptyPending, jobsOf, used, putStep, takenOut, takeStep};
 ghost use Rattle.jobs.specs.Choice.{choiceOf};
 ghost use Rattle.jobs.specs.Units.{after, given};
 ghost use Rattle.jobs.specs.Late.{lateCount};
+ghost use Rattle.jobs.specs.OneLook.{lookOf};
 ghost use Rattle.jobs.specs.Serials.{distinctSerials};
 ghost use Rattle.jobs.specs.Turns.{turned};
 
 // A pending job holds what its release settled, and its units left. (1.7, 6.1)
+#[repr(C)]
 pub struct Job {
     pub serial: Serial,
     pub row: RowNumber,
@@ -33,6 +37,7 @@ pub struct Job {
 }
 
 // The pending jobs are those in the first `count` places. A count above the number of places means all of them. (6.1)
+#[repr(C)]
 pub struct Pending {
     pub places: [Job; Pending::PLACES],
     pub count: usize,
@@ -60,6 +65,14 @@ pub enum Turn {
 pub enum Choice {
     Place(usize),
     Nobody,
+}
+
+// One look at the pending jobs finds the choice and the job chosen, which is all zeros if no job is pending. It counts the jobs that become late at a clock if
+// none of them gets a unit before. (6.11, 6.14)
+struct Look {
+    choice: Choice,
+    first: Job,
+    late: u64,
 }
 
 // A job was put in, or it was refused because all places are in use. (6.7, 6.8)
@@ -158,42 +171,63 @@ impl Pending {
         }
     }
 
-    // The job with the earliest due time goes first, and among equal due times the one with the lowest serial. (6.11)
-    pub fn choice(self) -> Choice
-        ensures { λ r. ⌜ r ≡ choiceOf (jobsOf self) ⌝ }
+    // One look at each pending job finds the one that goes first, and counts those that are unfinished and whose due time equals the clock. (6.11, 6.14)
+    fn look(self, clock: Tick) -> Look
+        ensures { λ r. ⌜ r ≡ lookOf (clock .0) (jobsOf self) ⌝ }
     {
         let count = in_use(self.count);
         if count == 0 {
-            return Choice::Nobody;
+            return Look {
+                choice: Choice::Nobody,
+                first: no_job(),
+                late: 0,
+            };
         }
         let mut at: usize = 0;
         let mut best = self.places[0];
-        let mut i: usize = 1;
+        let mut late: u64 = 0;
+        let mut i: usize = 0;
         while i < count {
             let job = self.places[i];
+            if is_late(job, clock) {
+                late += 1;
+            }
             if goes_before(job, best) {
                 at = i;
                 best = job;
             }
             i += 1;
         }
-        Choice::Place(at)
+        Look {
+            choice: Choice::Place(at),
+            first: best,
+            late,
+        }
     }
 
-    // The job at a place is taken out and handed back. The jobs in later places move down one place, and the place that this frees holds zeros. (6.13)
-    pub fn take_out(self, at: usize) -> TakeStep
-        ensures { λ r. ⌜ r ≡ takeStep self at ⌝ }
+    // The job with the earliest due time goes first, and among equal due times the one with the lowest serial. (6.11)
+    pub fn choice(self) -> Choice
+        ensures { λ r. ⌜ r ≡ choiceOf (jobsOf self) ⌝ }
     {
-        let count = in_use(self.count);
+        let look = self.look(Tick(0));
+        look.choice
+    }
+
+    // The late count is the number of jobs that are unfinished and whose due time equals the clock. (6.14)
+    pub fn late(self, clock: Tick) -> u64
+        ensures { λ r. ⌜ r ≡ lateCount (clock .0) (jobsOf self) ⌝ }
+    {
+        let look = self.look(clock);
+        look.late
+    }
+
+    // Without the job at a place, the jobs in later places move down one place, and the place that this frees holds zeros. (6.13)
+    fn without(self, at: usize) -> Pending
+        requires { ⌜ at < used self ⌝ }
+        ensures { λ r. ⌜ r ≡ takenOut self at ⌝ }
+    {
         let mut pending = self;
-        if at >= count {
-            return TakeStep {
-                pending,
-                answer: TakeAnswer::Nobody,
-            };
-        }
-        let taken = pending.places[at];
-        let last = count - 1;
+        let last = in_use(pending.count) - 1;
         let mut i = at;
         while i < last {
             let job = pending.places[i + 1];
@@ -203,26 +237,40 @@ impl Pending {
         let nobody = no_job();
         pending.places[last] = nobody;
         pending.count = last;
+        pending
+    }
+
+    // The job at a place is taken out and handed back. The jobs in later places move down one place, and the place that this frees holds zeros. (6.13)
+    pub fn take_out(self, at: usize) -> TakeStep
+        ensures { λ r. ⌜ r ≡ takeStep self at ⌝ }
+    {
+        if at >= in_use(self.count) {
+            return TakeStep {
+                pending: self,
+                answer: TakeAnswer::Nobody,
+            };
+        }
+        let taken = self.places[at];
+        let pending = self.without(at);
         TakeStep {
             pending,
             answer: TakeAnswer::Taken(taken),
         }
     }
 
-    // The job at a place gets one unit, and is taken out if that was its last. (6.10, 6.13)
-    fn after(self, at: usize) -> Pending
-        requires { ⌜ at < used self ⌝ }
+    // `job`, which is the job at a place, gets one unit, and is taken out if that was its last. (6.10, 6.13)
+    fn after(self, at: usize, job: Job) -> Pending
+        requires { ⌜ (at < used self) × (job ≡ getD (self .places) at noJob) ⌝ }
         ensures { λ r. ⌜ r ≡ after self at ⌝ }
     {
-        let mut job = self.places[at];
         if job.left <= 1 {
-            let step = self.take_out(at);
-            return step.pending;
+            return self.without(at);
         }
-        job.left -= 1;
+        let mut worked = job;
+        worked.left -= 1;
         let mut pending = self;
-        pending.places[at] = job;
-        pending.count = in_use(self.count);
+        pending.places[at] = worked;
+        pending.count = in_use(pending.count);
         pending
     }
 
@@ -236,29 +284,13 @@ impl Pending {
                 answer: GiveAnswer::Nobody,
             };
         }
-        let ran = ran_of(self.places[at]);
-        let pending = self.after(at);
+        let job = self.places[at];
+        let ran = ran_of(job);
+        let pending = self.after(at, job);
         Given {
             pending,
             answer: GiveAnswer::Ran(ran),
         }
-    }
-
-    // The late count is the number of jobs that are unfinished and whose due time equals the clock. (6.14)
-    pub fn late(self, clock: Tick) -> u64
-        ensures { λ r. ⌜ r ≡ lateCount (clock .0) (jobsOf self) ⌝ }
-    {
-        let count = in_use(self.count);
-        let mut n: u64 = 0;
-        let mut i: usize = 0;
-        while i < count {
-            let job = self.places[i];
-            if is_late(job, clock) {
-                n += 1;
-            }
-            i += 1;
-        }
-        n
     }
 
     // `distinct` tests that no two jobs have the same serial. In a run that came from a fresh one the serials rise from place to place, and comparing
@@ -281,20 +313,27 @@ impl Pending {
         true
     }
 
-    // One tick takes the clock to `clock`. The job that goes first gets a unit, if one is pending. Then the jobs that became late are counted. (6.10 to 6.14)
+    // One tick takes the clock to `clock`. The job that goes first gets a unit, if one is pending. The jobs that became late were counted by the same look that
+    // found it. The one that finishes now is no longer one of them. (6.10 to 6.14)
     pub fn tick(self, clock: Tick) -> Turned
         ensures { λ r. ⌜ r ≡ turned self (clock .0) ⌝ }
     {
-        match self.choice() {
+        let look = self.look(clock);
+        let choice = look.choice;
+        match choice {
             Choice::Nobody => Turned {
                 pending: self,
                 turn: Turn::Idle,
                 late: 0,
             },
             Choice::Place(at) => {
-                let ran = ran_of(self.places[at]);
-                let pending = self.after(at);
-                let late = pending.late(clock);
+                let job = look.first;
+                let ran = ran_of(job);
+                let mut late = look.late;
+                if finishes_when_due(job, clock) {
+                    late -= 1;
+                }
+                let pending = self.after(at, job);
                 Turned {
                     pending,
                     turn: Turn::Ran(ran),

@@ -1,5 +1,5 @@
-// Functions of one job or two: what an unused place holds, which of two jobs goes first, whether a job becomes late, and what is answered when it gets a unit.
-// (docs/RULES.md, 6.11 to 6.14.)
+// Functions of one job or two: what an unused place holds, which of two jobs goes first, whether a job becomes late or finishes when it is due, and what is
+// answered when it gets a unit. (docs/RULES.md, 6.11 to 6.14.)
 use crate::Finished;
 use crate::Job;
 use crate::Ran;
@@ -10,6 +10,7 @@ ghost use mathlib.Core.Path.{_≡_};
 ghost use Rattle.jobs.specs.Places.{noJob};
 ghost use Rattle.jobs.specs.Choice.{goesBefore};
 ghost use Rattle.jobs.specs.Late.{isLate};
+ghost use Rattle.jobs.specs.OneLook.{finishesWhenDue};
 ghost use Rattle.jobs.specs.Units.{ranOf};
 
 // An unused place holds zeros. (6.13)
@@ -47,6 +48,16 @@ pub(crate) fn is_late(job: Job, clock: Tick) -> bool
         return 0 < job.left;
     }
     false
+}
+
+// A job that gets a unit finishes when it is due if that unit is its last and its due time equals the clock. Without the unit it would become late. (6.13, 6.14)
+pub(crate) fn finishes_when_due(job: Job, clock: Tick) -> bool
+    ensures { λ r. ⌜ r ≡ finishesWhenDue (clock .0) job ⌝ }
+{
+    if 1 < job.left {
+        return false;
+    }
+    is_late(job, clock)
 }
 
 // For a job that gets a unit, its serial is answered, and whether it finished. (6.12)

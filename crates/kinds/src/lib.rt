@@ -3,12 +3,15 @@ ghost use mathlib.Core.Path.{_≡_};
 ghost use Rattle.kinds.specs.Numbering.{maxTime, refusalNumber};
 
 // The serial of a job. Accepted jobs are numbered from 0 in the order in which they are accepted, over all rows. (1.5, 1.14)
+#[repr(C)]
 pub struct Serial(pub u64);
 
 // A row number: a row's position in its table, counted from 0. (1.2, 1.14)
+#[repr(C)]
 pub struct RowNumber(pub u64);
 
 // A time, as a number of ticks since 0: a clock, a release, a due time or a finish. (1.3, 1.14)
+#[repr(C)]
 pub struct Tick(pub u64);
 
 impl Tick {

@@ -1,2 +1,3 @@
 pub mod Words
 pub mod Traces
+pub mod LentRuns

@@ -1,9 +1,10 @@
-// The probe, which is for comparisons only: three calls by which another program can compare what the host's two calls don't reach. They are the number writer,
-// the chooser and a trace of calls on a run. Numbers are lent as words of eight bytes, lowest byte first.
+// The probe, which is for comparisons only: calls by which another program can compare what the host's two calls don't reach. They are the number writer, the
+// chooser, a trace of calls on a run, and three calls on a run that is lent. Numbers are lent as words of eight bytes, lowest byte first.
 use jobs::Finished;
 use kinds::Refusal;
 use kinds::RowNumber;
 use kinds::Tick;
+use lent::TickAnswer;
 use numbers::NumberRead;
 use numbers::Written;
 use run::Released;
@@ -26,6 +27,7 @@ ghost use Rattle.probe.specs.Words.{mostWords, wordsBytes};
 ghost use Rattle.probe.specs.Written.{inOneNumber};
 ghost use Rattle.probe.specs.Chosen.{copied, chosenAnswered};
 ghost use Rattle.probe.specs.Traced.{wordOr0, callOf, startWords, releaseWords, tickWords, afterCall, answersShown, traceWords, answersAfter};
+ghost use Rattle.probe.specs.LentRuns.{lentStarted, lentReleased, lentTicked};
 
 // The length of the chooser's answer buffer in bytes: two words.
 const CHOICE: usize = 2 * WORD;
@@ -265,4 +267,82 @@ pub extern "C" fn trace(table: &[u8], calls: &[u8], answers: &mut [u8]) -> u32
         i += 1;
     }
     shown as u32
+}
+
+// ---- a lent run: release and tick go through crate `lent`
+
+// The answer of a call on a lent run: the four words that a trace writes.
+#[repr(C)]
+pub struct FourWords {
+    pub words: [u64; 4],
+}
+
+// The run after a call, and the call's answer in words.
+struct LentStep {
+    run: Run,
+    answer: FourWords,
+}
+
+// A start by value, with its answer in words. (6.4)
+fn start_step(table: &[u8]) -> LentStep
+    ensures { λ r. ⌜ r ≡ lentStarted (now (table .entry)) ⌝ }
+{
+    let step = run::start(table);
+    let after = step.run;
+    let said = step.answer;
+    LentStep {
+        run: after,
+        answer: FourWords {
+            words: start_words(said),
+        },
+    }
+}
+
+// The answer of a release in words. (6.6, 6.8)
+fn release_said(answer: Released) -> FourWords
+    ensures { λ r. ⌜ r ≡ record { words = releaseWords (releaseSays answer) } ⌝ }
+{
+    FourWords {
+        words: release_words(answer),
+    }
+}
+
+// The answer of a tick in words. (6.12, 6.14)
+fn tick_said(said: TickAnswer) -> FourWords
+    ensures { λ r. ⌜ r ≡ record { words = tickWords (tickSays (said .answer)) (said .late) } ⌝ }
+{
+    let answer = said.answer;
+    FourWords {
+        words: tick_words(answer, said.late),
+    }
+}
+
+// Starts a run on a table, in the memory that is lent, whatever stood there before. It returns the start's answer in four words, as a trace writes it. (6.4)
+#[no_mangle]
+pub extern "C" fn lent_start(table: &[u8], run: &mut Run) -> FourWords
+    ensures { λ r. ⌜ (r ≡ lentStarted (now (table .entry)) .answer) × (now (run .exit) ≡ lentStarted (now (table .entry)) .run) ⌝ }
+{
+    let step = start_step(table);
+    *run = step.run;
+    step.answer
+}
+
+// Releases a job of a row in the run that is lent. It returns the release's answer in four words, as a trace writes it. The run afterwards is that of the
+// release by value, refusals included. (6.6, 6.18, 6.19)
+#[no_mangle]
+pub extern "C" fn lent_release(run: &mut Run, row: RowNumber, cost: u64) -> FourWords
+    ensures { λ r. ⌜ (r ≡ lentReleased (now (run .entry)) (row .0) cost .answer) × (now (run .exit) ≡ lentReleased (now (run .entry)) (row .0) cost .run) ⌝ }
+{
+    let said = lent::release(run, row, cost);
+    release_said(said)
+}
+
+// Lets one tick go by in the run that is lent. It returns the tick's answer in four words, as a trace writes it. The run afterwards is that of the tick by value,
+// refusals included. (6.10, 6.18, 6.19)
+#[no_mangle]
+pub extern "C" fn lent_tick(run: &mut Run) -> FourWords
+    ensures { λ r. ⌜ (r ≡ lentTicked (now (run .entry)) .answer) × (now (run .exit) ≡ lentTicked (now (run .entry)) .run) ⌝ }
+{
+    let said = lent::tick(run);
+    tick_said(said)
 }

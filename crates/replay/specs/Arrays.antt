@@ -93,8 +93,8 @@ loggedBy r = record { length = r .length; late = r .late; full = r .full }
 abbrev pub loggedIn : Going → Logged
 loggedIn g = record { length = g .length; late = g .late; full = g .full }
 
--- The arrays have all 64 places and at most 64 pending jobs, the log is not longer than its buffer, and the jobs late are few enough to go on counting without
--- overflow.
+-- The arrays have all their places and no more pending jobs than places, the log is not longer than its buffer, and the jobs late are few enough to go on
+-- counting without overflow.
 pub record InBounds (h : TickArrays) : Type 0 where
   pub all-places : AllColumnPlaces (h .jobs)
   pub few-pending : h .jobs .count ≤ maxPlaces

@@ -6,8 +6,9 @@ use mathlib.Core.Bool.{Bool, true, false, _&&_, and-false}
 use mathlib.Core.List.{List, [], _∷_}
 use native.Mathlib.Nat.{not-suc-le-zero, le-of-suc-le-suc}
 use native.Mathlib.Numerals.{add-one}
+use native.Mathlib.Decide.{decLt}
 use native.Mathlib.Omega.{arith}
-use lib.Dec.{leb}
+use lib.Dec.{leb, ltb}
 use lib.ListN.{length, take, drop, getD, length-take, length-map, drop-of-length-le}
 use lib.Seq.{length-take-le, drop-cons, getD-take}
 use borrow.Author.Tests.{leb-true, ltb-true, le-leb, lt-leb, lt-ltb, le-ltb}
@@ -31,7 +32,7 @@ use Rattle.due.proofs.NewestKept.{kept-sound-means as kept-means}
 use Rattle.jobs.specs.declared.Job.{Job}
 use Rattle.jobs.specs.declared.Pending.{Pending}
 use Rattle.jobs.specs.Places.{maxPlaces, noJob, jobsOf}
-use Rattle.jobs.specs.Serials.{distinctSerials}
+use Rattle.jobs.specs.Serials.{distinctSerials, risingAbove, risingSerials}
 use Rattle.jobs.proofs.Places.{rest-cons}
 use Rattle.jobs.proofs.Changes.{distinct-means}
 use Rattle.run.specs.declared.Run.{Run}
@@ -139,6 +140,17 @@ all-rows (r ∷ rs) (k ∷ ks) f = let p = f 0 (omega arith) in rw (p .0, p .1) 
 
 -- ---- the tests of a run, one after another
 
+-- Every pending job is sound, and no two have the same serial. (6.22)
+abbrev pub JobsTested : Run → Bool
+JobsTested run =
+    jobsSound (costLimits (run .table)) (run .clock .0) (run .next .0) (jobsOf (run .pending)) && distinctSerials (jobsOf (run .pending))
+
+-- Where one of two tests in the middle fails, all tests together fail.
+one-of-two-fails : (before one two after : Bool) → (one && two) ≡ false → false ≡ (before && one && two && after)
+one-of-two-fails true true two after e = rw e
+one-of-two-fails true false two after e = refl
+one-of-two-fails false one two after e = refl
+
 -- A run that fails one of the tests is not sound.
 module _ (run : Run) where
   pub too-many-rows : maxRows < run .table .count → false ≡ soundOf run
@@ -157,20 +169,21 @@ module _ (run : Run) where
   unfolding soundOf
   rows-unsound h = simp (h, and-false)
 
-  pub jobs-unsound : jobsSound (costLimits (run .table)) (run .clock .0) (run .next .0) (jobsOf (run .pending)) ≡ false → false ≡ soundOf run
+  pub jobs-unsound : JobsTested run ≡ false → false ≡ soundOf run
   unfolding soundOf
-  jobs-unsound h = simp (h, and-false)
-
-  pub serials-alike : distinctSerials (jobsOf (run .pending)) ≡ false → false ≡ soundOf run
-  unfolding soundOf
-  serials-alike h = simp (h, and-false)
+  jobs-unsound h =
+      let js = jobsOf (run .pending) in
+      let counts = leb (run .table .count) maxRows && leb (run .clock .0) maxTime && leb (run .pending .count) maxPlaces in
+      one-of-two-fails (counts && rowsSound (rowsOf (run .table)) (run .kept))
+      (jobsSound (costLimits (run .table)) (run .clock .0) (run .next .0) js) (distinctSerials js) (leb (run .next .0) (serialBound run)) h
 
 -- The test of the jobs with the lent limits answers what the definition says about the run's jobs.
 pub jobs-tested : (run : Run) (all : List ℕ) → all ≡ csOf (run .table .rows) → (r : Bool)
-    → r ≡ jobsSound (take (run .table .count) all) (run .clock .0) (run .next .0) (jobsOf (run .pending))
-    → jobsSound (costLimits (run .table)) (run .clock .0) (run .next .0) (jobsOf (run .pending)) ≡ r
+    → r ≡ (jobsSound (take (run .table .count) all) (run .clock .0) (run .next .0) (jobsOf (run .pending)) && distinctSerials (jobsOf (run .pending)))
+    → JobsTested run ≡ r
 jobs-tested run all e r h =
-    ap (λ l. jobsSound l (run .clock .0) (run .next .0) (jobsOf (run .pending))) (sym (limits-lent (run .table) all e)) ∙ sym h
+    ap (λ l. jobsSound l (run .clock .0) (run .next .0) (jobsOf (run .pending)) && distinctSerials (jobsOf (run .pending))) (sym (limits-lent (run .table) all e))
+    ∙ sym h
 
 -- The run passes all tests but the last, which is the bound of the next serial.
 pub record AllBefore (run : Run) : Type 0 where
@@ -178,20 +191,22 @@ pub record AllBefore (run : Run) : Type 0 where
   pub clock-in-time : run .clock .0 ≤ maxTime
   pub few-pending : run .pending .count ≤ maxPlaces
   pub rows : rowsSound (rowsOf (run .table)) (run .kept) ≡ true
-  pub jobs : jobsSound (costLimits (run .table)) (run .clock .0) (run .next .0) (jobsOf (run .pending)) ≡ true
-  pub apart : distinctSerials (jobsOf (run .pending)) ≡ true
+  pub jobs : JobsTested run ≡ true
 
 -- A run that passes all other tests is sound exactly when its next serial is within its bound.
 pub bound-settles : (run : Run) → AllBefore run → leb (run .next .0) (serialBound run) ≡ soundOf run
 unfolding soundOf
-bound-settles run a = simp (
-  le-leb (run .table .count) maxRows (a .few-rows),
-  le-leb (run .clock .0) maxTime (a .clock-in-time),
-  le-leb (run .pending .count) maxPlaces (a .few-pending),
-  a .rows,
-  a .jobs,
-  a .apart,
-)
+bound-settles run a =
+    let js = jobsOf (run .pending) in
+    let jobs = both-true (jobsSound (costLimits (run .table)) (run .clock .0) (run .next .0) js) (distinctSerials js) (a .jobs) in
+    simp (
+      le-leb (run .table .count) maxRows (a .few-rows),
+      le-leb (run .clock .0) maxTime (a .clock-in-time),
+      le-leb (run .pending .count) maxPlaces (a .few-pending),
+      a .rows,
+      jobs .0,
+      jobs .1,
+    )
 
 -- ---- what the test of a run means
 
@@ -258,8 +273,10 @@ module _ (run : Run) (whole : Whole run) where
         clock-in-time = s .clock-in-time;
         few-pending = s .few-pending;
         rows = all-numbered (s .few-rows) row;
-        jobs = all-jobs _ _ _ pending (λ i h. job-tested _ _ _ (one-limit-for-each-row table (s .few-rows) (whole .all-rows)) (getD pending i noJob) (s .jobs i h));
-        apart = distinct-means pending .1 (s .apart);
+        jobs =
+            rw
+            (all-jobs _ _ _ pending (λ i h. job-tested _ _ _ (one-limit-for-each-row table (s .few-rows) (whole .all-rows)) (getD pending i noJob) (s .jobs i h)))
+            (distinct-means pending .1 (s .apart));
       } in
       sym (bound-settles run before) ∙ le-leb (run .next .0) (serialBound run) (s .serials)
 
@@ -313,6 +330,46 @@ module _ {limits : List ℕ} {clock next : ℕ} {p : Pending} {i : ℕ} (from : 
         few-pending = from .few-pending;
         settled = rw (ok, h) at job-and-later;
       }
+
+-- A job that fits has a serial below the next serial.
+pub serial-below : (clock next : ℕ) (j : Job) → jobFits clock next j ≡ true → j .serial .0 < next
+unfolding jobFits
+serial-below clock next j e =
+    let before = leb (j .release .0) clock && fromOneTo (j .cost) (j .left) && leb (j .due .0) maxTime in
+    ltb-true (j .serial .0) next (both-true before (ltb (j .serial .0) next) e .1)
+
+-- The serials rise, and the first of them is at least `lowest`.
+abbrev risesFrom : (lowest : ℕ) → List Job → Bool
+risesFrom lowest [] = true
+risesFrom lowest (j ∷ js) = leb lowest (j .serial .0) && risingAbove (j .serial .0) js
+
+-- The serials before the place i rise, as far as `rising` says so: if those from i on rise too, and the first of them is at least `lowest`, all serials rise.
+abbrev pub RisenTo : Pending → (rising : Bool) (lowest i : ℕ) → Type 0
+RisenTo p rising lowest i = rising ≡ true → risesFrom lowest (drop i (jobsOf p)) ≡ true → risingSerials (jobsOf p) ≡ true
+
+-- Serials that rise from 0 on rise.
+pub risen-to-none : (js : List Job) → risesFrom 0 js ≡ true → risingSerials js ≡ true
+risen-to-none [] e = refl
+risen-to-none (j ∷ js) e = both-true (leb 0 (j .serial .0)) _ e .1
+
+-- Serials that rise above s are those that rise from s + 1 on.
+above-is-from : (s : ℕ) (js : List Job) → risingAbove s js ≡ risesFrom (s + 1) js
+above-is-from s [] = refl
+above-is-from s (j ∷ js) = elim (decLt s (j .serial .0)) [
+  | yes h ↦ rw (lt-ltb s (j .serial .0) h, le-leb (s + 1) (j .serial .0) (omega arith))
+  | no h ↦ rw (le-ltb s (j .serial .0) (omega arith), lt-leb (s + 1) (j .serial .0) (omega arith))
+]
+
+module _ (p : Pending) (rising : Bool) (lowest i : ℕ) (risen : RisenTo p rising lowest i) where
+  -- Where no job is left, all serials rise.
+  pub all-risen : length (jobsOf p) ≤ i → rising ≡ true → risingSerials (jobsOf p) ≡ true
+  all-risen h r = risen r (rw (drop-of-length-le (jobsOf p) h))
+
+  -- Where the serial at i is at least `lowest`, the serials up to and with it rise.
+  pub rises-on : i < length (jobsOf p) → lowest ≤ jobAt p i .serial .0 → RisenTo p rising (jobAt p i .serial .0 + 1) (i + 1)
+  rises-on h l r e =
+      risen r
+      (rw (rest-cons (p .count) (p .places) i noJob h, le-leb lowest (jobAt p i .serial .0) l, above-is-from (jobAt p i .serial .0) (drop (i + 1) (jobsOf p))) e)
 
 -- ---- the rows with their kept due times, one after another
 

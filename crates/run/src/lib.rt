@@ -25,6 +25,7 @@ ghost use Rattle.run.specs.Release.{refusedRelease, released};
 ghost use Rattle.run.specs.Ticking.{ticked};
 
 // A run holds its rows, the clock, the pending jobs, the next serial, and the kept due times of each row. (6.1)
+#[repr(C)]
 pub struct Run {
     pub table: Table,
     pub clock: Tick,
@@ -145,9 +146,6 @@ impl Run {
         let limits = table.cost_limits();
         let used = table.count;
         if !jobs_sound(&limits[..used], clock, next, pending) {
-            return false;
-        }
-        if !pending.distinct() {
             return false;
         }
         next.0 <= clock.0 + pending.count as u64

@@ -7,17 +7,22 @@ use kinds::Tick;
 use table::CostAnswer;
 use table::Table;
 ghost use mathlib.Core.Path.{_≡_};
+ghost use mathlib.Core.Bool.{_&&_};
 ghost use Prim.Native.Nat.{_≤_};
 ghost use Rattle.table.specs.Limits.{maxRows};
 ghost use Rattle.table.specs.Tables.{rowsOf};
 ghost use Rattle.jobs.specs.Places.{maxPlaces, jobsOf};
+ghost use Rattle.jobs.specs.Serials.{distinctSerials};
 ghost use Rattle.run.specs.Sound.{jobFits, jobsSound, rowsSound};
 
-// Every pending job is sound. `limits` has the most that a job may cost, for each row in use. (6.22)
+// Every pending job is sound, and no two have the same serial. `limits` has the most that a job may cost, for each row in use. In a run that came from a fresh
+// one the serials rise from place to place, so one look at each job tests all of it. Otherwise every two serials are compared. (6.22)
 pub(crate) fn jobs_sound(limits: &[u64], clock: Tick, next: Serial, pending: Pending) -> bool
     requires { ⌜ pending .count ≤ maxPlaces ⌝ }
-    ensures { λ r. ⌜ r ≡ jobsSound (now (limits .entry)) (clock .0) (next .0) (jobsOf pending) ⌝ }
+    ensures { λ r. ⌜ r ≡ (jobsSound (now (limits .entry)) (clock .0) (next .0) (jobsOf pending) && distinctSerials (jobsOf pending)) ⌝ }
 {
+    let mut rising = true;
+    let mut lowest: u64 = 0;
     let mut i: usize = 0;
     while i < pending.count {
         let job = pending.places[i];
@@ -30,9 +35,16 @@ pub(crate) fn jobs_sound(limits: &[u64], clock: Tick, next: Serial, pending: Pen
         if !job_fits(job, clock, next) {
             return false;
         }
+        if job.serial.0 < lowest {
+            rising = false;
+        }
+        lowest = job.serial.0 + 1;
         i += 1;
     }
-    true
+    if rising {
+        return true;
+    }
+    pending.distinct()
 }
 
 // What soundness asks of a pending job, apart from its row and its cost. (6.22)

@@ -14,6 +14,7 @@ ghost use Rattle.table.specs.Rows.{withinLimit, fine, rowInRange, hopele
 ghost use Rattle.table.specs.Tables.{emptyTable, refusedTable, tableRead};
 
 // A row expects x jobs in any y ticks, each due d ticks after its release and costing at most c units. (1.1)
+#[repr(C)]
 pub struct Row {
     pub x: u64,
     pub y: u64,
@@ -22,6 +23,7 @@ pub struct Row {
 }
 
 // The rows in use are the first `count`. The others hold zeros in every table that was read. (3.14)
+#[repr(C)]
 pub struct Table {
     pub rows: [Row; Table::MAX_ROWS],
     pub count: usize,

@@ -1,5 +1,5 @@
 -- `Pending::give` meets its contract: nobody is pending at the place, or the job there has the unit.
-use mathlib.Core.Path.{_≡_}
+use mathlib.Core.Path.{_≡_, refl}
 use native.Mathlib.Omega.{arith}
 use borrow.Author.Needs.{needs}
 use borrow.Author.Tests.{lt-ltb, le-ltb}
@@ -23,17 +23,17 @@ returns c =
     let a = c .before .before .args in
     simp (le-ltb (a .at) (used (a .t1)) (omega (arith, counted (c .before))))
 
-mul-ran-of : tie.Need-mul-ran-of
-mul-ran-of c = search needs
+mul-job : tie.Need-mul-job
+mul-job c = search needs
 
-element-copy-out-ran-of : tie.Need-element-copy-out-ran-of
-element-copy-out-ran-of c = search needs
+element-copy-out-job : tie.Need-element-copy-out-job
+element-copy-out-job c = search needs
 
 ran-of-requires : tie.Need-ran-of-requires
 ran-of-requires c κs = search needs
 
 after-requires : tie.Need-after-requires
-after-requires c κs = omega (arith, counted (c .before .before .before))
+after-requires c κs = (omega (arith, counted (c .before .before .before)), refl)
 
 returns-2 : tie.Need-returns-2
 unfolding given
@@ -48,8 +48,8 @@ give-spec =
     (tie.spec
     in-use-requires
     returns
-    mul-ran-of
-    element-copy-out-ran-of
+    mul-job
+    element-copy-out-job
     ran-of-requires
     after-requires
     returns-2)

@@ -6,7 +6,7 @@ use borrow.Author.Needs.{needs}
 use borrow.Author.Tests.{not-true, not-false}
 use Rattle.kinds.proofs.Lists.{length-mapped}
 use Rattle.run.specs.Sound.{Whole}
-use Rattle.run.proofs.Sound.{enough-limits, jobs-tested, too-many-rows, clock-too-late, too-many-pending, rows-unsound, jobs-unsound, serials-alike, bound-settles}
+use Rattle.run.proofs.Sound.{enough-limits, jobs-tested, too-many-rows, clock-too-late, too-many-pending, rows-unsound, jobs-unsound, bound-settles}
 use Rattle.run.proofs.Run.sound.Statement.{statement}
 use Rattle.run.proofs.Run.sound.Tie as tie
 
@@ -49,26 +49,19 @@ returns-5 c = (
   whole (c .before .before .before .before .before .before .before .before .before .before .before .before .before .before .before .before .before),
 )
 
-distinct-requires : tie.Need-distinct-requires
-distinct-requires c κs = search needs
-
-returns-6 : tie.Need-returns-6
-returns-6 c = (serials-alike _ (sym (c .before .distinct .ensures) ∙ not-true _ (c .if6 .taken)), whole (c .before .before .before .before .before .before .before .before .before .before .before .before .before .before .before .before .before .before .before))
-
 add-result : tie.Need-add-result
 add-result c = search needs
 
-returns-7 : tie.Need-returns-7
-returns-7 c = (
+returns-6 : tie.Need-returns-6
+returns-6 c = (
   bound-settles _ record {
-    few-rows = c .before .before .before .before .before .before .before .before .before .before .before .before .before .before .if1 .left;
-    clock-in-time = c .before .before .before .before .before .before .before .before .before .before .before .before .if2 .left;
-    few-pending = c .before .before .before .before .before .before .before .before .before .before .if3 .left;
-    rows = sym (c .before .before .before .before .before .before .before .before .before .rows-sound .ensures) ∙ not-false _ (c .before .before .before .before .before .before .before .before .if4 .left);
-    jobs = jobs-tested (c .before .before .before .before .before .before .before .before .before .before .before .before .before .before .before .before .before .before .before .before .before .args .self) _ (c .before .before .before .before .before .before .before .cost-limits .ensures) _ (c .before .before .before .before .before .jobs-sound .ensures) ∙ not-false _ (c .before .before .before .before .if5 .left);
-    apart = sym (c .before .before .before .distinct .ensures) ∙ not-false _ (c .before .before .if6 .left);
+    few-rows = c .before .before .before .before .before .before .before .before .before .before .before .before .if1 .left;
+    clock-in-time = c .before .before .before .before .before .before .before .before .before .before .if2 .left;
+    few-pending = c .before .before .before .before .before .before .before .before .if3 .left;
+    rows = sym (c .before .before .before .before .before .before .before .rows-sound .ensures) ∙ not-false _ (c .before .before .before .before .before .before .if4 .left);
+    jobs = jobs-tested (c .before .before .before .before .before .before .before .before .before .before .before .before .before .before .before .before .before .before .before .args .self) _ (c .before .before .before .before .before .cost-limits .ensures) _ (c .before .before .before .jobs-sound .ensures) ∙ not-false _ (c .before .before .if5 .left);
   },
-  whole (c .before .before .before .before .before .before .before .before .before .before .before .before .before .before .before .before .before .before .before .before .before),
+  whole (c .before .before .before .before .before .before .before .before .before .before .before .before .before .before .before .before .before .before .before),
 )
 
 pub sound-spec : {M : Type 1} → statement M
@@ -85,7 +78,5 @@ sound-spec =
     slice-aggregate-jobs-sound
     jobs-sound-requires
     returns-5
-    distinct-requires
-    returns-6
     add-result
-    returns-7)
+    returns-6)
