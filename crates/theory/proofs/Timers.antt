@@ -1,13 +1,18 @@
 -- The proofs about a timer that takes the first s ticks of every p. Before the time t it takes floor(t/p) · s + min(s, t mod p) ticks, by induction on t. Over
--- any window this count grows by at most its value for the window's length, so that it bounds every window.
-use Prim.Native.Nat.{ℕ, zero, suc, _+_, _-_, _*_, _/_, _%_, _≤_, _<_, min}
+-- any window this count grows by at most its value for the window's length, so that it bounds every window. A stretch of taken ticks ends s ticks after its
+-- period began, and there the rest after whole periods is s.
+use Prim.Native.Nat.{ℕ, zero, suc, _+_, _-_, _*_, _/_, _%_, _≤_, _<_, _∣_, min}
 use mathlib.Core.Path.{_≡_, refl}
+use mathlib.Core.Bool.{true, false}
 use native.Mathlib.Omega.{arith}
-use native.Mathlib.Nat.{add-mul-div-right, add-mul-mod-self-right, div-add-mod', div-eq-of-lt, mod-eq-of-lt, mod-lt}
+use native.Mathlib.Decide.{le-ind}
+use native.Mathlib.Nat.{add-mul-div-right, add-mul-mod-self-right, div-add-mod', div-eq-of-lt, div-mul-cancel, le-refl, mod-eq-of-lt, mod-lt}
 use borrow.Author.Tests.{lt-ltb, le-ltb}
-use Rattle.theory.specs.Ticks.{freeBefore, free, timer, timerTakes, TimerTakesAtMost, TimerTakesNoLess}
-use Rattle.theory.proofs.Cases.{by-lt}
-use Rattle.theory.proofs.Ticks.{after-a-taken-tick, after-a-free-tick}
+use Rattle.theory.specs.Curves.{Curve}
+use Rattle.theory.specs.Ticks.{freeBefore, free, timer, timerTakes, nextFree, FirstFree, TimerTakesAtMost, TimerTakesNoLess}
+use Rattle.theory.specs.Ticks.{TimerTakesFromZero, TimerTakesBetween, TimerIsACurve, NoTimer, NextFreeIsFirst, FreeIsNextFree}
+use Rattle.theory.proofs.Cases.{by-lt, by-test}
+use Rattle.theory.proofs.Ticks.{after-a-taken-tick, after-a-free-tick, free-before-grows}
 
 module _ (s p : ℕ) (some : 1 ≤ p) (most : s ≤ p) where
   -- In q whole periods and r more ticks a timer takes q · s + min(s, r) ticks.
@@ -60,6 +65,21 @@ module _ (s p : ℕ) (some : 1 ≤ p) (most : s ≤ p) where
       let here : rest + suc (a / p + L / p) * p ≡ a + L = omega (arith, parts a, parts L) in
       omega (arith, at-a, at-L, rw here at (count-at (suc (a / p + L / p)) rest (omega arith))))
 
+  -- With each tick the timer's count grows by at most one, and never falls.
+  count-never-falls : (t : ℕ) → timerTakes s p t ≤ timerTakes s p (suc t)
+  unfolding freeBefore
+  count-never-falls t = by-test (timer s p t)
+      (λ taken. omega (arith, count-grows t, after-a-taken-tick (timer s p) t taken))
+      (λ left. omega (arith, count-grows t, after-a-free-tick (timer s p) t left))
+
+  -- One period longer, the timer's count is higher by s for each p.
+  count-repeats : (period : ℕ) → p ∣ period → (L : ℕ) → timerTakes s p (L + period) ≡ timerTakes s p L + s * (period / p)
+  count-repeats period whole L =
+      let r = L % p in
+      let below : r < p = mod-lt L some in
+      let here : r + (L / p + period / p) * p ≡ L + period = omega (arith, parts L, div-mul-cancel p whole) in
+      omega (arith, rw (parts L) at (count-at (L / p) r below), rw here at (count-at (L / p + period / p) r below))
+
 pub timer-takes-at-most : TimerTakesAtMost
 unfolding free
 timer-takes-at-most s p some most a b h =
@@ -71,3 +91,61 @@ unfolding free freeBefore
 timer-takes-no-less s p some most bound few L =
     let whole : L - 0 ≡ L = omega arith in
     omega (arith, counted s p some most L, rw whole at (few 0 L (omega arith)))
+
+pub timer-takes-from-zero : TimerTakesFromZero
+unfolding free freeBefore
+timer-takes-from-zero s p some most L = omega (arith, counted s p some most L)
+
+pub timer-takes-between : TimerTakesBetween
+unfolding free
+timer-takes-between s p some most a b h =
+    omega (arith, counted s p some most a, counted s p some most b, free-before-grows (timer s p) a b h)
+
+pub timer-is-a-curve : TimerIsACurve
+timer-is-a-curve s p period some most whole = record {
+  monotone = λ L M h.
+      le-ind (λ m. timerTakes s p L ≤ timerTakes s p m) (le-refl _) (λ m l k. omega (arith, k, count-never-falls s p some most m)) M h;
+  repeats = λ L h. count-repeats s p some most period whole L;
+}
+
+pub no-timer : NoTimer
+no-timer p = (λ t. le-ltb (t % p) 0 (omega arith), λ L. omega arith)
+
+-- ---- the first free time
+
+-- The tick that comes r ticks after the start of a period is taken where r is below s.
+taken-at : (s p q r : ℕ) → s < p → r < s → timer s p (r + q * p) ≡ true
+taken-at s p q r few h =
+    let below : r < p = omega arith in
+    rw (add-mul-mod-self-right r q p, mod-eq-of-lt below) (lt-ltb r s h)
+
+-- The tick that comes s ticks after the start of a period is free.
+free-at : (s p q : ℕ) → s < p → timer s p (s + q * p) ≡ false
+free-at s p q few = rw (add-mul-mod-self-right s q p, mod-eq-of-lt few) (le-ltb s s (omega arith))
+
+-- From a taken tick on, the timer takes every tick until s ticks after the start of its period.
+first-free-after : (s p t : ℕ) → s < p → t % p < s → FirstFree s p t (t - t % p + s)
+first-free-after s p t few taken =
+    let start : t ≡ t % p + t / p * p = omega (arith, parts s p (omega arith) (omega arith) t) in
+    let end : s + t / p * p ≡ t - t % p + s = omega arith in
+    record {
+      not-before = omega arith;
+      within-s = omega arith;
+      taken-before = λ u low high.
+          let here : u - t / p * p + t / p * p ≡ u = omega arith in
+          rw here at (taken-at s p (t / p) (u - t / p * p) few (omega arith));
+      free-there = rw end at (free-at s p (t / p) few);
+    }
+
+pub next-free-is-first : NextFreeIsFirst
+next-free-is-first s p t few = by-lt (t % p) s
+    (λ taken. rw (lt-ltb (t % p) s taken) (first-free-after s p t few taken))
+    (λ left. rw (le-ltb (t % p) s left) (record {
+      not-before = omega arith;
+      within-s = omega arith;
+      taken-before = λ u low high. absurd (omega arith);
+      free-there = le-ltb (t % p) s left;
+    }))
+
+pub free-is-next-free : FreeIsNextFree
+free-is-next-free s p t left = rw left

@@ -1,10 +1,11 @@
 -- Free ticks and taken ticks. `taken t` says that no job can have the tick that starts at t. Every other tick is free. Where every tick is free, a window has
 -- as many free ticks as its length.
-use Prim.Native.Nat.{ℕ, zero, suc, _+_, _-_, _*_, _/_, _%_, _≤_, min}
+use Prim.Native.Nat.{ℕ, zero, suc, _+_, _-_, _*_, _/_, _%_, _≤_, _<_, _∣_, min}
 use mathlib.Core.Path.{_≡_}
-use mathlib.Core.Bool.{Bool, false, cond}
+use mathlib.Core.Bool.{Bool, true, false, cond}
 use mathlib.Core.Option.{Option, none, some}
 use lib.Dec.{eqb, ltb}
+use Rattle.theory.specs.Curves.{Curve}
 
 -- How many of the ticks before t are free.
 unfoldable pub freeBefore : (taken : ℕ → Bool) (t : ℕ) → ℕ
@@ -36,6 +37,17 @@ timer s p t = ltb (t % p) s
 abbrev pub timerTakes : (s p L : ℕ) → ℕ
 timerTakes s p L = L / p * s + min s (L % p)
 
+-- The first time from t on whose tick a timer does not take. It is t itself, unless t lies in the first s ticks of a period: then it is the end of these.
+abbrev pub nextFree : (s p t : ℕ) → ℕ
+nextFree s p t = cond (ltb (t % p) s) (t - t % p + s) t
+
+-- From t on a timer takes every tick before the time `next`, and `next` itself is free. It lies at most s ticks after t.
+pub record FirstFree (s p t next : ℕ) : Type 0 where
+  pub not-before : t ≤ next
+  pub within-s : next - t ≤ s
+  pub taken-before : (u : ℕ) → t ≤ u → u < next → timer s p u ≡ true
+  pub free-there : timer s p next ≡ false
+
 -- ---- what is proved about free ticks (proofs/Ticks.antt)
 
 -- Where every tick is free, a window has as many free ticks as its length. (6.5)
@@ -55,3 +67,27 @@ TimerTakesAtMost = (s p : ℕ) → 1 ≤ p → s ≤ p → TakenAtMost (timerTak
 -- No smaller bound on the ticks that a timer takes is right: for every length, the window that begins at zero reaches this one.
 abbrev pub TimerTakesNoLess : Type 0
 TimerTakesNoLess = (s p : ℕ) → 1 ≤ p → s ≤ p → (bound : ℕ → ℕ) → TakenAtMost bound (timer s p) → (L : ℕ) → timerTakes s p L ≤ bound L
+
+-- Of the first L ticks, counted from zero, a timer takes exactly floor(L/p) · s + min(s, L mod p).
+abbrev pub TimerTakesFromZero : Type 0
+TimerTakesFromZero = (s p : ℕ) → 1 ≤ p → s ≤ p → (L : ℕ) → free (timer s p) 0 L + timerTakes s p L ≡ L
+
+-- Of the ticks from a on and before b, a timer takes exactly as many as its count from zero grows from a to b.
+abbrev pub TimerTakesBetween : Type 0
+TimerTakesBetween = (s p : ℕ) → 1 ≤ p → s ≤ p → (a b : ℕ) → a ≤ b → free (timer s p) a b + timerTakes s p b ≡ timerTakes s p a + (b - a)
+
+-- The ticks that a timer takes are a curve that starts at 0. Any multiple of p may be its period, in which it grows by s for each p.
+abbrev pub TimerIsACurve : Type 0
+TimerIsACurve = (s p period : ℕ) → 1 ≤ p → s ≤ p → p ∣ period → Curve (timerTakes s p) 0 period (s * (period / p))
+
+-- A timer with s = 0 takes no tick, and its count is 0 in every length.
+abbrev pub NoTimer : Type 0
+NoTimer = (p : ℕ) → ((t : ℕ) → timer 0 p t ≡ false) × ((L : ℕ) → timerTakes 0 p L ≡ 0)
+
+-- Where s is below p, `nextFree` is the first free time from t on.
+abbrev pub NextFreeIsFirst : Type 0
+NextFreeIsFirst = (s p t : ℕ) → s < p → FirstFree s p t (nextFree s p t)
+
+-- A time whose tick is free is itself the first free time from there on.
+abbrev pub FreeIsNextFree : Type 0
+FreeIsNextFree = (s p t : ℕ) → timer s p t ≡ false → nextFree s p t ≡ t
