@@ -24,11 +24,13 @@ use Rattle.verdict.specs.Verdict.{Judged, verdictSays}
 use Rattle.verdict.specs.RowsAlone.{demandOfRows}
 use Rattle.run.specs.Ticking.{refusedTick, freeTick, ticked}
 use Rattle.run.specs.Answers.{taken}
+use Rattle.play.specs.LogRecords.{OfWhole}
 use Rattle.promise.specs.Traces.{Call, Event, runAt, trace, clockOf, jobsOfTrace, ticksOf}
-use Rattle.promise.specs.Link.{takenOn, waitingIn}
+use Rattle.promise.specs.Link.{waitingIn}
 use Rattle.promise.specs.Choice.{nextTick}
 use Rattle.promise.specs.Paper.{paperSum}
 use Rattle.promise.specs.NoOrder.{namedJobs, Serves}
+use Rattle.promise.specs.Replays.{callsOf, IsTheTrace}
 
 -- The bytes are accepted, and say these rows alone: s is 0 and p is 1. (3.6, 3.16)
 pub record SaysRowsAlone (bytes : List ℕ) (rows : List Row) : Type 0 where
@@ -69,15 +71,20 @@ abbrev pub EveryTickIsFree : Type 0
 EveryTickIsFree = (bytes : List ℕ) → Bytes bytes → (rows : List Row) → SaysRowsAlone bytes rows → (calls : List Call)
     → let run = runAt bytes calls in ticked run ≡ cond (ltb (run .clock .0) maxTime) (freeTick run) (refusedTick run TimeTooLate)
 
--- After any calls the answers are a trace of the theory in which every tick is free. Replays are traces (page Replays), so this holds for replays as well.
--- (6.5, 8.2)
+-- After these calls the answers are a trace of the theory in which every tick is free. (6.5, 6.11, 6.12)
 pub record FollowsWithAllFree (bytes : List ℕ) (calls : List Call) : Type 0 where
   pub events : Trace noneTaken (clockOf (trace bytes calls)) (waitingIn (runAt bytes calls)) (jobsOfTrace (trace bytes calls)) (ticksOf (trace bytes calls)) []
   pub earliest-due : ServesEarliestDue events
   pub never-idle : NeverIdlesInVain events
 
+-- After any calls on a table of rows alone, the answers are such a trace. (6.5, 6.11, 6.12)
 abbrev pub TracesHaveAllTicksFree : Type 0
 TracesHaveAllTicksFree = (bytes : List ℕ) → Bytes bytes → (rows : List Row) → SaysRowsAlone bytes rows → (calls : List Call) → FollowsWithAllFree bytes calls
+
+-- A replay on a table of rows alone that comes to its end is the trace of its calls, and every tick in it is free. (8.2, 8.3)
+abbrev pub ReplaysHaveAllTicksFree : Type 0
+ReplaysHaveAllTicksFree = OfWhole λ table script p. (rows : List Row) → SaysRowsAlone table rows
+    → (t : IsTheTrace table script p) × FollowsWithAllFree table (callsOf (t .records) (t .final))
 
 -- On an overloaded table nobody serves the jobs that the witness names, even if every tick counts. (5.11)
 abbrev pub NoOrderOnAnyTick : Type 0
