@@ -1,12 +1,11 @@
 -- The promises at work. The first instance is a feasible table of two rows, with a trace of releases, refusals and ticks to which *In time* and *Share* apply.
 -- The second is an overloaded table, with the jobs that its witness names. The third is a feasible table with a timer, and the fourth a table on which a job
 -- becomes late in a taken tick. This page promises nothing new: it shows that the promises are not empty.
-use Prim.Native.Nat.{ℕ, zero, suc, _+_, _≤_}
+use Prim.Native.Nat.{ℕ, zero, suc, _+_}
 use mathlib.Core.Path.{_≡_}
 use mathlib.Core.Bool.{true, false}
 use mathlib.Core.Option.{Option, none, some}
 use mathlib.Core.List.{List, [], _∷_, map}
-use Rattle.theory.specs.Lists.{All}
 use Rattle.theory.specs.Jobs.{Job}
 use Rattle.table.specs.Tables.{tableRead}
 use Rattle.run.specs.Answers.{accepted, idle, ran, taken}

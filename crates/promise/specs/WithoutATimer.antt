@@ -4,7 +4,7 @@
 use Prim.Native.Nat.{ℕ, _≤_}
 use mathlib.Core.Path.{_≡_}
 use mathlib.Core.Logic.{_↔_, _≢_}
-use mathlib.Core.Bool.{Bool, false, cond}
+use mathlib.Core.Bool.{cond}
 use mathlib.Core.Option.{Option}
 use mathlib.Core.List.{List, [], _∷_}
 use lib.Dec.{ltb}
@@ -25,7 +25,7 @@ use Rattle.verdict.specs.RowsAlone.{demandOfRows}
 use Rattle.run.specs.Ticking.{refusedTick, freeTick, ticked}
 use Rattle.run.specs.Answers.{taken}
 use Rattle.play.specs.LogRecords.{OfWhole}
-use Rattle.promise.specs.Traces.{Call, Event, runAt, trace, clockOf, jobsOfTrace, ticksOf}
+use Rattle.promise.specs.Traces.{Call, runAt, trace, clockOf, jobsOfTrace, ticksOf}
 use Rattle.promise.specs.Link.{waitingIn}
 use Rattle.promise.specs.Choice.{nextTick}
 use Rattle.promise.specs.Paper.{paperSum}
@@ -93,6 +93,6 @@ NoOrderOnAnyTick = (bytes : List ℕ) → Bytes bytes → (rows : List Row) → 
     → ¬ Serves noneTaken who (namedJobs (tableRead bytes .table) L)
 
 -- Such tables exist: of rows that a table may have, the bytes `00 01` and the spelling of the rows say these rows alone wherever they are accepted. (3.6)
-abbrev pub RowsAloneAreSpelled : Type 0
-RowsAloneAreSpelled = (rows : List Row) (period : ℕ) → GoodRows rows
+abbrev pub SpelledSaysRowsAlone : Type 0
+SpelledSaysRowsAlone = (rows : List Row) (period : ℕ) → GoodRows rows
     → tableSays (tableRead (0x00 ∷ 0x01 ∷ spelledRows rows) .answer) ≡ values (period ∷ []) → SaysRowsAlone (0x00 ∷ 0x01 ∷ spelledRows rows) rows

@@ -1,16 +1,16 @@
 -- The proofs about a timer that takes the first s ticks of every p. Before the time t it takes floor(t/p) · s + min(s, t mod p) ticks, by induction on t. Over
--- any window this count grows by at most its value for the window's length, so that it bounds every window. A stretch of taken ticks ends s ticks after its
--- period began, and there the rest after whole periods is s.
+-- any window this count grows by at most its value for the window's length, so that it bounds every window. The n-th free tick is found by the p − s free ticks
+-- of each period.
 use Prim.Native.Nat.{ℕ, zero, suc, _+_, _-_, _*_, _/_, _%_, _≤_, _<_, _∣_, min}
-use mathlib.Core.Path.{_≡_, refl}
-use mathlib.Core.Bool.{true, false}
+use mathlib.Core.Path.{_≡_, sym, _∙_}
+use mathlib.Core.Bool.{false, true≢false}
 use native.Mathlib.Omega.{arith}
 use native.Mathlib.Decide.{le-ind}
 use native.Mathlib.Nat.{add-mul-div-right, add-mul-mod-self-right, div-add-mod', div-eq-of-lt, div-mul-cancel, le-refl, mod-eq-of-lt, mod-lt}
 use borrow.Author.Tests.{lt-ltb, le-ltb}
 use Rattle.theory.specs.Curves.{Curve}
-use Rattle.theory.specs.Ticks.{freeBefore, free, timer, timerTakes, nextFree, FirstFree, TimerTakesAtMost, TimerTakesNoLess}
-use Rattle.theory.specs.Ticks.{TimerTakesFromZero, TimerTakesBetween, TimerIsACurve, NoTimer, NextFreeIsFirst, FreeIsNextFree}
+use Rattle.theory.specs.Ticks.{freeBefore, free, timer, timerTakes, freeTickAt, TimerTakesAtMost, TimerTakesNoLess}
+use Rattle.theory.specs.Ticks.{TimerTakesFromZero, TimerTakesBetween, TimerIsACurve, NoTimer, FreeTicksAreCounted, FreeTickIsFoundByCount}
 use Rattle.theory.proofs.Cases.{by-lt, by-test}
 use Rattle.theory.proofs.Ticks.{after-a-taken-tick, after-a-free-tick, free-before-grows}
 
@@ -111,41 +111,48 @@ timer-is-a-curve s p period some most whole = record {
 pub no-timer : NoTimer
 no-timer p = (λ t. le-ltb (t % p) 0 (omega arith), λ L. omega arith)
 
--- ---- the first free time
+-- ---- free ticks by their number
 
--- The tick that comes r ticks after the start of a period is taken where r is below s.
-taken-at : (s p q r : ℕ) → s < p → r < s → timer s p (r + q * p) ≡ true
-taken-at s p q r few h =
-    let below : r < p = omega arith in
-    rw (add-mul-mod-self-right r q p, mod-eq-of-lt below) (lt-ltb r s h)
+module _ (s p : ℕ) (few : s < p) where
+  -- `w` is how many free ticks a period has.
+  abbrev w : ℕ
+  w = p - s
 
--- The tick that comes s ticks after the start of a period is free.
-free-at : (s p q : ℕ) → s < p → timer s p (s + q * p) ≡ false
-free-at s p q few = rw (add-mul-mod-self-right s q p, mod-eq-of-lt few) (le-ltb s s (omega arith))
+  some-free : 1 ≤ w
+  some-free = omega arith
 
--- From a taken tick on, the timer takes every tick until s ticks after the start of its period.
-first-free-after : (s p t : ℕ) → s < p → t % p < s → FirstFree s p t (t - t % p + s)
-first-free-after s p t few taken =
-    let start : t ≡ t % p + t / p * p = omega (arith, parts s p (omega arith) (omega arith) t) in
-    let end : s + t / p * p ≡ t - t % p + s = omega arith in
-    record {
-      not-before = omega arith;
-      within-s = omega arith;
-      taken-before = λ u low high.
-          let here : u - t / p * p + t / p * p ≡ u = omega arith in
-          rw here at (taken-at s p (t / p) (u - t / p * p) few (omega arith));
-      free-there = rw end at (free-at s p (t / p) few);
-    }
+  -- q periods have q · s taken ticks and q · w free ones.
+  in-periods : (q : ℕ) → q * p ≡ q * s + q * w
+  in-periods q =
+      let split : q * (s + w) ≡ q * s + q * w = omega arith in
+      let whole : s + w ≡ p = omega arith in
+      rw whole at split
 
-pub next-free-is-first : NextFreeIsFirst
-next-free-is-first s p t few = by-lt (t % p) s
-    (λ taken. rw (lt-ltb (t % p) s taken) (first-free-after s p t few taken))
-    (λ left. rw (le-ltb (t % p) s left) (record {
-      not-before = omega arith;
-      within-s = omega arith;
-      taken-before = λ u low high. absurd (omega arith);
-      free-there = le-ltb (t % p) s left;
-    }))
+  -- In the period that starts at q · p, the tick that comes s + r ticks after the start is free, and before it come r free ticks of this period and all those of
+  -- the periods before it.
+  free-there : (q r : ℕ) → r < w → (timer s p (s + r + q * p) ≡ false) × (freeBefore (timer s p) (s + r + q * p) ≡ r + q * w)
+  free-there q r h =
+      let inside : s + r < p = omega arith in (
+        rw (add-mul-mod-self-right (s + r) q p, mod-eq-of-lt inside) (le-ltb (s + r) s (omega arith)),
+        omega (arith, counted s p (omega arith) (omega arith) (s + r + q * p), count-at s p (omega arith) (omega arith) q (s + r) inside, in-periods q),
+      )
 
-pub free-is-next-free : FreeIsNextFree
-free-is-next-free s p t left = rw left
+pub free-ticks-are-counted : FreeTicksAreCounted
+free-ticks-are-counted s p n few =
+    let q = n / (p - s) in
+    let r = n % (p - s) in
+    let there = free-there s p few q r (mod-lt n (some-free s p few)) in
+    let here : s + r + q * p ≡ freeTickAt s p n = omega arith in
+    let all : r + q * (p - s) ≡ n = omega (arith, div-add-mod' n (p - s)) in
+    (rw here at (there .0), (rw here at (there .1)) ∙ all)
+
+pub free-tick-is-found-by-count : FreeTickIsFoundByCount
+free-tick-is-found-by-count s p t few left =
+    let q = t / p in
+    let r = t % p - s in
+    let past : s ≤ t % p = by-lt (t % p) s (λ taken. absurd (true≢false (sym (lt-ltb (t % p) s taken) ∙ left))) (λ h. h) in
+    let some : 1 ≤ p = omega arith in
+    let below : r < p - s = omega (arith, mod-lt t some) in
+    let here : s + r + q * p ≡ t = omega (arith, div-add-mod' t p) in
+    let many : freeBefore (timer s p) t ≡ r + q * (p - s) = rw here at (free-there s p few q r below .1) in
+    rw (many, add-mul-div-right r q (some-free s p few), add-mul-mod-self-right r q (p - s), div-eq-of-lt below, mod-eq-of-lt below) (omega arith)

@@ -37,16 +37,9 @@ timer s p t = ltb (t % p) s
 abbrev pub timerTakes : (s p L : ℕ) → ℕ
 timerTakes s p L = L / p * s + min s (L % p)
 
--- The first time from t on whose tick a timer does not take. It is t itself, unless t lies in the first s ticks of a period: then it is the end of these.
-abbrev pub nextFree : (s p t : ℕ) → ℕ
-nextFree s p t = cond (ltb (t % p) s) (t - t % p + s) t
-
--- From t on a timer takes every tick before the time `next`, and `next` itself is free. It lies at most s ticks after t.
-pub record FirstFree (s p t next : ℕ) : Type 0 where
-  pub not-before : t ≤ next
-  pub within-s : next - t ≤ s
-  pub taken-before : (u : ℕ) → t ≤ u → u < next → timer s p u ≡ true
-  pub free-there : timer s p next ≡ false
+-- The time of a timer's n-th free tick, counted from 0. Each period has p − s free ticks, and the first of them comes s ticks after the period's start.
+abbrev pub freeTickAt : (s p n : ℕ) → ℕ
+freeTickAt s p n = n / (p - s) * p + s + n % (p - s)
 
 -- ---- what is proved about free ticks (proofs/Ticks.antt)
 
@@ -84,10 +77,10 @@ TimerIsACurve = (s p period : ℕ) → 1 ≤ p → s ≤ p → p ∣ period → 
 abbrev pub NoTimer : Type 0
 NoTimer = (p : ℕ) → ((t : ℕ) → timer 0 p t ≡ false) × ((L : ℕ) → timerTakes 0 p L ≡ 0)
 
--- Where s is below p, `nextFree` is the first free time from t on.
-abbrev pub NextFreeIsFirst : Type 0
-NextFreeIsFirst = (s p t : ℕ) → s < p → FirstFree s p t (nextFree s p t)
+-- The tick at `freeTickAt s p n` is free, and n free ticks come before it.
+abbrev pub FreeTicksAreCounted : Type 0
+FreeTicksAreCounted = (s p n : ℕ) → s < p → (timer s p (freeTickAt s p n) ≡ false) × (freeBefore (timer s p) (freeTickAt s p n) ≡ n)
 
--- A time whose tick is free is itself the first free time from there on.
-abbrev pub FreeIsNextFree : Type 0
-FreeIsNextFree = (s p t : ℕ) → timer s p t ≡ false → nextFree s p t ≡ t
+-- A free tick with n free ticks before it is the one at `freeTickAt s p n`.
+abbrev pub FreeTickIsFoundByCount : Type 0
+FreeTickIsFoundByCount = (s p t : ℕ) → s < p → timer s p t ≡ false → freeTickAt s p (freeBefore (timer s p) t) ≡ t
