@@ -85,7 +85,7 @@ extern "C" {
 
 /*
  * The bytes of stack with which a thread can make either call. Measured on x86-64, with any input: below its caller
- * verdict() takes less than 12,000 bytes, and replay() less than 57,000. With what the system itself puts on a thread's
+ * verdict() takes less than 12,000 bytes, and replay() less than 59,000. With what the system itself puts on a thread's
  * stack, a thread needs 65,536 bytes. The other 32,768 are room, for the functions that make the call and for signal
  * handlers.
  */

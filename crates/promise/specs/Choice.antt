@@ -1,7 +1,7 @@
--- Choice. A tick is taken exactly when the timer takes it. Otherwise it runs the unfinished accepted job with the earliest due time, and the one with the lowest
--- serial among equal due times. It is idle exactly when it is not taken and every accepted job is finished. Its late count is the number of jobs that became
--- late in it, whether it was taken or not. All of this is said in terms of the table and of the answers before the tick, on the run that `start` makes of any
--- bytes. (1.19, 6.5, 6.10, 6.11, 6.12, 6.14)
+-- Choice. A tick is taken exactly when the timer takes it. Otherwise it runs the unfinished accepted job with the earliest due time, and the one with the
+-- lowest serial among equal due times. It is idle exactly when it is not taken and every accepted job is finished. Its late count is the number of jobs that
+-- became late in it, whether it was taken or not. All of this is said in terms of the table and of the answers before the tick, on the run that `start` makes
+-- of any bytes. (1.19, 6.5, 6.10, 6.11, 6.12, 6.14)
 use Prim.Native.Nat.{ℕ, suc, _+_, _%_, _≤_, _<_}
 use mathlib.Core.Path.{_≡_}
 use mathlib.Core.Logic.{_↔_}

@@ -1,6 +1,6 @@
 -- The jobs that a length names are the paper's. Of each row there are as many as the row's demand in this length counts. All are released at zero and at full
--- cost, and they are due as the paper's recurrence (1) says, within the length. Together with the ticks that the timer takes they make up the table's demand. So
--- no due time among them stands for a refused one. (5.1, 5.3, 5.10)
+-- cost, and they are due as the paper's recurrence (1) says, within the length. Together with the ticks that the timer takes they make up the table's demand.
+-- So no due time among them stands for a refused one. (5.1, 5.3, 5.10)
 use Prim.Native.Nat.{ℕ, _+_, _≤_, _<_}
 use mathlib.Core.Path.{_≡_}
 use mathlib.Core.List.{List}

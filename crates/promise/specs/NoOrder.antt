@@ -1,6 +1,6 @@
 -- No order. On a table that `judge` finds overloaded, the witness of length L names, of each row with d ≤ L, its first (floor((L − d)/y) + 1) · x jobs, all
--- released at zero and at full cost. It names them all, however many places they would need in a run. They can't be run in time in any order by anybody: whoever
--- tries has only the ticks that the timer leaves free, counted from zero. (1.20, 5.10, 5.11)
+-- released at zero and at full cost. It names them all, however many places they would need in a run. They can't be run in time in any order by anybody:
+-- whoever tries has only the ticks that the timer leaves free, counted from zero. (1.20, 5.10, 5.11)
 use Prim.Native.Nat.{ℕ, zero, suc, _+_, _≤_, _<_}
 use mathlib.Core.Path.{_≡_}
 use mathlib.Core.Logic.{_↔_}

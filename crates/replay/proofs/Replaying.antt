@@ -246,7 +246,7 @@ module _ {s : List ℕ} {t : Table} {log₀ : List ℕ} {l : Lists} {g : Going} 
       unfolding stepped
       released-so = rw (on-run ∙ ready)
 
-      module _ {row : Row} (its : row ≡ getD (t .rows) (r .row .0) noRow) (after : Lists) (x : RecordStep) 
+      module _ {row : Row} (its : row ≡ getD (t .rows) (r .row .0) noRow) (after : Lists) (x : RecordStep)
           (done : RecordPlayed (t .s) (t .p) at r row l g after x) where
         done-here : SteppedTo (releasedAt at r (tickedTo (r .time .0) (w .progress))) (r .next) log₀ after x
         done-here = done (w .progress) log₀ (w .stands) (may-release its)

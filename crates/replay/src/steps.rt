@@ -39,7 +39,8 @@ pub(crate) fn play_record(
     p: u64,
     place: usize,
 ) -> RecordStep
-    requires { ⌜ GoodTimer s p × CanGo (lists (now serials) (now rows) (now releases) (now dues) (now left) (now times) (now many) (now oldest) (now log)) going ready ⌝ }
+    requires { ⌜ GoodTimer s p
+        × CanGo (lists (now serials) (now rows) (now releases) (now dues) (now left) (now times) (now many) (now oldest) (now log)) going ready ⌝ }
     ensures { λ r. ⌜ (length (now (log .exit)) ≡ length (now (log .entry)))
         × RecordPlayed s p place ready row
         (lists (now (serials .entry)) (now (rows .entry)) (now (releases .entry)) (now (dues .entry)) (now (left .entry)) (now (times .entry))

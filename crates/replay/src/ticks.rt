@@ -78,8 +78,8 @@ fn after_free(s: u64, p: u64, n: u64) -> u64
     start + s + earlier % free + 1
 }
 
-// Ticks until the clock is at `until`, or until nothing is pending, whichever comes first. Each job that finishes is logged. The timer takes the first s ticks of
-// every p. `columns::work` gets the number of free ticks before the clock for its clock, since jobs get these ticks and no others. (6.5, 8.2 to 8.4)
+// Ticks until the clock is at `until`, or until nothing is pending, whichever comes first. Each job that finishes is logged. The timer takes the first s ticks
+// of every p. `columns::work` gets the number of free ticks before the clock for its clock, since jobs get these ticks and no others. (6.5, 8.2 to 8.4)
 pub(crate) fn run_until(
     serials: &mut [u64; Pending::PLACES],
     rows: &mut [u64; Pending::PLACES],

@@ -9,8 +9,8 @@ use Rattle.jobs.specs.Turns.{firstJob, finishAt}
 use Rattle.run.specs.declared.Run.{Run}
 use Rattle.run.specs.Ticking.{isTaken, ticked}
 
--- The job that the next tick finishes, if there is one: the chosen job where it gets its last unit, with the new clock as its finish. No job finishes in a taken
--- tick. This is meant for a sound run with the clock below 2^40, where a tick is not refused. (6.5, 6.13)
+-- The job that the next tick finishes, if there is one: the chosen job where it gets its last unit, with the new clock as its finish. No job finishes in a
+-- taken tick. This is meant for a sound run with the clock below 2^40, where a tick is not refused. (6.5, 6.13)
 abbrev pub finishedBy : Run → List Finish
 finishedBy run =
     cond (isTaken run) []

@@ -56,8 +56,8 @@ rowsSound [] ks = true
 rowsSound (r ∷ rs) [] = true
 rowsSound (r ∷ rs) (k ∷ ks) = rowAcceptable r && keptSound k r && rowsSound rs ks
 
--- The most that the next serial may be: the clock plus the number of pending jobs. The job of each serial given out is pending or was finished by a tick, and no
--- two were finished by the same tick. (6.23)
+-- The most that the next serial may be: the clock plus the number of pending jobs. The job of each serial given out is pending or was finished by a tick, and
+-- no two were finished by the same tick. (6.23)
 abbrev pub serialBound : Run → ℕ
 serialBound run = run .clock .0 + run .pending .count
 

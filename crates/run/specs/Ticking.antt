@@ -29,8 +29,8 @@ runWith run clock p = record { table = run .table; clock = record { 0 = clock };
 abbrev pub isTaken : Run → Bool
 isTaken run = timer (run .table .s) (run .table .p) (run .clock .0)
 
--- A tick that the timer takes answers taken, whether or not a job is pending. No job gets a unit, and the jobs that became late are counted. The clock goes up by
--- one, and nothing else changes. (6.5, 6.10, 6.12, 6.14, 6.17)
+-- A tick that the timer takes answers taken, whether or not a job is pending. No job gets a unit, and the jobs that became late are counted. The clock goes up
+-- by one, and nothing else changes. (6.5, 6.10, 6.12, 6.14, 6.17)
 abbrev pub takenTick : Run → TickStep
 takenTick run = record {
   run = runWith run (run .clock .0 + 1) (run .pending);
@@ -42,8 +42,8 @@ takenTick run = record {
 abbrev pub idleTick : Run → TickStep
 idleTick run = record { run = runWith run (run .clock .0 + 1) (run .pending); answer = answer.Idle; late = 0 }
 
--- A free tick with a job pending gives one unit to the chosen job, and answers that job's serial, whether it finished, and how many jobs became late. The clock goes
--- up by one. (6.10 to 6.14)
+-- A free tick with a job pending gives one unit to the chosen job, and answers that job's serial, whether it finished, and how many jobs became late. The clock
+-- goes up by one. (6.10 to 6.14)
 abbrev pub busyTick : Run → TickStep
 busyTick run = record {
   run = runWith run (run .clock .0 + 1) (oneTick (run .pending));

@@ -57,8 +57,8 @@ pub data BadValue (s : List ℕ) (at most : ℕ) : (number place : ℕ) → Type
   out-of-range : (n : Number) → Spelled s at n → (n .value ≡ 0) ⊎ (most < n .value) → BadValue s at most 3 at
 
 -- No test before the place `at` refuses, the c of a row begins there, and this row is hopeless. Between the row count's place `from` and `at` stand a row count
--- of at most the limit of rows, fewer rows than it counts, each of which a table may have, and the x, y and d of the next row. Its four values are in range, and
--- its c is above its d. (3.3)
+-- of at most the limit of rows, fewer rows than it counts, each of which a table may have, and the x, y and d of the next row. Its four values are in range,
+-- and its c is above its d. (3.3)
 pub record HopelessRowAt (s : List ℕ) (from at : ℕ) : Type 0 where
   pub count : ℕ
   pub rows : List Row

@@ -21,7 +21,7 @@ abbrev pub had : (n : ℕ) → Option ℕ → ℕ
 had n none = 0
 had n (some m) = cond (eqb m n) 1 0
 
--- Every tick is free for jobs: none is taken. (6.5)
+-- Every tick is free for jobs: none is taken. So it is with a timer whose s is 0. (6.5)
 abbrev pub noneTaken : ℕ → Bool
 noneTaken t = false
 
@@ -29,11 +29,11 @@ noneTaken t = false
 abbrev pub TakenAtMost : (ℕ → ℕ) → (ℕ → Bool) → Type 0
 TakenAtMost bound taken = (a b : ℕ) → a ≤ b → b - a ≤ free taken a b + bound (b - a)
 
--- A timer takes the first s ticks of every p.
+-- A timer takes the first s ticks of every p: it takes the tick at t when t mod p < s. (6.5)
 abbrev pub timer : (s p : ℕ) → ℕ → Bool
 timer s p t = ltb (t % p) s
 
--- How many ticks a timer takes in L ticks that begin with one of its periods: floor(L/p) · s + min(s, L mod p).
+-- How many ticks a timer takes in L ticks that begin with one of its periods: floor(L/p) · s + min(s, L mod p). (5.3)
 abbrev pub timerTakes : (s p L : ℕ) → ℕ
 timerTakes s p L = L / p * s + min s (L % p)
 
