@@ -111,8 +111,8 @@ abbrev pub openedUp : (at end value : ℕ) → List ℕ → List ℕ
 openedUp at end value l = take at l ++ (value ∷ (entries at (end - at) l ++ drop (end + 1) l))
 
 -- The columns with all jobs moved to the front.
-abbrev pub inFront : Columns → Columns
-inFront c = record {
+abbrev pub movedToFront : Columns → Columns
+movedToFront c = record {
   serials = movedDown (startIn c) (usedIn c) (c .serials);
   rows = movedDown (startIn c) (usedIn c) (c .rows);
   releases = movedDown (startIn c) (usedIn c) (c .releases);
@@ -128,7 +128,7 @@ settled c = columns (c .serials) (c .rows) (c .releases) (c .dues) (c .left) (st
 
 -- The columns with an entry free behind the last job: where there is none, all jobs move to the front.
 unfoldable pub withRoom : Columns → Columns
-withRoom c = cond (eqb (startIn c + usedIn c) maxEntries) (inFront c) (settled c)
+withRoom c = cond (eqb (startIn c + usedIn c) maxEntries) (movedToFront c) (settled c)
 
 -- The entry at which a job goes in: the jobs behind it are all chosen after it. (6.11)
 abbrev pub placeFor : Columns → Job → ℕ

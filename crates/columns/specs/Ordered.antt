@@ -1,5 +1,5 @@
--- Jobs in the order in which they are chosen, and the same jobs in another order. Where jobs stand in that order, the first of them goes first: to work on it is
--- what single ticks on the same jobs in any order come to. (docs/RULES.md, 6.10 to 6.13.)
+-- Jobs in the order in which they are chosen, and the same jobs in another order. Where jobs stand in that order, the first of them goes first: to work on it
+-- is what single ticks on the same jobs in any order come to. (docs/RULES.md, 6.10 to 6.13.)
 use Prim.Native.Nat.{ℕ, _-_, _<_}
 use mathlib.Core.Path.{_≡_}
 use mathlib.Core.Logic.{_≢_}
@@ -21,10 +21,6 @@ InOrder (j ∷ js) = ((i : Job) → List·Memᴰ i js → goesBefore j i ≡ tru
 abbrev pub SameJobs : (q js : List Job) → Type 0
 SameJobs [] js = js ≡ []
 SameJobs (j ∷ q) js = (at : ℕ) × (at < length js) × (getD js at noJob ≡ j) × SameJobs q (without js at)
-
--- No two of these jobs have the same serial. (1.5)
-abbrev pub ApartBySerial : List Job → Type 0
-ApartBySerial js = (i k : ℕ) → i < length js → k < length js → getD js i noJob .serial .0 ≡ getD js k noJob .serial .0 → i ≡ k
 
 -- The jobs with one more put in: behind it are the last jobs that are all chosen after it. (6.11)
 abbrev pub inPlace : Job → List Job → List Job
@@ -59,5 +55,5 @@ SameAreAsMany = (q js : List Job) → SameJobs q js → length q ≡ length js
 
 -- To work on the first of jobs in order is what single ticks on the same jobs in any order come to. (6.10 to 6.13)
 abbrev pub FirstIsWorkedOn : Type 0
-FirstIsWorkedOn = (n clock : ℕ) (q js : List Job) → InOrder q → SameJobs q js → ApartBySerial js
+FirstIsWorkedOn = (n clock : ℕ) (q js : List Job) → InOrder q → SameJobs q js
     → SameReached (workedFirst n clock q) (workedFor n clock js)

@@ -13,8 +13,8 @@ pub record HeldJobs (c : Columns) : Type 0 where
   pub jobs : List Job
   pub held : ColumnsHold c jobs
 
--- What `work` does to columns that hold the jobs js: afterwards they hold what the ticks from `clock` up to `until` leave of them, and the clock and the answer are
--- those of these ticks. (6.10 to 6.13)
+-- What `work` does to columns that hold the jobs js: afterwards they hold what the ticks from `clock` up to `until` leave of them, and the clock and the answer
+-- are those of these ticks. (6.10 to 6.13)
 pub record WorksAs (c : Columns) (js : List Job) (clock until : ℕ) : Type 0 where
   pub holds : ColumnsHold (workOn c clock until) (workedFirst (until - clock) clock js .jobs)
   pub clock-so : workAnswer c clock until .clock .0 ≡ workedFirst (until - clock) clock js .clock

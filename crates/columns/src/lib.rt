@@ -17,7 +17,7 @@ use kinds::RowNumber;
 use kinds::Serial;
 use kinds::Tick;
 ghost use mathlib.Core.Path.{_≡_};
-ghost use Rattle.columns.specs.Columns.{columns, putIn, putAnswer, spanAfter};
+ghost use Rattle.columns.specs.Columns.{columns, AllEntries, putIn, putAnswer, spanAfter};
 ghost use Rattle.columns.specs.Ticks.{workOn, workAnswer};
 
 // The entries of each array: twice as many as there are places, so that a job that leaves at the front seldom makes the others move.
@@ -64,7 +64,8 @@ pub fn put(
 ) -> PutAnswer
     ensures { λ r. ⌜ (r ≡ putAnswer
         (columns (now (serials .entry)) (now (rows .entry)) (now (releases .entry)) (now (dues .entry)) (now (left .entry)) first count))
-        × (columns (now (serials .exit)) (now (rows .exit)) (now (releases .exit)) (now (dues .exit)) (now (left .exit))
+        × (AllEntries (columns (now (serials .entry)) (now (rows .entry)) (now (releases .entry)) (now (dues .entry)) (now (left .entry)) first count)
+        → columns (now (serials .exit)) (now (rows .exit)) (now (releases .exit)) (now (dues .exit)) (now (left .exit))
         (spanAfter r first count .first) (spanAfter r first count .count)
         ≡ putIn (columns (now (serials .entry)) (now (rows .entry)) (now (releases .entry)) (now (dues .entry)) (now (left .entry)) first count) job) ⌝ }
 {

@@ -65,7 +65,8 @@ pub(crate) fn place_for(
     serial: u64,
 ) -> usize
     requires { ⌜ first + count ≤ maxEntries ⌝ }
-    ensures { λ r. ⌜ r ≡ first + (count - behind due serial (take count (drop first (now (dues .entry)))) (take count (drop first (now (serials .entry))))) ⌝ }
+    ensures { λ r. ⌜ (r ≤ first + count) × (length (now (dues .entry)) ≡ maxEntries → length (now (serials .entry)) ≡ maxEntries
+        → r ≡ first + (count - behind due serial (take count (drop first (now (dues .entry)))) (take count (drop first (now (serials .entry)))))) ⌝ }
 {
     let mut at = first + count;
     while first < at {
