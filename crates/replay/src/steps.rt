@@ -97,9 +97,7 @@ pub(crate) fn play_record(
         cost,
         left: cost,
     };
-    let answer = columns::put(
-        serials, rows, releases, dues, left, start, pending, job,
-    );
+    let answer = columns::put(serials, rows, releases, dues, left, start, pending, job);
     match answer {
         PutAnswer::Refused(refusal) => RecordStep::Refused(RefusedAt { refusal, place }),
         PutAnswer::Stand(span) => {
