@@ -114,6 +114,23 @@ static void expect_table_answer(struct answer answer, struct bytes table)
                "the place of 2, 3 and 16 is the number's start, that of 4 the first extra byte");
 }
 
+/*
+ * Expects that the witness has the demand of its length, and that no length below it, or no length at all where there is
+ * no witness, has more demand than length. Of these only the first are looked at, since there may be very many.
+ */
+static void expect_demand(struct answer answer, struct bytes table)
+{
+    enum { FIRST_LENGTHS = 200 };
+    bool overloaded = answer.status == JYRMEKKO_OVERLOADED;
+    struct rows rows;
+    wanted_of_table(table.at, table.length, &rows);
+    if (overloaded)
+        expect(demand_of(&rows, answer.first) == answer.second, "the witness's demand is that of its length");
+    for (uint64_t length = 1; length <= FIRST_LENGTHS && !(overloaded && length >= answer.first); length++)
+        expect(demand_of(&rows, length) <= length,
+               "no length below the witness, and none of a feasible table, has more demand than length");
+}
+
 static struct answer judge_once(struct bytes table, size_t answer_length, uint8_t fill)
 {
     struct bytes lent = copy(table);
@@ -138,6 +155,8 @@ static struct answer judge(struct bytes table)
     else if (answer.status == JYRMEKKO_OVERLOADED)
         expect(answer.first >= 1 && answer.second > answer.first, "the witness's demand is above its length");
     expect_table_answer(answer, table);
+    if (answer.status == JYRMEKKO_FEASIBLE || answer.status == JYRMEKKO_OVERLOADED)
+        expect_demand(answer, table);
     return answer;
 }
 
@@ -183,13 +202,24 @@ static void expect_places(const uint64_t *releases, const uint64_t *finishes, ui
     }
 }
 
+static uint64_t free_between(const struct rows *rows, uint64_t start, uint64_t end)
+{
+    return end - start - (taken_of(rows, end) - taken_of(rows, start));
+}
+
 /* Expects one log record for each job, in the order of finishing, and as many late ones as the answer says. */
-static void expect_log(struct bytes log, struct bytes script, uint64_t late_answered)
+static void expect_log(struct bytes log, struct bytes table, struct bytes script, uint64_t late_answered)
 {
     enum { SERIAL, ROW, RELEASE, DUE, FINISH, NUMBERS };
     uint64_t jobs = count_numbers(script) / SCRIPT_NUMBERS, records = 0, late = 0, last_finish = 0;
     uint64_t *releases = allocate(jobs * sizeof *releases), *finishes = allocate(jobs * sizeof *finishes);
+    uint64_t *costs = allocate(jobs * sizeof *costs);
+    struct rows rows;
     size_t at = 0;
+    wanted_of_table(table.at, table.length, &rows);
+    for (uint64_t i = 0; i < SCRIPT_NUMBERS * jobs; i++) /* The cost is the last number of a record. */
+        expect(read_number(script, &at, &costs[i / SCRIPT_NUMBERS]), "a script that is played can be read");
+    at = 0;
     for (uint64_t i = 0; i < jobs; i++)
         releases[i] = UINT64_MAX;
     while (at < log.length) {
@@ -200,6 +230,9 @@ static void expect_log(struct bytes log, struct bytes script, uint64_t late_answ
                "serials are below the number of jobs, and no two are equal");
         expect(job[RELEASE] < job[DUE] && job[RELEASE] < job[FINISH], "jobs are due, and finish, after their release");
         expect(job[FINISH] > last_finish, "at most one job finishes in a tick");
+        expect(!is_taken(&rows, job[FINISH] - 1), "no job finishes in a tick that is taken");
+        expect(free_between(&rows, job[RELEASE], job[FINISH]) >= costs[job[SERIAL]],
+               "a job costs no more than the free ticks from its release to its finish");
         last_finish = job[FINISH];
         late += job[FINISH] > job[DUE];
         releases[job[SERIAL]] = job[RELEASE];
@@ -210,6 +243,7 @@ static void expect_log(struct bytes log, struct bytes script, uint64_t late_answ
     expect_places(releases, finishes, jobs);
     free(releases);
     free(finishes);
+    free(costs);
     expect(late == late_answered, "the answer counts as many late jobs as the log has");
 }
 
@@ -252,7 +286,7 @@ static struct answer replay_with(struct bytes table, struct bytes script, size_t
     if (is_replayed(answer.status)) {
         expect((answer.status == JYRMEKKO_IN_TIME) == (answer.second == 0),
                "22 is answered exactly when no job is late");
-        expect_log(log, script, answer.second);
+        expect_log(log, table, script, answer.second);
     }
     expect_table_answer(answer, table);
     if (!refuses_table(answer.status))
@@ -268,36 +302,33 @@ static struct answer replay_with(struct bytes table, struct bytes script, size_t
  */
 static uint64_t search_of(struct bytes table)
 {
-    enum { X, Y, D, C, VALUES, LONGEST_PERIOD = 1048576 };
-    static const uint64_t most[VALUES] = {64, 4096, 16384, 4096};
-    uint64_t rows[JYRMEKKO_MOST_ROWS][VALUES];
-    uint64_t count, period = 1, longest = 0, per_period = 0, spared = 0;
-    size_t at = 0;
-    if (!read_number(table, &at, &count) || count > JYRMEKKO_MOST_ROWS)
+    enum { LONGEST_PERIOD = 1048576 };
+    struct rows rows;
+    if (wanted_of_table(table.at, table.length, &rows).status != 0)
         return 0;
-    for (uint64_t i = 0; i < count; i++) {
-        for (int value = X; value < VALUES; value++)
-            if (!read_number(table, &at, &rows[i][value]) || rows[i][value] < 1 || rows[i][value] > most[value])
-                return 0;
-        if (rows[i][C] > rows[i][D])
-            return 0;
+    uint64_t period = rows.p, longest = 0, spared = 0;
+    for (uint64_t i = 0; i < rows.count; i++) {
         uint64_t multiple = period;
-        while (multiple % rows[i][Y] != 0)
+        while (multiple % rows.y[i] != 0)
             multiple += period;
         if (multiple > LONGEST_PERIOD)
             return 0;
         period = multiple;
     }
-    for (uint64_t i = 0; i < count; i++) {
-        uint64_t units = rows[i][X] * rows[i][C] * (period / rows[i][Y]);
+    uint64_t per_period = rows.s * (period / rows.p);
+    for (uint64_t i = 0; i < rows.count; i++) {
+        uint64_t units = rows.x[i] * rows.cost[i] * (period / rows.y[i]);
         per_period += units;
-        spared += units * rows[i][D];
-        if (rows[i][D] > longest)
-            longest = rows[i][D];
+        spared += units * rows.due[i];
+        if (rows.due[i] > longest)
+            longest = rows.due[i];
     }
     if (per_period <= period)
         return period + longest;
-    /* A row's demand in L is above units * (L - d) / period, so at this length L the table's demand is above L. */
+    /*
+     * A row's demand in L is above units * (L - d) / period, and at least s * L / p ticks of L are taken. So at this
+     * length L the table's demand is above L.
+     */
     return spared / (per_period - period) + 1;
 }
 

@@ -24,9 +24,9 @@ static const struct refusal {
 } refusals[] = {
     {JYRMEKKO_MISSPELLED, "table", NULL},
     {JYRMEKKO_TOO_MANY_ROWS, "table", "the row count is above " TEXT_OF(JYRMEKKO_MOST_ROWS)},
-    {JYRMEKKO_VALUE_OUT_OF_RANGE, "table", "an x, y, d or c is out of its range"},
+    {JYRMEKKO_VALUE_OUT_OF_RANGE, "table", NULL},
     {JYRMEKKO_EXTRA_BYTES, "table", "there are bytes after the last row"},
-    {JYRMEKKO_PERIOD_TOO_LONG, "table", "H, the least common multiple of all y, is above 1,048,576"},
+    {JYRMEKKO_PERIOD_TOO_LONG, "table", "H, the least common multiple of p and all y, is above 1,048,576"},
     {JYRMEKKO_HOPELESS_ROW, "table", NULL},
     {JYRMEKKO_NO_SUCH_ROW, "script", "the row number is not in use"},
     {JYRMEKKO_COST_OUT_OF_RANGE, "script", "the cost is 0 or above the row's c"},
@@ -37,6 +37,19 @@ static const struct refusal {
     {JYRMEKKO_SCRIPT_MISSPELLED, "script", NULL},
 };
 
+/* Says what should stand at the place of a refusal, and does not, where `wrong` is null. */
+static const char *missing_there(uint32_t status)
+{
+    switch (status) {
+    case JYRMEKKO_VALUE_OUT_OF_RANGE:
+        return "number is out of its range";
+    case JYRMEKKO_HOPELESS_ROW:
+        return "c of a hopeless row starts";
+    default:
+        return "number goes wrong";
+    }
+}
+
 /* A status that is no refusal must never be the exit status: it could read as a pass, or as another answer. */
 void say_refusal(FILE *out, const char *call, struct answer answer, const char *wrong)
 {
@@ -45,8 +58,7 @@ void say_refusal(FILE *out, const char *call, struct answer answer, const char *
             const char *why = refusals[i].why != NULL ? refusals[i].why : wrong;
             if (why == NULL)
                 stop(RIG_NO_ANSWER, "the library's %s says %" PRIu32 " at byte %" PRIu64 " of the %s, where no %s",
-                     call, answer.status, answer.first, refusals[i].file,
-                     answer.status == JYRMEKKO_HOPELESS_ROW ? "c of a hopeless row starts" : "number goes wrong");
+                     call, answer.status, answer.first, refusals[i].file, missing_there(answer.status));
             fprintf(out, "refused %" PRIu32 " at byte %" PRIu64 " of the %s: %s\n", answer.status, answer.first,
                     refusals[i].file, why);
             return;
@@ -54,8 +66,49 @@ void say_refusal(FILE *out, const char *call, struct answer answer, const char *
     stop(RIG_NO_ANSWER, "the library's %s says %" PRIu32 ", which is no answer", call, answer.status);
 }
 
-/* No more bytes of a table matter: a count and four values for each row, each at its longest, and one extra byte. */
-#define LONGEST_TABLE ((size_t)MOST_GROUPS * (1 + 4 * JYRMEKKO_MOST_ROWS) + 1)
+/* No more bytes of a table matter: s, p, the count and four values of each row, all at their longest, and one extra. */
+#define LONGEST_TABLE ((size_t)MOST_GROUPS * (3 + 4 * JYRMEKKO_MOST_ROWS) + 1)
+
+enum { LARGEST_P = 4096 };
+
+static bool is_good_p(uint64_t p)
+{
+    return p >= 1 && p <= LARGEST_P;
+}
+
+/*
+ * Says which number of a table is out of its range at this place (docs/RULES.md, 3.10 and 3.17). Returns null where the
+ * place is that of the timer, and none of its two numbers is refused there. The text stays until the next call.
+ */
+static const char *out_of_range(struct bytes table, uint64_t place)
+{
+    static char says[128];
+    struct timer timer;
+    size_t after = 0;
+    if (!read_timer(table, &after, &timer))
+        return NULL;
+    if (!is_good_p(timer.p)) {
+        snprintf(says, sizeof says, "the timer's p is %" PRIu64 ", and must be 1 to %d", timer.p, LARGEST_P);
+        return place == timer.start_of_p ? says : NULL;
+    }
+    if (timer.s >= timer.p) {
+        snprintf(says, sizeof says, "the timer's s is %" PRIu64 ", and must be below its p, which is %" PRIu64, timer.s,
+                 timer.p);
+        return place == 0 ? says : NULL;
+    }
+    return place > after ? "an x, y, d or c is out of its range" : NULL;
+}
+
+/* Returns how many ticks of a length from clock 0 on the timer of an accepted table takes (docs/RULES.md, 5.3). */
+static uint64_t taken_ticks(struct bytes table, uint64_t length)
+{
+    struct timer timer;
+    size_t after = 0;
+    if (!read_timer(table, &after, &timer) || !is_good_p(timer.p))
+        return 0;
+    uint64_t rest = length % timer.p;
+    return length / timer.p * timer.s + (rest < timer.s ? rest : timer.s);
+}
 
 /*
  * Says what a hopeless row asks for (docs/RULES.md, 3.3): its number, its c and its d. Returns null where no row's c
@@ -66,8 +119,11 @@ static const char *hopeless_row(struct bytes table, uint64_t place)
 {
     enum { X, Y, D, C, VALUES, LARGEST_COST = 4096 };
     static char asks[128];
+    struct timer timer;
     uint64_t count, values[VALUES];
     size_t at = 0, start = 0;
+    if (!read_timer(table, &at, &timer) || !is_good_p(timer.p) || timer.s >= timer.p)
+        return NULL;
     if (!read_number(table, &at, &count) || count > JYRMEKKO_MOST_ROWS)
         return NULL;
     for (uint64_t row = 0; row < count && start < place; row++) {
@@ -85,12 +141,14 @@ static const char *hopeless_row(struct bytes table, uint64_t place)
     return NULL;
 }
 
-/* Says what is wrong at the place of 1 or 16 in a table. Returns null with every other status. */
+/* Says what is wrong at the place of 1, 3 or 16 in a table. Returns null with every other status. */
 static const char *wrong_in_table(struct bytes table, struct answer answer)
 {
     switch (answer.status) {
     case JYRMEKKO_MISSPELLED:
         return bad_byte(table, answer.first);
+    case JYRMEKKO_VALUE_OUT_OF_RANGE:
+        return out_of_range(table, answer.first);
     case JYRMEKKO_HOPELESS_ROW:
         return hopeless_row(table, answer.first);
     default:
@@ -103,8 +161,10 @@ struct judged judge_file(const char *table_path)
     struct bytes table = read_file(table_path, LONGEST_TABLE);
     uint8_t buffer[JYRMEKKO_ANSWER_SIZE] = {0};
     uint32_t status = verdict(table.at, table.length, buffer, sizeof buffer);
-    struct judged result = {answer_of(status, buffer), NULL};
+    struct judged result = {answer_of(status, buffer), NULL, 0};
     result.wrong = wrong_in_table(table, result.answer);
+    if (status == JYRMEKKO_OVERLOADED)
+        result.taken = taken_ticks(table, result.answer.first);
     free(table.at);
     return result;
 }

@@ -23,10 +23,17 @@ static const char help[] =
     "A file named '-' is read from standard input, or written to standard output. LOG is written only if the answer\n"
     "is 22 or 23. A file that is read is never written over.\n"
     "\n"
+    "A table starts with s and p of the sampling timer, which takes the first s ticks of every p. Then come the row\n"
+    "count, and x, y, d and c of each row. A rig without a timer has '0 1' in front, and a table that was written\n"
+    "before tables had a timer needs these two numbers there. Taken ticks count in a table's demand, and where it is\n"
+    "overloaded (21) the program says how many of its units they are.\n"
+    "\n"
     "The bytes of a file are counted from 0. Where a number can't be read (1, 14, and 65 of show), the bad byte is\n"
     "named with its value: a superfluous zero group, or a sixth group that asks for more. Where the bytes end inside\n"
-    "a number, or where a number should stand, the byte after the last one is named. Where a row's c is above its d\n"
-    "(16), the row is named with both: it asks for more units than it has ticks, which no processor can give.\n"
+    "a number, or where a number should stand, the byte after the last one is named. Where the timer's p or s is out\n"
+    "of its range (3), it is named with its value: p must be 1 to 4096, and s must be below p. Where a row's c is\n"
+    "above its d (16), the row is named with both: it asks for more units than it has ticks, which no processor can\n"
+    "give.\n"
     "\n"
     "Exit status: never 0, so that no silence reads as a pass.\n"
     "\n"
@@ -56,8 +63,11 @@ static int judge(const char *table_path)
         printf("feasible %" PRIu32 ": no length of time has more demand than length\n", answer.status);
         break;
     case JYRMEKKO_OVERLOADED:
-        printf("overloaded %" PRIu32 ": the demand in %" PRIu64 " tick%s is %" PRIu64 " units\n", answer.status,
+        printf("overloaded %" PRIu32 ": the demand in %" PRIu64 " tick%s is %" PRIu64 " units", answer.status,
                answer.first, answer.first == 1 ? "" : "s", answer.second);
+        if (judged.taken > 0)
+            printf(", of which the timer takes %" PRIu64, judged.taken);
+        putchar('\n');
         break;
     default:
         say_refusal(stdout, "verdict", answer, judged.wrong);

@@ -71,7 +71,10 @@ void write_file(const char *path, struct bytes content);
 
 bool is_standard(const char *path);
 
-/* numbers.c: numbers as bytes (docs/RULES.md, 2.1 to 2.8 and 9.4), for people to see. The library has its own code. */
+/*
+ * numbers.c: numbers as bytes (docs/RULES.md, 2.1 to 2.8, 3.16 and 9.4), for people to see. The library has its own
+ * code.
+ */
 
 enum { MOST_GROUPS = 6 };
 #define LARGEST_NUMBER ((UINT64_C(1) << 7 * MOST_GROUPS) - 1)
@@ -81,6 +84,16 @@ enum { MOST_GROUPS = 6 };
  * byte, or to the end of the bytes where the number is cut off.
  */
 bool read_number(struct bytes bytes, size_t *at, uint64_t *value);
+
+/* The sampling timer of a table (docs/RULES.md, 3.16): its two numbers, whatever they are. */
+struct timer {
+    uint64_t s;
+    uint64_t p;
+    size_t start_of_p;
+};
+
+/* Reads s and p at *at, as read_number does. They stand at the start of a table. */
+bool read_timer(struct bytes table, size_t *at, struct timer *timer);
 
 /*
  * Says what is wrong at the place where a number can't be read: which bad byte stands there, or that the bytes end
@@ -107,14 +120,15 @@ struct answer answer_of(uint32_t status, const uint8_t *buffer);
 
 struct judged {
     struct answer answer;
-    const char *wrong; /* With 1 and 16 this says what is wrong at their place, and else it is null. */
+    const char *wrong; /* With 1, 3 and 16 this says what is wrong at their place, and else it is null. */
+    uint64_t taken;    /* With 21 the timer takes so many ticks of the witness's length, and else it is 0. */
 };
 
 struct judged judge_file(const char *table_path);
 
 struct replayed {
     struct answer answer;
-    const char *wrong; /* With 1, 14 and 16 this says what is wrong at their place, and else it is null. */
+    const char *wrong; /* With 1, 3, 14 and 16 this says what is wrong at their place, and else it is null. */
     struct bytes log;  /* With 22 and 23 this is exactly the log, and else it is empty. */
 };
 
@@ -122,9 +136,9 @@ struct replayed {
 struct replayed replay_files(const char *table_path, const char *script_path, const char *out_path);
 
 /*
- * Says a refusal in the words of the rules. For 1, 14 and 16 `wrong` says what is wrong at the place, or is null where
- * nothing is. A status that is no refusal stops the program. So does a 1 or 14 at a place where no number goes wrong,
- * and a 16 at a place where no c of a hopeless row starts.
+ * Says a refusal in the words of the rules. For 1, 3, 14 and 16 `wrong` says what is wrong at the place, or is null
+ * where nothing is. A status that is no refusal stops the program. So does a 1 or 14 at a place where no number goes
+ * wrong, a 3 at the timer's place where the timer is good, and a 16 at a place where no c of a hopeless row starts.
  */
 void say_refusal(FILE *out, const char *call, struct answer answer, const char *wrong);
 

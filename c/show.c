@@ -15,7 +15,7 @@ enum first_column { FROM_FILE, RECORD_NUMBER, RECORD_PLACE };
 struct kind {
     const char *name;
     const char *record;
-    bool counted; /* The file starts with its number of records. */
+    bool counted; /* The file starts with the timer and its number of records, as a table does. */
     enum first_column first;
     size_t columns;
     const char *heads[MOST_COLUMNS];
@@ -43,15 +43,19 @@ struct reading {
     struct bytes bytes;
     size_t at;
     uint64_t records; /* So many records have been read. */
+    struct timer timer;
+    bool has_timer;   /* The file starts with a timer, and both of its numbers were read. */
     uint64_t wanted;  /* A file that starts with its number of records has so many. */
     bool damaged;     /* A number can't be read, and `at` is its bad byte, or the end where it is cut off. */
 };
 
 static struct reading start_reading(const struct kind *kind, struct bytes bytes)
 {
-    struct reading reading = {kind, bytes, 0, 0, 0, false};
-    if (kind->counted)
-        reading.damaged = !read_number(bytes, &reading.at, &reading.wanted);
+    struct reading reading = {kind, bytes, 0, 0, {0, 0, 0}, false, 0, false};
+    if (kind->counted) {
+        reading.has_timer = read_timer(bytes, &reading.at, &reading.timer);
+        reading.damaged = !reading.has_timer || !read_number(bytes, &reading.at, &reading.wanted);
+    }
     return reading;
 }
 
@@ -88,7 +92,20 @@ static void measure(struct reading reading, int widths[MOST_COLUMNS])
         }
 }
 
-/* Prints the records that can be read, with late jobs marked, and then how many they are. */
+/* Prints the timer. Where s is below p, it says which ticks are taken. */
+static void print_timer(struct timer timer)
+{
+    printf("timer: s %" PRIu64 ", p %" PRIu64, timer.s, timer.p);
+    if (timer.s == 0 && timer.p > 0)
+        printf(" (no tick is taken)");
+    else if (timer.s == 1 && timer.p > 1)
+        printf(" (the first tick of every %" PRIu64 " is taken)", timer.p);
+    else if (timer.s < timer.p)
+        printf(" (the first %" PRIu64 " ticks of every %" PRIu64 " are taken)", timer.s, timer.p);
+    putchar('\n');
+}
+
+/* Prints the timer and the records that can be read, with late jobs marked, and then how many records they are. */
 static void print(struct reading *reading)
 {
     const struct kind *kind = reading->kind;
@@ -96,6 +113,8 @@ static void print(struct reading *reading)
     uint64_t late = 0;
     int widths[MOST_COLUMNS];
     measure(*reading, widths);
+    if (reading->has_timer)
+        print_timer(reading->timer);
     for (size_t column = 0; column < kind->columns; column++)
         printf("%s%*s", column > 0 ? "  " : "", widths[column], kind->heads[column]);
     putchar('\n');

@@ -14,6 +14,7 @@ uint32_t __real_replay(const uint8_t *, size_t, const uint8_t *, size_t, uint8_t
 uint32_t __wrap_replay(const uint8_t *, size_t, const uint8_t *, size_t, uint8_t *, size_t, uint8_t *, size_t);
 
 enum { FIRST = 0, SECOND = 8 }; /* The answer's two numbers start here. */
+enum { S, P, COUNT };           /* A table's first three numbers start here, where s and p have one group each. */
 
 /* Any other name ends the program, since a test that tampers with nothing by mistake would show nothing. */
 static bool tampering(const char *name)
@@ -23,7 +24,8 @@ static bool tampering(const char *name)
                                         "table-written", "always-feasible", "log-before-its-start",
                                         "log-past-its-length", "log-kept", "log-cut", "log-too-long", "number-start",
                                         "byte-before", "byte-after", "end-for-byte", "fewer-rows", "fewer-places",
-                                        "period-before-hopeless"};
+                                        "period-before-hopeless", "taken-left-out", "taken-given", "s-before-p",
+                                        "old-spelling"};
     const char *chosen = getenv("TAMPER");
     for (size_t i = 0; chosen != NULL && i < sizeof names / sizeof names[0]; i++)
         if (strcmp(chosen, names[i]) == 0)
@@ -38,7 +40,44 @@ static bool is_refusal(uint32_t status)
 
 static bool has_most_rows(const uint8_t *table, size_t table_len)
 {
-    return table_len > 0 && table[0] == JYRMEKKO_MOST_ROWS;
+    return table_len > COUNT && table[COUNT] == JYRMEKKO_MOST_ROWS;
+}
+
+/* Copies a table with bytes in front of it. The caller frees the copy. */
+static uint8_t *copied(const uint8_t *front, size_t front_len, const uint8_t *table, size_t table_len)
+{
+    uint8_t *copy = malloc(front_len + table_len + 1);
+    if (copy == NULL)
+        abort();
+    if (front_len > 0)
+        memcpy(copy, front, front_len);
+    if (table_len > 0)
+        memcpy(copy + front_len, table, table_len);
+    return copy;
+}
+
+/* Copies a table whose timer then takes no tick, where its s and p are good. */
+static uint8_t *untimed(const uint8_t *table, size_t table_len)
+{
+    uint8_t *copy = copied(NULL, 0, table, table_len);
+    if (table_len >= COUNT && table[S] < table[P] && table[P] < 0x80)
+        copy[S] = 0;
+    return copy;
+}
+
+/* Reads a table in the spelling that has no timer too, and judges it. Returns whether that gives an answer. */
+static bool judged_without_timer(const uint8_t *table, size_t table_len, uint8_t *answer, uint32_t *status)
+{
+    static const uint8_t no_timer[COUNT] = {0, 1};
+    uint8_t other[JYRMEKKO_ANSWER_SIZE];
+    uint8_t *copy = copied(no_timer, COUNT, table, table_len);
+    uint32_t judged = __real_verdict(copy, COUNT + table_len, other, sizeof other);
+    free(copy);
+    if (is_refusal(judged))
+        return false;
+    memcpy(answer, other, sizeof other);
+    *status = judged;
+    return true;
 }
 
 /* Answers a refusal at a place, where the answer buffer has its right length. */
@@ -94,7 +133,9 @@ static uint32_t tampered(uint32_t status, const uint8_t *table, size_t table_len
         if (tampering("period-before-hopeless") && status == JYRMEKKO_HOPELESS_ROW)
             return refused(JYRMEKKO_PERIOD_TOO_LONG, table_len, answer);
         if (tampering("fewer-rows") && has_most_rows(table, table_len))
-            return refused(JYRMEKKO_TOO_MANY_ROWS, 0, answer);
+            return refused(JYRMEKKO_TOO_MANY_ROWS, COUNT, answer);
+        if (tampering("s-before-p") && status == JYRMEKKO_VALUE_OUT_OF_RANGE && table[S] >= table[P])
+            return refused(status, S, answer);
         if (tampering("status"))
             return (uint32_t)strtoul(getenv("TAMPER_STATUS"), NULL, 10);
         if (tampering("status-and-place"))
@@ -107,7 +148,12 @@ static uint32_t tampered(uint32_t status, const uint8_t *table, size_t table_len
 uint32_t __wrap_verdict(const uint8_t *table, size_t table_len, uint8_t *answer, size_t answer_len)
 {
     uint8_t before = answer_len > 0 ? answer[FIRST] : 0;
-    uint32_t status = __real_verdict(table, table_len, answer, answer_len);
+    uint8_t *judged = tampering("taken-left-out") ? untimed(table, table_len) : NULL;
+    uint32_t status = __real_verdict(judged != NULL ? judged : table, table_len, answer, answer_len);
+    free(judged);
+    if (tampering("old-spelling") && status != JYRMEKKO_ANSWER_NOT_16_BYTES && is_refusal(status) &&
+        judged_without_timer(table, table_len, answer, &status))
+        return status;
     if (tampering("always-feasible") && status == JYRMEKKO_OVERLOADED) {
         memset(answer, 0, answer_len);
         return JYRMEKKO_FEASIBLE;
@@ -119,7 +165,10 @@ uint32_t __wrap_replay(const uint8_t *table, size_t table_len, const uint8_t *sc
                        uint8_t *log, size_t log_len, uint8_t *answer, size_t answer_len)
 {
     uint8_t before = answer_len > 0 ? answer[FIRST] : 0;
-    uint32_t status = __real_replay(table, table_len, script, script_len, log, log_len, answer, answer_len);
+    uint8_t *played = tampering("taken-given") ? untimed(table, table_len) : NULL;
+    uint32_t status = __real_replay(played != NULL ? played : table, table_len, script, script_len, log, log_len,
+                                    answer, answer_len);
+    free(played);
     if (status == JYRMEKKO_SCRIPT_MISSPELLED)
         move_place(status, script, script_len, answer);
     if (log_len > 0 && status != JYRMEKKO_ANSWER_NOT_16_BYTES) {

@@ -100,60 +100,112 @@ struct verdict_case {
 };
 
 static const struct verdict_case verdict_cases[] = {
-    {"V1", {0}, 1, JYRMEKKO_FEASIBLE, 0, 0},
-    {"V2", {1, 1, 2, 6, 1}, 5, JYRMEKKO_FEASIBLE, 0, 0},
-    {"V3", {2, 1, 4, 4, 2, 1, 6, 6, 3}, 9, JYRMEKKO_FEASIBLE, 0, 0},
-    {"V4", {2, 1, 4, 3, 2, 1, 6, 5, 3}, 9, JYRMEKKO_OVERLOADED, 11, 12},
-    {"V5", {1, 3, 6, 6, 2}, 5, JYRMEKKO_FEASIBLE, 0, 0},
-    {"V6", {1, 3, 6, 5, 2}, 5, JYRMEKKO_OVERLOADED, 5, 6},
-    {"V7", {1, 2, 1, 1, 1}, 5, JYRMEKKO_OVERLOADED, 1, 2},
-    {"V8", {1, 1, 2, 10, 3}, 5, JYRMEKKO_OVERLOADED, 26, 27},
-    {"longest period, 1023 and 1025", {2, 1, 0xFF, 0x07, 1, 1, 1, 0x81, 0x08, 2, 1}, 11, JYRMEKKO_FEASIBLE, 0, 0},
-    {"y 4096", {1, 1, 0x80, 0x20, 1, 1}, 6, JYRMEKKO_FEASIBLE, 0, 0},
-    {"no table", {0}, 0, JYRMEKKO_MISSPELLED, 0, 0},
-    {"count 80 00", {0x80, 0x00}, 2, JYRMEKKO_MISSPELLED, 1, 0},
-    {"count 80 80 00, and bytes after", {0x80, 0x80, 0x00, 0x80, 0x00}, 5, JYRMEKKO_MISSPELLED, 2, 0},
-    {"count cut off", {0x80}, 1, JYRMEKKO_MISSPELLED, 1, 0},
-    {"cut before x", {1}, 1, JYRMEKKO_MISSPELLED, 1, 0},
-    {"cut in d", {1, 1, 2, 0x86}, 4, JYRMEKKO_MISSPELLED, 4, 0},
-    {"cut in c", {1, 1, 2, 6, 0x81, 0x80}, 6, JYRMEKKO_MISSPELLED, 6, 0},
-    {"y of seven groups", {1, 1, ASKING_6, 1}, 9, JYRMEKKO_MISSPELLED, 7, 0},
-    {"y of six groups, cut off as the sixth asks for more", {1, 1, ASKING_6}, 8, JYRMEKKO_MISSPELLED, 7, 0},
-    {"y of five groups, cut off as the fifth asks for more", {1, 1, ASKING_5}, 7, JYRMEKKO_MISSPELLED, 7, 0},
-    {"y of six groups, the last of them zero", {1, 1, ASKING_5, 0x00, 1, 1}, 10, JYRMEKKO_MISSPELLED, 7, 0},
-    {"y of six groups", {1, 1, ASKING_5, 0x01, 1, 1}, 10, JYRMEKKO_VALUE_OUT_OF_RANGE, 2, 0},
-    {"one row too many", {JYRMEKKO_MOST_ROWS + 1}, 1, JYRMEKKO_TOO_MANY_ROWS, 0, 0},
-    {"x 0", {1, 0, 2, 6, 1}, 5, JYRMEKKO_VALUE_OUT_OF_RANGE, 1, 0},
-    {"x 65", {1, 65, 2, 6, 1}, 5, JYRMEKKO_VALUE_OUT_OF_RANGE, 1, 0},
-    {"y 4097", {1, 1, 0x81, 0x20, 1, 1}, 6, JYRMEKKO_VALUE_OUT_OF_RANGE, 2, 0},
-    {"d 16385", {1, 1, 2, 0x81, 0x80, 0x01, 1}, 7, JYRMEKKO_VALUE_OUT_OF_RANGE, 3, 0},
-    {"c 0", {1, 1, 2, 6, 0}, 5, JYRMEKKO_VALUE_OUT_OF_RANGE, 4, 0},
-    {"a bad x beats a misspelled y", {1, 0, 0x80, 0x00}, 4, JYRMEKKO_VALUE_OUT_OF_RANGE, 1, 0},
-    {"bytes after the last row", {1, 1, 2, 6, 1, 0x80, 0x00}, 7, JYRMEKKO_EXTRA_BYTES, 5, 0},
-    {"period too long, 1141 and 919", {2, 1, 0xF5, 0x08, 1, 1, 1, 0x97, 0x07, 2, 1}, 11, JYRMEKKO_PERIOD_TOO_LONG, 11, 0},
+    {"V1", {0, 1, 0}, 3, JYRMEKKO_FEASIBLE, 0, 0},
+    {"V2", {0, 1, 1, 1, 2, 6, 1}, 7, JYRMEKKO_FEASIBLE, 0, 0},
+    {"V3", {0, 1, 2, 1, 4, 4, 2, 1, 6, 6, 3}, 11, JYRMEKKO_FEASIBLE, 0, 0},
+    {"V4", {0, 1, 2, 1, 4, 3, 2, 1, 6, 5, 3}, 11, JYRMEKKO_OVERLOADED, 11, 12},
+    {"V5", {0, 1, 1, 3, 6, 6, 2}, 7, JYRMEKKO_FEASIBLE, 0, 0},
+    {"V6", {0, 1, 1, 3, 6, 5, 2}, 7, JYRMEKKO_OVERLOADED, 5, 6},
+    {"V7", {0, 1, 1, 2, 1, 1, 1}, 7, JYRMEKKO_OVERLOADED, 1, 2},
+    {"V8", {0, 1, 1, 1, 2, 10, 3}, 7, JYRMEKKO_OVERLOADED, 26, 27},
+    {"longest period, 1023 and 1025", {0, 1, 2, 1, 0xFF, 0x07, 1, 1, 1, 0x81, 0x08, 2, 1}, 13, JYRMEKKO_FEASIBLE, 0, 0},
+    {"y 4096", {0, 1, 1, 1, 0x80, 0x20, 1, 1}, 8, JYRMEKKO_FEASIBLE, 0, 0},
+    {"T1", {1, 4, 0}, 3, JYRMEKKO_FEASIBLE, 0, 0},
+    {"T2", {1, 4, 1, 1, 4, 4, 3}, 7, JYRMEKKO_FEASIBLE, 0, 0},
+    {"T2 with one unit more", {1, 4, 1, 1, 4, 4, 4}, 7, JYRMEKKO_OVERLOADED, 4, 5},
+    {"T3", {0, 12, 2, 1, 4, 4, 2, 1, 6, 6, 3}, 11, JYRMEKKO_FEASIBLE, 0, 0},
+    {"T4", {1, 12, 2, 1, 4, 4, 2, 1, 6, 6, 3}, 11, JYRMEKKO_OVERLOADED, 12, 13},
+    {"T5", {3, 4, 1, 1, 4, 3, 1}, 7, JYRMEKKO_OVERLOADED, 3, 4},
+    {"T6", {2, 5, 1, 1, 10, 7, 4}, 7, JYRMEKKO_OVERLOADED, 7, 8},
+    {"T7", {1, 2, 1, 1, 2, 10, 2}, 7, JYRMEKKO_OVERLOADED, 18, 19},
+    {"the table of R2", {1, 4, 2, 1, 8, 6, 2, 1, 8, 8, 3}, 11, JYRMEKKO_FEASIBLE, 0, 0},
 
-    {"c above d", {1, 1, 4, 4, 5}, 5, JYRMEKKO_HOPELESS_ROW, 4, 0},
-    {"c equal to d", {1, 1, 4, 4, 4}, 5, JYRMEKKO_FEASIBLE, 0, 0},
-    {"c equal to d, overloaded", {1, 2, 4, 4, 4}, 5, JYRMEKKO_OVERLOADED, 4, 8},
-    {"c above d in the second row", {2, 1, 4, 4, 2, 1, 6, 5, 6}, 9, JYRMEKKO_HOPELESS_ROW, 8, 0},
-    {"c above d in both rows", {2, 1, 4, 4, 5, 1, 4, 4, 5}, 9, JYRMEKKO_HOPELESS_ROW, 4, 0},
-    {"c above the d of another row", {2, 1, 8, 4, 4, 1, 8, 8, 5}, 9, JYRMEKKO_OVERLOADED, 8, 9},
-    {"c 128 above d 127", {1, 1, 4, 0x7F, 0x80, 0x01}, 6, JYRMEKKO_HOPELESS_ROW, 4, 0},
-    {"c 4096 above d 4095", {1, 1, 4, 0xFF, 0x1F, 0x80, 0x20}, 7, JYRMEKKO_HOPELESS_ROW, 5, 0},
-    {"c 4096 and d 4096", {1, 1, 0x80, 0x20, 0x80, 0x20, 0x80, 0x20}, 8, JYRMEKKO_FEASIBLE, 0, 0},
-    {"c 4097 above d 4095", {1, 1, 4, 0xFF, 0x1F, 0x81, 0x20}, 7, JYRMEKKO_VALUE_OUT_OF_RANGE, 5, 0},
-    {"c 5000 above d 4", {1, 1, 4, 4, 0x88, 0x27}, 6, JYRMEKKO_VALUE_OUT_OF_RANGE, 4, 0},
-    {"c above d is misspelled", {1, 1, 4, 4, 0x85, 0x00}, 6, JYRMEKKO_MISSPELLED, 5, 0},
-    {"c above d is cut off", {1, 1, 4, 4, 0x85}, 5, JYRMEKKO_MISSPELLED, 5, 0},
-    {"a bad d beats c above it", {1, 1, 4, 0, 5}, 5, JYRMEKKO_VALUE_OUT_OF_RANGE, 3, 0},
-    {"a bad x beats c above d in a later row", {2, 0, 4, 4, 4, 1, 4, 4, 5}, 9, JYRMEKKO_VALUE_OUT_OF_RANGE, 1, 0},
-    {"a misspelled x beats c above d in a later row", {2, 0x80, 0, 4, 4, 4, 1, 4, 4, 5}, 10, JYRMEKKO_MISSPELLED, 2, 0},
-    {"c above d beats a bad x in a later row", {2, 1, 4, 4, 5, 0, 4, 4, 4}, 9, JYRMEKKO_HOPELESS_ROW, 4, 0},
-    {"c above d beats a misspelled x in a later row", {2, 1, 4, 4, 5, 0x80, 0}, 7, JYRMEKKO_HOPELESS_ROW, 4, 0},
-    {"c above d beats a later row cut off", {2, 1, 4, 4, 5}, 5, JYRMEKKO_HOPELESS_ROW, 4, 0},
-    {"c above d beats bytes after the last row", {1, 1, 4, 4, 5, 0}, 6, JYRMEKKO_HOPELESS_ROW, 4, 0},
-    {"c above d beats a period too long", {2, 1, 0xF5, 0x08, 1, 1, 1, 0x97, 0x07, 2, 3}, 11, JYRMEKKO_HOPELESS_ROW, 10, 0},
-    {"c above d beats both", {2, 1, 0xF5, 0x08, 1, 1, 1, 0x97, 0x07, 2, 3, 0}, 12, JYRMEKKO_HOPELESS_ROW, 10, 0},
+    {"p 0", {0, 0, 0}, 3, JYRMEKKO_VALUE_OUT_OF_RANGE, 1, 0},
+    {"p 0 and s above it", {1, 0, 0}, 3, JYRMEKKO_VALUE_OUT_OF_RANGE, 1, 0},
+    {"p 4097", {0, 0x81, 0x20, 0}, 4, JYRMEKKO_VALUE_OUT_OF_RANGE, 1, 0},
+    {"p 4097 and s equal to it", {0x81, 0x20, 0x81, 0x20, 0}, 5, JYRMEKKO_VALUE_OUT_OF_RANGE, 2, 0},
+    {"p 4097 and s 2^41", {ASKING_5, 0x40, 0x81, 0x20, 0}, 9, JYRMEKKO_VALUE_OUT_OF_RANGE, 6, 0},
+    {"p 2^32", {0, 0x80, 0x80, 0x80, 0x80, 0x10, 0}, 7, JYRMEKKO_VALUE_OUT_OF_RANGE, 1, 0},
+    {"p 2^32 + 1", {0, 0x81, 0x80, 0x80, 0x80, 0x10, 0}, 7, JYRMEKKO_VALUE_OUT_OF_RANGE, 1, 0},
+    {"p of six groups", {0, ASKING_5, 0x40, 0}, 8, JYRMEKKO_VALUE_OUT_OF_RANGE, 1, 0},
+    {"s equal to p", {1, 1, 0}, 3, JYRMEKKO_VALUE_OUT_OF_RANGE, 0, 0},
+    {"s above p", {5, 4, 0}, 3, JYRMEKKO_VALUE_OUT_OF_RANGE, 0, 0},
+    {"s 4096 and p 4096", {0x80, 0x20, 0x80, 0x20, 0}, 5, JYRMEKKO_VALUE_OUT_OF_RANGE, 0, 0},
+    {"s 2^32", {0x80, 0x80, 0x80, 0x80, 0x10, 1, 0}, 7, JYRMEKKO_VALUE_OUT_OF_RANGE, 0, 0},
+    {"s 2^41", {ASKING_5, 0x40, 7, 0}, 8, JYRMEKKO_VALUE_OUT_OF_RANGE, 0, 0},
+    {"s 4095 and p 4096", {0xFF, 0x1F, 0x80, 0x20, 0}, 5, JYRMEKKO_FEASIBLE, 0, 0},
+    {"s 4095 and p 4096, the tick that is left", {0xFF, 0x1F, 0x80, 0x20, 1, 1, 0x80, 0x20, 0x80, 0x20, 1}, 11,
+     JYRMEKKO_FEASIBLE, 0, 0},
+    {"s 4095 and p 4096, due before it", {0xFF, 0x1F, 0x80, 0x20, 1, 1, 0x80, 0x20, 0xFF, 0x1F, 1}, 11,
+     JYRMEKKO_OVERLOADED, 4095, 4096},
+    {"a bad p beats a misspelled count", {0, 0, 0x80, 0x00}, 4, JYRMEKKO_VALUE_OUT_OF_RANGE, 1, 0},
+    {"a bad s beats a misspelled count", {1, 1, 0x80, 0x00}, 4, JYRMEKKO_VALUE_OUT_OF_RANGE, 0, 0},
+    {"a bad s beats one row too many", {1, 1, JYRMEKKO_MOST_ROWS + 1}, 3, JYRMEKKO_VALUE_OUT_OF_RANGE, 0, 0},
+    {"a bad s beats c above d", {5, 5, 1, 1, 4, 4, 5}, 7, JYRMEKKO_VALUE_OUT_OF_RANGE, 0, 0},
+    {"a misspelled p beats a bad s", {5, 0x84, 0x00, 0}, 4, JYRMEKKO_MISSPELLED, 2, 0},
+    {"a p of seven groups beats a bad s", {5, ASKING_6, 1, 0}, 9, JYRMEKKO_MISSPELLED, 6, 0},
+    {"a p that is cut off beats a bad s", {ASKING_5, 0x40, 0x81}, 7, JYRMEKKO_MISSPELLED, 7, 0},
+    {"s misspelled", {0x80, 0x00, 1, 0}, 4, JYRMEKKO_MISSPELLED, 1, 0},
+    {"s of seven groups", {ASKING_6, 1, 1, 0}, 9, JYRMEKKO_MISSPELLED, 5, 0},
+    {"s cut off", {0x80}, 1, JYRMEKKO_MISSPELLED, 1, 0},
+    {"cut before p", {0}, 1, JYRMEKKO_MISSPELLED, 1, 0},
+    {"cut before the count", {0, 1}, 2, JYRMEKKO_MISSPELLED, 2, 0},
+    {"one row too many, after s and p of two groups", {0x81, 0x01, 0x82, 0x01, JYRMEKKO_MOST_ROWS + 1}, 5,
+     JYRMEKKO_TOO_MANY_ROWS, 4, 0},
+    {"longest period by p, 1023 and 1025", {0, 0xFF, 0x07, 1, 1, 0x81, 0x08, 1, 1}, 9, JYRMEKKO_FEASIBLE, 0, 0},
+    {"longest period by p, 1025 and 1023", {0, 0x81, 0x08, 1, 1, 0xFF, 0x07, 1, 1}, 9, JYRMEKKO_FEASIBLE, 0, 0},
+    {"longest period by p, with ticks taken", {1, 0xFF, 0x07, 1, 1, 0x81, 0x08, 2, 1}, 9, JYRMEKKO_FEASIBLE, 0, 0},
+    {"period too long by p, 919 and 1141", {0, 0x97, 0x07, 1, 1, 0xF5, 0x08, 1, 1}, 9, JYRMEKKO_PERIOD_TOO_LONG, 9, 0},
+    {"period too long by p, 1141 and 919", {0, 0xF5, 0x08, 1, 1, 0x97, 0x07, 1, 1}, 9, JYRMEKKO_PERIOD_TOO_LONG, 9, 0},
+    {"period too long by p, with ticks taken", {1, 0x97, 0x07, 1, 1, 0xF5, 0x08, 2, 1}, 9, JYRMEKKO_PERIOD_TOO_LONG, 9, 0},
+    {"bytes after the last row beat it", {0, 0x97, 0x07, 1, 1, 0xF5, 0x08, 1, 1, 0}, 10, JYRMEKKO_EXTRA_BYTES, 9, 0},
+    {"V2 as it was spelled before", {1, 1, 2, 6, 1}, 5, JYRMEKKO_VALUE_OUT_OF_RANGE, 0, 0},
+    {"V3 as it was spelled before", {2, 1, 4, 4, 2, 1, 6, 6, 3}, 9, JYRMEKKO_VALUE_OUT_OF_RANGE, 0, 0},
+
+    {"no table", {0}, 0, JYRMEKKO_MISSPELLED, 0, 0},
+    {"count 80 00", {0, 1, 0x80, 0x00}, 4, JYRMEKKO_MISSPELLED, 3, 0},
+    {"count 80 80 00, and bytes after", {0, 1, 0x80, 0x80, 0x00, 0x80, 0x00}, 7, JYRMEKKO_MISSPELLED, 4, 0},
+    {"count cut off", {0, 1, 0x80}, 3, JYRMEKKO_MISSPELLED, 3, 0},
+    {"cut before x", {0, 1, 1}, 3, JYRMEKKO_MISSPELLED, 3, 0},
+    {"cut in d", {0, 1, 1, 1, 2, 0x86}, 6, JYRMEKKO_MISSPELLED, 6, 0},
+    {"cut in c", {0, 1, 1, 1, 2, 6, 0x81, 0x80}, 8, JYRMEKKO_MISSPELLED, 8, 0},
+    {"y of seven groups", {0, 1, 1, 1, ASKING_6, 1}, 11, JYRMEKKO_MISSPELLED, 9, 0},
+    {"y of six groups, cut off as the sixth asks for more", {0, 1, 1, 1, ASKING_6}, 10, JYRMEKKO_MISSPELLED, 9, 0},
+    {"y of five groups, cut off as the fifth asks for more", {0, 1, 1, 1, ASKING_5}, 9, JYRMEKKO_MISSPELLED, 9, 0},
+    {"y of six groups, the last of them zero", {0, 1, 1, 1, ASKING_5, 0x00, 1, 1}, 12, JYRMEKKO_MISSPELLED, 9, 0},
+    {"y of six groups", {0, 1, 1, 1, ASKING_5, 0x01, 1, 1}, 12, JYRMEKKO_VALUE_OUT_OF_RANGE, 4, 0},
+    {"one row too many", {0, 1, JYRMEKKO_MOST_ROWS + 1}, 3, JYRMEKKO_TOO_MANY_ROWS, 2, 0},
+    {"x 0", {0, 1, 1, 0, 2, 6, 1}, 7, JYRMEKKO_VALUE_OUT_OF_RANGE, 3, 0},
+    {"x 65", {0, 1, 1, 65, 2, 6, 1}, 7, JYRMEKKO_VALUE_OUT_OF_RANGE, 3, 0},
+    {"y 4097", {0, 1, 1, 1, 0x81, 0x20, 1, 1}, 8, JYRMEKKO_VALUE_OUT_OF_RANGE, 4, 0},
+    {"d 16385", {0, 1, 1, 1, 2, 0x81, 0x80, 0x01, 1}, 9, JYRMEKKO_VALUE_OUT_OF_RANGE, 5, 0},
+    {"c 0", {0, 1, 1, 1, 2, 6, 0}, 7, JYRMEKKO_VALUE_OUT_OF_RANGE, 6, 0},
+    {"a bad x beats a misspelled y", {0, 1, 1, 0, 0x80, 0x00}, 6, JYRMEKKO_VALUE_OUT_OF_RANGE, 3, 0},
+    {"bytes after the last row", {0, 1, 1, 1, 2, 6, 1, 0x80, 0x00}, 9, JYRMEKKO_EXTRA_BYTES, 7, 0},
+    {"period too long, 1141 and 919", {0, 1, 2, 1, 0xF5, 0x08, 1, 1, 1, 0x97, 0x07, 2, 1}, 13, JYRMEKKO_PERIOD_TOO_LONG, 13, 0},
+
+    {"c above d", {0, 1, 1, 1, 4, 4, 5}, 7, JYRMEKKO_HOPELESS_ROW, 6, 0},
+    {"c equal to d", {0, 1, 1, 1, 4, 4, 4}, 7, JYRMEKKO_FEASIBLE, 0, 0},
+    {"c equal to d, overloaded", {0, 1, 1, 2, 4, 4, 4}, 7, JYRMEKKO_OVERLOADED, 4, 8},
+    {"c above d in the second row", {0, 1, 2, 1, 4, 4, 2, 1, 6, 5, 6}, 11, JYRMEKKO_HOPELESS_ROW, 10, 0},
+    {"c above d in both rows", {0, 1, 2, 1, 4, 4, 5, 1, 4, 4, 5}, 11, JYRMEKKO_HOPELESS_ROW, 6, 0},
+    {"c above the d of another row", {0, 1, 2, 1, 8, 4, 4, 1, 8, 8, 5}, 11, JYRMEKKO_OVERLOADED, 8, 9},
+    {"c 128 above d 127", {0, 1, 1, 1, 4, 0x7F, 0x80, 0x01}, 8, JYRMEKKO_HOPELESS_ROW, 6, 0},
+    {"c 4096 above d 4095", {0, 1, 1, 1, 4, 0xFF, 0x1F, 0x80, 0x20}, 9, JYRMEKKO_HOPELESS_ROW, 7, 0},
+    {"c 4096 and d 4096", {0, 1, 1, 1, 0x80, 0x20, 0x80, 0x20, 0x80, 0x20}, 10, JYRMEKKO_FEASIBLE, 0, 0},
+    {"c 4097 above d 4095", {0, 1, 1, 1, 4, 0xFF, 0x1F, 0x81, 0x20}, 9, JYRMEKKO_VALUE_OUT_OF_RANGE, 7, 0},
+    {"c 5000 above d 4", {0, 1, 1, 1, 4, 4, 0x88, 0x27}, 8, JYRMEKKO_VALUE_OUT_OF_RANGE, 6, 0},
+    {"c above d is misspelled", {0, 1, 1, 1, 4, 4, 0x85, 0x00}, 8, JYRMEKKO_MISSPELLED, 7, 0},
+    {"c above d is cut off", {0, 1, 1, 1, 4, 4, 0x85}, 7, JYRMEKKO_MISSPELLED, 7, 0},
+    {"a bad d beats c above it", {0, 1, 1, 1, 4, 0, 5}, 7, JYRMEKKO_VALUE_OUT_OF_RANGE, 5, 0},
+    {"a bad x beats c above d in a later row", {0, 1, 2, 0, 4, 4, 4, 1, 4, 4, 5}, 11, JYRMEKKO_VALUE_OUT_OF_RANGE, 3, 0},
+    {"a misspelled x beats c above d in a later row", {0, 1, 2, 0x80, 0, 4, 4, 4, 1, 4, 4, 5}, 12, JYRMEKKO_MISSPELLED, 4, 0},
+    {"c above d beats a bad x in a later row", {0, 1, 2, 1, 4, 4, 5, 0, 4, 4, 4}, 11, JYRMEKKO_HOPELESS_ROW, 6, 0},
+    {"c above d beats a misspelled x in a later row", {0, 1, 2, 1, 4, 4, 5, 0x80, 0}, 9, JYRMEKKO_HOPELESS_ROW, 6, 0},
+    {"c above d beats a later row cut off", {0, 1, 2, 1, 4, 4, 5}, 7, JYRMEKKO_HOPELESS_ROW, 6, 0},
+    {"c above d beats bytes after the last row", {0, 1, 1, 1, 4, 4, 5, 0}, 8, JYRMEKKO_HOPELESS_ROW, 6, 0},
+    {"c above d beats a period too long", {0, 1, 2, 1, 0xF5, 0x08, 1, 1, 1, 0x97, 0x07, 2, 3}, 13, JYRMEKKO_HOPELESS_ROW, 12, 0},
+    {"c above d beats both", {0, 1, 2, 1, 0xF5, 0x08, 1, 1, 1, 0x97, 0x07, 2, 3, 0}, 14, JYRMEKKO_HOPELESS_ROW, 12, 0},
 };
 
 static void test_verdict(const struct verdict_case *c)
@@ -170,11 +222,16 @@ static void test_verdict(const struct verdict_case *c)
 
 /* ---- replays */
 
-#define V2 {1, 1, 2, 6, 1}, 5
-#define V3 {2, 1, 4, 4, 2, 1, 6, 6, 3}, 9
-#define V7 {1, 2, 1, 1, 1}, 5
-#define TWO_AT_ONCE {1, 2, 1, 2, 2}, 5 /* Two jobs at once may cost 4 units, and both are due in 2 ticks. */
-#define HOPELESS {1, 1, 4, 4, 5}, 5
+#define V2 {0, 1, 1, 1, 2, 6, 1}, 7
+#define V3 {0, 1, 2, 1, 4, 4, 2, 1, 6, 6, 3}, 11
+#define V7 {0, 1, 1, 2, 1, 1, 1}, 7
+#define TWO_AT_ONCE {0, 1, 1, 2, 1, 2, 2}, 7 /* Two jobs at once may cost 4 units, and both are due in 2 ticks. */
+#define HOPELESS {0, 1, 1, 1, 4, 4, 5}, 7
+#define T2 {1, 4, 1, 1, 4, 4, 3}, 7
+#define R2_TABLE {1, 4, 2, 1, 8, 6, 2, 1, 8, 8, 3}, 11
+#define R2 {0, 0, 2, 0, 1, 3}, 6
+#define R2_LOG {0, 0, 0, 6, 3, 1, 1, 0, 8, 7}
+#define EVERY_OTHER {1, 2, 1, 1, 1, 1, 1}, 7 /* Every other tick is taken, and a job is due in the next tick. */
 #define R1 {0, 0, 2, 0, 1, 3, 4, 0, 2}, 9
 #define R1_LOG {0, 0, 0, 4, 2, 1, 1, 0, 6, 5, 2, 0, 4, 8, 7}
 
@@ -188,41 +245,75 @@ struct replay_case {
     uint32_t status;
     uint64_t first, second;
     /* With 22 and 23 this is the log, and its length is the first number. */
-    uint8_t log[20];
+    uint8_t log[24];
 };
 
 static const struct replay_case replay_cases[] = {
     {"R1", V3, R1, 15, JYRMEKKO_IN_TIME, 15, 0, R1_LOG},
     {"R1 with log to spare", V3, R1, 90, JYRMEKKO_IN_TIME, 15, 0, R1_LOG},
     {"no jobs", V3, {0}, 0, 9, JYRMEKKO_IN_TIME, 0, 0, {0}},
-    {"no jobs and no log", {0}, 1, {0}, 0, 0, JYRMEKKO_IN_TIME, 0, 0, {0}},
+    {"no jobs and no log", {0, 1, 0}, 3, {0}, 0, 0, JYRMEKKO_IN_TIME, 0, 0, {0}},
     {"one job in time", V7, {0, 0, 1}, 3, 9, JYRMEKKO_IN_TIME, 5, 0, {0, 0, 0, 1, 1}},
     {"one of two late", V7, {0, 0, 1, 0, 0, 1}, 6, 20, JYRMEKKO_LATE, 10, 1, {0, 0, 0, 1, 1, 1, 0, 0, 1, 2}},
     {"due at 2^40", V2, {LAST_TICK_MINUS_6, 0, 1}, 8, 20, JYRMEKKO_IN_TIME, 20, 0,
      {0, 0, LAST_TICK_MINUS_6, LAST_TICK, LAST_TICK_MINUS_5}},
 
-    {"table misspelled", {1, 0x80, 0x00}, 3, R1, 20, JYRMEKKO_MISSPELLED, 2, 0, {0}},
-    {"table cut off", {1}, 1, R1, 20, JYRMEKKO_MISSPELLED, 1, 0, {0}},
-    {"y of seven groups", {1, 1, ASKING_6, 1}, 9, R1, 20, JYRMEKKO_MISSPELLED, 7, 0, {0}},
-    {"one row too many", {JYRMEKKO_MOST_ROWS + 1}, 1, R1, 20, JYRMEKKO_TOO_MANY_ROWS, 0, 0, {0}},
-    {"value out of range", {1, 1, 2, 6, 0}, 5, R1, 20, JYRMEKKO_VALUE_OUT_OF_RANGE, 4, 0, {0}},
-    {"bytes after the last row", {0, 0}, 2, R1, 20, JYRMEKKO_EXTRA_BYTES, 1, 0, {0}},
-    {"period too long", {2, 1, 0xF5, 0x08, 1, 1, 1, 0x97, 0x07, 2, 1}, 11, R1, 20, JYRMEKKO_PERIOD_TOO_LONG, 11, 0, {0}},
+    {"R2", R2_TABLE, R2, 10, JYRMEKKO_IN_TIME, 10, 0, R2_LOG},
+    {"R2 with log to spare", R2_TABLE, R2, 60, JYRMEKKO_IN_TIME, 10, 0, R2_LOG},
+    {"R2 with a log one byte short", R2_TABLE, R2, 9, JYRMEKKO_NO_ROOM, 6, 0, {0}},
+    {"every tick that is left, finished when it is due", T2, {0, 0, 3}, 3, 20, JYRMEKKO_IN_TIME, 5, 0, {0, 0, 0, 4, 4}},
+    {"late in a taken tick", EVERY_OTHER, {0, 0, 1}, 3, 20, JYRMEKKO_LATE, 5, 1, {0, 0, 0, 1, 2}},
+    {"the same in the free tick", EVERY_OTHER, {1, 0, 1}, 3, 20, JYRMEKKO_IN_TIME, 5, 0, {0, 0, 1, 2, 2}},
+    {"late between taken ticks", {3, 5, 1, 1, 5, 2, 1}, 7, {0, 0, 1}, 3, 20, JYRMEKKO_LATE, 5, 1, {0, 0, 0, 2, 4}},
+    {"released between taken ticks", {3, 5, 1, 1, 5, 2, 1}, 7, {6, 0, 1}, 3, 20, JYRMEKKO_LATE, 5, 1, {0, 0, 6, 8, 9}},
+    {"no tick is taken, whatever p is", {0, 12, 2, 1, 4, 4, 2, 1, 6, 6, 3}, 11, R1, 15, JYRMEKKO_IN_TIME, 15, 0, R1_LOG},
+    {"2^32 ticks later, with 5 of every 7 taken", {5, 7, 1, 1, 7, 7, 1}, 7,
+     {0, 0, 1, 0x80, 0x80, 0x80, 0x80, 0x10, 0, 1}, 10, 60, JYRMEKKO_IN_TIME, 22, 0,
+     {0, 0, 0, 7, 6, 1, 0, 0x80, 0x80, 0x80, 0x80, 0x10, 0x87, 0x80, 0x80, 0x80, 0x10, 0x82, 0x80, 0x80, 0x80, 0x10}},
+    {"the last two ticks before 2^40 are taken", {2, 7, 1, 1, 2, 2, 1}, 7, {LAST_TICK_MINUS_2, 0, 1}, 8, 20,
+     JYRMEKKO_TIME_TOO_LATE, 8, 0, {0}},
+    {"the same with no log", {2, 7, 1, 1, 2, 2, 1}, 7, {LAST_TICK_MINUS_2, 0, 1}, 8, 0, JYRMEKKO_TIME_TOO_LATE, 8, 0, {0}},
+    {"one of them is free", {1, 7, 1, 1, 2, 2, 1}, 7, {LAST_TICK_MINUS_2, 0, 1}, 8, 20, JYRMEKKO_IN_TIME, 20, 0,
+     {0, 0, LAST_TICK_MINUS_2, LAST_TICK, LAST_TICK}},
+    {"one of them is free, for two units", {1, 7, 1, 1, 2, 2, 2}, 7, {LAST_TICK_MINUS_2, 0, 2}, 8, 20,
+     JYRMEKKO_TIME_TOO_LATE, 8, 0, {0}},
+    {"script time of 2^40, with a timer", {2, 7, 1, 1, 2, 2, 1}, 7, {LAST_TICK, 0, 1}, 8, 20, JYRMEKKO_DUE_TOO_LATE, 0, 0, {0}},
+    {"no jobs, with a timer", {2, 7, 0}, 3, {0}, 0, 9, JYRMEKKO_IN_TIME, 0, 0, {0}},
+    {"no rows, with a timer", {2, 7, 0}, 3, {0, 0, 1}, 3, 20, JYRMEKKO_NO_SUCH_ROW, 1, 0, {0}},
+    {"p 0", {0, 0, 0}, 3, R1, 20, JYRMEKKO_VALUE_OUT_OF_RANGE, 1, 0, {0}},
+    {"p 4097", {0, 0x81, 0x20, 0}, 4, R1, 20, JYRMEKKO_VALUE_OUT_OF_RANGE, 1, 0, {0}},
+    {"p 0 and s above it", {1, 0, 0}, 3, R1, 20, JYRMEKKO_VALUE_OUT_OF_RANGE, 1, 0, {0}},
+    {"s equal to p", {4, 4, 1, 1, 4, 4, 3}, 7, {0, 0, 1}, 3, 20, JYRMEKKO_VALUE_OUT_OF_RANGE, 0, 0, {0}},
+    {"s 2^41", {ASKING_5, 0x40, 7, 0}, 8, {0}, 0, 20, JYRMEKKO_VALUE_OUT_OF_RANGE, 0, 0, {0}},
+    {"a misspelled p beats a bad s", {5, 0x84, 0x00, 0}, 4, R1, 20, JYRMEKKO_MISSPELLED, 2, 0, {0}},
+    {"period too long by p", {0, 0x97, 0x07, 1, 1, 0xF5, 0x08, 1, 1}, 9, R1, 20, JYRMEKKO_PERIOD_TOO_LONG, 9, 0, {0}},
+    {"V3 as it was spelled before", {2, 1, 4, 4, 2, 1, 6, 6, 3}, 9, R1, 20, JYRMEKKO_VALUE_OUT_OF_RANGE, 0, 0, {0}},
 
-    {"c above d", HOPELESS, {0, 0, 1}, 3, 20, JYRMEKKO_HOPELESS_ROW, 4, 0, {0}},
-    {"c above d and no job", HOPELESS, {0}, 0, 20, JYRMEKKO_HOPELESS_ROW, 4, 0, {0}},
-    {"c above d and no log", HOPELESS, {0, 0, 1}, 3, 0, JYRMEKKO_HOPELESS_ROW, 4, 0, {0}},
-    {"c above d and script misspelled", HOPELESS, {0x80, 0x00}, 2, 20, JYRMEKKO_HOPELESS_ROW, 4, 0, {0}},
-    {"c above d in a row without jobs", {2, 1, 4, 4, 2, 1, 6, 5, 6}, 9, {0, 0, 2}, 3, 20, JYRMEKKO_HOPELESS_ROW, 8, 0, {0}},
-    {"c 128 above d 127", {1, 1, 4, 0x7F, 0x80, 0x01}, 6, R1, 20, JYRMEKKO_HOPELESS_ROW, 4, 0, {0}},
-    {"c 5000 above d 4", {1, 1, 4, 4, 0x88, 0x27}, 6, R1, 20, JYRMEKKO_VALUE_OUT_OF_RANGE, 4, 0, {0}},
-    {"a bad x beats c above d in a later row", {2, 0, 4, 4, 4, 1, 4, 4, 5}, 9, R1, 20, JYRMEKKO_VALUE_OUT_OF_RANGE, 1, 0, {0}},
-    {"c above d beats a bad x in a later row", {2, 1, 4, 4, 5, 0, 4, 4, 4}, 9, R1, 20, JYRMEKKO_HOPELESS_ROW, 4, 0, {0}},
-    {"c above d beats a later row cut off", {2, 1, 4, 4, 5}, 5, R1, 20, JYRMEKKO_HOPELESS_ROW, 4, 0, {0}},
-    {"c above d beats bytes after the last row", {1, 1, 4, 4, 5, 0}, 6, R1, 20, JYRMEKKO_HOPELESS_ROW, 4, 0, {0}},
-    {"c above d beats a period too long", {2, 1, 0xF5, 0x08, 1, 1, 1, 0x97, 0x07, 2, 3}, 11, R1, 20,
+    {"table misspelled", {0, 1, 1, 0x80, 0x00}, 5, R1, 20, JYRMEKKO_MISSPELLED, 4, 0, {0}},
+    {"table cut off", {0, 1, 1}, 3, R1, 20, JYRMEKKO_MISSPELLED, 3, 0, {0}},
+    {"y of seven groups", {0, 1, 1, 1, ASKING_6, 1}, 11, R1, 20, JYRMEKKO_MISSPELLED, 9, 0, {0}},
+    {"one row too many", {0, 1, JYRMEKKO_MOST_ROWS + 1}, 3, R1, 20, JYRMEKKO_TOO_MANY_ROWS, 2, 0, {0}},
+    {"value out of range", {0, 1, 1, 1, 2, 6, 0}, 7, R1, 20, JYRMEKKO_VALUE_OUT_OF_RANGE, 6, 0, {0}},
+    {"bytes after the last row", {0, 1, 0, 0}, 4, R1, 20, JYRMEKKO_EXTRA_BYTES, 3, 0, {0}},
+    {"period too long", {0, 1, 2, 1, 0xF5, 0x08, 1, 1, 1, 0x97, 0x07, 2, 1}, 13, R1, 20, JYRMEKKO_PERIOD_TOO_LONG, 13, 0, {0}},
+
+    {"c above d", HOPELESS, {0, 0, 1}, 3, 20, JYRMEKKO_HOPELESS_ROW, 6, 0, {0}},
+    {"c above d and no job", HOPELESS, {0}, 0, 20, JYRMEKKO_HOPELESS_ROW, 6, 0, {0}},
+    {"c above d and no log", HOPELESS, {0, 0, 1}, 3, 0, JYRMEKKO_HOPELESS_ROW, 6, 0, {0}},
+    {"c above d and script misspelled", HOPELESS, {0x80, 0x00}, 2, 20, JYRMEKKO_HOPELESS_ROW, 6, 0, {0}},
+    {"c above d in a row without jobs", {0, 1, 2, 1, 4, 4, 2, 1, 6, 5, 6}, 11, {0, 0, 2}, 3, 20,
      JYRMEKKO_HOPELESS_ROW, 10, 0, {0}},
-    {"c equal to d", {1, 1, 4, 4, 4}, 5, {0, 0, 4}, 3, 20, JYRMEKKO_IN_TIME, 5, 0, {0, 0, 0, 4, 4}},
+    {"c 128 above d 127", {0, 1, 1, 1, 4, 0x7F, 0x80, 0x01}, 8, R1, 20, JYRMEKKO_HOPELESS_ROW, 6, 0, {0}},
+    {"c 5000 above d 4", {0, 1, 1, 1, 4, 4, 0x88, 0x27}, 8, R1, 20, JYRMEKKO_VALUE_OUT_OF_RANGE, 6, 0, {0}},
+    {"a bad x beats c above d in a later row", {0, 1, 2, 0, 4, 4, 4, 1, 4, 4, 5}, 11, R1, 20,
+     JYRMEKKO_VALUE_OUT_OF_RANGE, 3, 0, {0}},
+    {"c above d beats a bad x in a later row", {0, 1, 2, 1, 4, 4, 5, 0, 4, 4, 4}, 11, R1, 20,
+     JYRMEKKO_HOPELESS_ROW, 6, 0, {0}},
+    {"c above d beats a later row cut off", {0, 1, 2, 1, 4, 4, 5}, 7, R1, 20, JYRMEKKO_HOPELESS_ROW, 6, 0, {0}},
+    {"c above d beats bytes after the last row", {0, 1, 1, 1, 4, 4, 5, 0}, 8, R1, 20, JYRMEKKO_HOPELESS_ROW, 6, 0, {0}},
+    {"c above d beats a period too long", {0, 1, 2, 1, 0xF5, 0x08, 1, 1, 1, 0x97, 0x07, 2, 3}, 13, R1, 20,
+     JYRMEKKO_HOPELESS_ROW, 12, 0, {0}},
+    {"c equal to d", {0, 1, 1, 1, 4, 4, 4}, 7, {0, 0, 4}, 3, 20, JYRMEKKO_IN_TIME, 5, 0, {0, 0, 0, 4, 4}},
 
     {"gap misspelled", V2, {0, 0, 1, 0x80, 0x00, 0, 1}, 7, 20, JYRMEKKO_SCRIPT_MISSPELLED, 4, 0, {0}},
     {"row number misspelled", V2, {0, 0x80, 0x80, 0x00, 1}, 5, 20, JYRMEKKO_SCRIPT_MISSPELLED, 3, 0, {0}},
@@ -240,7 +331,7 @@ static const struct replay_case replay_cases[] = {
     {"script time above 2^40", V2, {0, 0, 1, LAST_TICK_PLUS_1}, 9, 20, JYRMEKKO_TIME_TOO_LATE, 3, 0, {0}},
     {"script time of 2^40", V2, {LAST_TICK, 0, 1}, 8, 20, JYRMEKKO_DUE_TOO_LATE, 0, 0, {0}},
     {"row number not in use", V2, {0, 1, 1}, 3, 20, JYRMEKKO_NO_SUCH_ROW, 1, 0, {0}},
-    {"no rows at all", {0}, 1, {0, 0, 1}, 3, 20, JYRMEKKO_NO_SUCH_ROW, 1, 0, {0}},
+    {"no rows at all", {0, 1, 0}, 3, {0, 0, 1}, 3, 20, JYRMEKKO_NO_SUCH_ROW, 1, 0, {0}},
     {"cost 0", V2, {0, 0, 0}, 3, 20, JYRMEKKO_COST_OUT_OF_RANGE, 2, 0, {0}},
     {"cost above c", V2, {0, 0, 1, 1, 0, 2}, 6, 20, JYRMEKKO_COST_OUT_OF_RANGE, 5, 0, {0}},
     {"due after 2^40", V2, {0, 0, 1, LAST_TICK_MINUS_5, 0, 1}, 11, 20, JYRMEKKO_DUE_TOO_LATE, 3, 0, {0}},
@@ -283,24 +374,27 @@ static void test_replay(const struct replay_case *c)
 enum {
     MOST_ROWS = JYRMEKKO_MOST_ROWS,
     MOST_PENDING = JYRMEKKO_MOST_PENDING,
-    ROW_LEN = 4,    /* Each number of a row has one group here. */
+    HEAD_LEN = 3,   /* The timer's s and p and the row count have one group each here. */
+    ROW_LEN = 4,    /* So has each number of a row. */
     RECORD_LEN = 3, /* So has each number of a record. */
-    LONGEST_SPELLED = 1 + ROW_LEN * (MOST_ROWS + 1) + 1
+    LONGEST_SPELLED = HEAD_LEN + ROW_LEN * (MOST_ROWS + 1) + 1
 };
 
-/* Spells a table of so many equal rows (1, MOST_ROWS, d, 1). Returns its length. */
+/* Spells a table of so many equal rows (1, MOST_ROWS, d, 1), without a timer. Returns its length. */
 static size_t spell_rows(uint8_t *table, size_t count, uint8_t d)
 {
     size_t i;
-    table[0] = (uint8_t)count;
+    table[0] = 0;
+    table[1] = 1;
+    table[2] = (uint8_t)count;
     for (i = 0; i < count; i++) {
-        uint8_t *row = table + 1 + ROW_LEN * i;
+        uint8_t *row = table + HEAD_LEN + ROW_LEN * i;
         row[0] = 1;
         row[1] = MOST_ROWS;
         row[2] = d;
         row[3] = 1;
     }
-    return 1 + ROW_LEN * count;
+    return HEAD_LEN + ROW_LEN * count;
 }
 
 /* Checks what both calls say about a table. The script releases one job of the row with this number. */
@@ -321,10 +415,10 @@ static void check_table(const char *name, const uint8_t *table, size_t table_len
     check(fence_stands(&log_buffer, MOST_LOG), name, "bytes around the log");
 }
 
-/* As many rows as the limit are accepted, with a verdict of each kind, and one more is refused with 2 at place 0. */
+/* As many rows as the limit are accepted, with a verdict of each kind, and one more is refused with 2 at the count's start. */
 static void test_rows(void)
 {
-    enum { LOG_LEN = 5, LAST = MOST_ROWS - 1 };
+    enum { LOG_LEN = 5, LAST = MOST_ROWS - 1, COUNT_START = HEAD_LEN - 1 };
     uint8_t table[LONGEST_SPELLED];
     size_t length = spell_rows(table, MOST_ROWS - 1, 1);
     check_table("one row below the limit", table, length, LAST - 1, JYRMEKKO_OVERLOADED, 1, MOST_ROWS - 1,
@@ -352,15 +446,24 @@ static void test_rows(void)
     length = spell_rows(table, MOST_ROWS, MOST_ROWS - 1);
     check_table("limit of rows, overloaded", table, length, LAST, JYRMEKKO_OVERLOADED, MOST_ROWS - 1, MOST_ROWS,
                 JYRMEKKO_IN_TIME, LOG_LEN);
-    table[2] = 125;
-    table[6] = 121;
+    table[HEAD_LEN + 1] = 125;
+    table[HEAD_LEN + ROW_LEN + 1] = 121;
     table[length - 3] = 127;
     check_table("limit of rows, the last makes the period too long", table, length, LAST, JYRMEKKO_PERIOD_TOO_LONG,
                 length, 0, JYRMEKKO_PERIOD_TOO_LONG, length);
     length = spell_rows(table, MOST_ROWS + 1, MOST_ROWS);
-    check_table("one row above the limit", table, length, 0, JYRMEKKO_TOO_MANY_ROWS, 0, 0, JYRMEKKO_TOO_MANY_ROWS, 0);
-    check_table("one row above the limit, and no row", table, 1, 0, JYRMEKKO_TOO_MANY_ROWS, 0, 0,
-                JYRMEKKO_TOO_MANY_ROWS, 0);
+    check_table("one row above the limit", table, length, 0, JYRMEKKO_TOO_MANY_ROWS, COUNT_START, 0,
+                JYRMEKKO_TOO_MANY_ROWS, COUNT_START);
+    check_table("one row above the limit, and no row", table, HEAD_LEN, 0, JYRMEKKO_TOO_MANY_ROWS, COUNT_START, 0,
+                JYRMEKKO_TOO_MANY_ROWS, COUNT_START);
+    /* Rows that may take half of the ticks leave the other half to a timer, and no tick more. */
+    length = spell_rows(table, MOST_ROWS / 2, MOST_ROWS);
+    table[0] = 1;
+    table[1] = 2;
+    check_table("half the limit of rows, with a timer", table, length, 0, JYRMEKKO_FEASIBLE, 0, 0, JYRMEKKO_IN_TIME, LOG_LEN);
+    table[length - 1] = 2;
+    check_table("half the limit of rows, with a timer, overloaded", table, length, 0, JYRMEKKO_OVERLOADED, MOST_ROWS,
+                MOST_ROWS + 1, JYRMEKKO_IN_TIME, LOG_LEN);
 }
 
 /* The length of the spelling of a number below 2^14. */
@@ -389,7 +492,7 @@ static void check_places(const char *name, const uint8_t *table, size_t table_le
 /* The pending job that reaches the limit is accepted, and one more is refused with 8 at its record's start. */
 static void test_places(void)
 {
-    static const uint8_t one_row[] = {1, 64, 1, 1, 1};
+    static const uint8_t one_row[] = {0, 1, 1, 64, 1, 1, 1};
     uint8_t all_rows[LONGEST_SPELLED], script[RECORD_LEN * (MOST_PENDING + 2)];
     size_t length = spell_rows(all_rows, MOST_ROWS, 1), log_len = 0, i;
     memset(script, 0, sizeof script);
@@ -434,8 +537,8 @@ enum { MOST_PUT_IN = 7, MOST_DAMAGED = 48 };
 /* So many tables and scripts were compared, by how the number is spelled that is refused in them. */
 static unsigned tables_compared[SPELLED], scripts_compared[SPELLED];
 
-/* So many of the tables have a hopeless row, and so many are not refused with 1 to 4 or 16. */
-static unsigned hopeless_compared, sound_compared;
+/* So many of the tables have a bad timer, so many a hopeless row, and so many are not refused with 1 to 4 or 16. */
+static unsigned bad_timers_compared, hopeless_compared, sound_compared;
 
 static int is_wanted(struct wanted wanted, uint32_t status, const uint8_t *answer)
 {
@@ -459,12 +562,14 @@ static void compare_table(const char *name, const uint8_t *table, size_t length)
     status = replay(table, length, script, sizeof script, log, sizeof log, answer, sizeof answer);
     check(wanted.status != 0 ? is_wanted(wanted, status, answer) : goes_on(status), name, "replay");
     tables_compared[wanted.spelled]++;
+    bad_timers_compared += wanted.status == JYRMEKKO_VALUE_OUT_OF_RANGE &&
+                           (rows.p < 1 || rows.p > 4096 || rows.s >= rows.p);
     hopeless_compared += wanted.status == JYRMEKKO_HOPELESS_ROW;
     sound_compared += wanted.status == 0;
 }
 
-/* The rows are (64, 4096, 16384, 4096) and (1, 300, 16383, 200). */
-static const uint8_t long_rows[] = {2, 64, 0x80, 0x20, 0x80, 0x80, 0x01, 0x80, 0x20,
+/* The timer takes the first 3 ticks of every 300, and the rows are (64, 4096, 16384, 4096) and (1, 300, 16383, 200). */
+static const uint8_t long_rows[] = {3, 0xAC, 0x02, 2, 64, 0x80, 0x20, 0x80, 0x80, 0x01, 0x80, 0x20,
                                     1, 0xAC, 0x02, 0xFF, 0x7F, 0xC8, 0x01};
 
 static void compare_script(const char *name, const uint8_t *script, size_t length)
@@ -557,8 +662,9 @@ static void damage(const char *name, const uint8_t *bytes, size_t length, compar
 /* Every byte of some tables and scripts is damaged. Their numbers have one to six groups. */
 static void test_damage(void)
 {
-    static const uint8_t no_rows[] = {0}, two_rows[] = {2, 1, 4, 4, 2, 1, 6, 6, 3};
-    static const uint8_t hopeless_row[] = {2, 1, 9, 5, 5, 1, 6, 0x80, 0x01, 0x81, 0x01};
+    static const uint8_t no_rows[] = {0, 1, 0}, two_rows[] = {0, 1, 2, 1, 4, 4, 2, 1, 6, 6, 3};
+    static const uint8_t timed_row[] = {0xAC, 0x02, 0x80, 0x20, 1, 1, 4, 4, 2}, bad_s[] = {0x85, 0x01, 0x85, 0x01, 0};
+    static const uint8_t hopeless_row[] = {1, 3, 2, 1, 9, 5, 5, 1, 6, 0x80, 0x01, 0x81, 0x01};
     static const uint8_t one_job[] = {0, 0, 1}, three_jobs[] = {0, 0, 2, 0, 1, 3, 4, 0, 2};
     static const uint8_t long_gaps[] = {0x80, 0x01, 0, 0xAC, 0x02, 0x80, 0x80, 0x01, 1, 0xC8, 0x01,
                                         0xFF, 0xFF, 0xFF, 0x01, 0, 1, 0x80, 0x80, 0x80, 0x80, 0x02, 0, 0x80, 0x20,
@@ -569,6 +675,8 @@ static void test_damage(void)
     int i;
     damage("no rows", no_rows, sizeof no_rows, compare_table);
     damage("two rows", two_rows, sizeof two_rows, compare_table);
+    damage("timed row", timed_row, sizeof timed_row, compare_table);
+    damage("bad s", bad_s, sizeof bad_s, compare_table);
     damage("long rows", long_rows, sizeof long_rows, compare_table);
     damage("hopeless row", hopeless_row, sizeof hopeless_row, compare_table);
     damage("one job", one_job, sizeof one_job, compare_script);
@@ -578,13 +686,15 @@ static void test_damage(void)
         printf("damaged, %s: %u tables, %u scripts\n", names[i], tables_compared[i], scripts_compared[i]);
         check(tables_compared[i] > 0 && scripts_compared[i] > 0, names[i], "number of cases, which should not be 0");
     }
+    printf("damaged, of these with a bad timer: %u tables\n", bad_timers_compared);
+    check(bad_timers_compared > 0, "bad timer", "number of cases, which should not be 0");
     printf("damaged, of these with a hopeless row: %u tables\n", hopeless_compared);
     check(hopeless_compared > 0, "hopeless row", "number of cases, which should not be 0");
 }
 
 /* ---- every pair of some d and some c: only a c that is in its range can make a row hopeless */
 
-static size_t spell(uint8_t *out, unsigned value)
+static size_t spell(uint8_t *out, uint64_t value)
 {
     size_t length = 0;
     for (; value > 127; value /= 128) {
@@ -604,6 +714,8 @@ static void test_hopeless(void)
     for (d = 0; d < COUNT(values); d++) {
         for (c = 0; c < COUNT(values); c++) {
             size_t length = 0;
+            length += spell(table + length, 0);
+            length += spell(table + length, 1);
             length += spell(table + length, 1);
             length += spell(table + length, 1);
             length += spell(table + length, 4096);
@@ -618,13 +730,278 @@ static void test_hopeless(void)
     check(sound_compared == 85, "rows that are not hopeless", "number of cases");
 }
 
+/* ---- every pair of some s and some p, and every s of some p on a table without rows */
+
+static void test_timers(void)
+{
+    static const uint64_t values[] = {0, 1, 2, 127, 128, 129, 4095, 4096, 4097, 16384, (uint64_t)1 << 32,
+                                      (uint64_t)1 << 41, ((uint64_t)1 << 42) - 1};
+    static const uint64_t periods[] = {1, 2, 3, 7, 127, 128, 129, 4096};
+    uint8_t table[16], answer[JYRMEKKO_ANSWER_SIZE];
+    char name[80];
+    size_t s, p;
+    bad_timers_compared = sound_compared = 0;
+    for (s = 0; s < COUNT(values); s++) {
+        for (p = 0; p < COUNT(values); p++) {
+            size_t length = spell(table, values[s]);
+            length += spell(table + length, values[p]);
+            table[length++] = 0;
+            sprintf(name, "a timer with s %llu and p %llu", (unsigned long long)values[s], (unsigned long long)values[p]);
+            compare_table(name, table, length);
+        }
+    }
+    printf("timers with some s and some p: %u bad, %u accepted\n", bad_timers_compared, sound_compared);
+    check(bad_timers_compared == 141, "bad timers", "number of cases");
+    check(sound_compared == 28, "timers that are not bad", "number of cases");
+    for (p = 0; p < COUNT(periods); p++) {
+        uint64_t taken;
+        for (taken = 0; taken < periods[p]; taken++) {
+            size_t length = spell(table, taken);
+            length += spell(table + length, periods[p]);
+            table[length++] = 0;
+            sprintf(name, "no rows, with s %u and p %u", (unsigned)taken, (unsigned)periods[p]);
+            check(verdict(table, length, answer, sizeof answer) == JYRMEKKO_FEASIBLE && number(answer) == 0 &&
+                      number(answer + 8) == 0, name, "verdict");
+        }
+    }
+}
+
+/* ---- small tables and scripts, compared with the definitions: each length by itself, and each tick by itself */
+
+enum { MOST_SMALL_ROWS = 3, MOST_SMALL_JOBS = 16, MOST_SMALL_TABLE = HEAD_LEN + ROW_LEN * MOST_SMALL_ROWS };
+
+/* Each number of a small table has one group. Returns the table's length. */
+static size_t spell_small(uint8_t *table, const struct rows *rows)
+{
+    size_t i, length = HEAD_LEN;
+    table[0] = (uint8_t)rows->s;
+    table[1] = (uint8_t)rows->p;
+    table[2] = (uint8_t)rows->count;
+    for (i = 0; i < rows->count; i++) {
+        table[length++] = (uint8_t)rows->x[i];
+        table[length++] = (uint8_t)rows->y[i];
+        table[length++] = (uint8_t)rows->due[i];
+        table[length++] = (uint8_t)rows->cost[i];
+    }
+    return length;
+}
+
+/* Returns the smallest length whose demand is above it, or 0 where none is. A witness stands no later than 5.9 says. */
+static uint64_t witness_of(const struct rows *rows)
+{
+    uint64_t period = rows->p, longest = 0, length;
+    size_t i;
+    for (i = 0; i < rows->count; i++) {
+        uint64_t multiple = period;
+        while (multiple % rows->y[i] != 0) {
+            multiple += period;
+        }
+        period = multiple;
+        longest = rows->due[i] > longest ? rows->due[i] : longest;
+    }
+    for (length = 1; length <= (longest + 1) * period + longest; length++) {
+        if (demand_of(rows, length) > length) {
+            return length;
+        }
+    }
+    return 0;
+}
+
+/* Replays the jobs that a witness names, all released at zero. Where they have places, some job must be late. */
+static void check_named_jobs(const char *name, const uint8_t *table, size_t table_len, const struct rows *rows,
+                             uint64_t length)
+{
+    static uint8_t script[RECORD_LEN * (MOST_PENDING + 1)], log[MOST_LOG];
+    uint8_t answer[JYRMEKKO_ANSWER_SIZE];
+    size_t script_len = 0, i;
+    uint64_t job;
+    for (i = 0; i < rows->count; i++) {
+        uint64_t jobs = length < rows->due[i] ? 0 : ((length - rows->due[i]) / rows->y[i] + 1) * rows->x[i];
+        for (job = 0; job < jobs && script_len < sizeof script; job++) {
+            script[script_len++] = 0;
+            script[script_len++] = (uint8_t)i;
+            script[script_len++] = (uint8_t)rows->cost[i];
+        }
+    }
+    check(replay(table, table_len, script, script_len, log, sizeof log, answer, sizeof answer)
+              == (script_len < sizeof script ? JYRMEKKO_LATE : JYRMEKKO_PLACES_FULL), name,
+          "replay of the jobs that its witness names");
+}
+
+/* Returns whether the table is feasible. */
+static int check_small_table(const struct rows *rows)
+{
+    uint8_t table[MOST_SMALL_TABLE], answer[JYRMEKKO_ANSWER_SIZE];
+    size_t table_len = spell_small(table, rows);
+    uint64_t length = witness_of(rows);
+    char name[120];
+    sprintf(name, "s %u, p %u, %u rows, the first (%u, %u, %u, %u)", table[0], table[1], table[2], table[3], table[4],
+            table[5], table[6]);
+    check(verdict(table, table_len, answer, sizeof answer) == (length == 0 ? JYRMEKKO_FEASIBLE : JYRMEKKO_OVERLOADED)
+              && number(answer) == length && number(answer + 8) == (length == 0 ? 0 : demand_of(rows, length)),
+          name, "verdict");
+    if (length != 0) {
+        check_named_jobs(name, table, table_len, rows, length);
+    }
+    return length == 0;
+}
+
+/* Every s below some p, with every row of some values. */
+static void test_every_small_timer(void)
+{
+    unsigned feasible = 0, overloaded = 0;
+    struct rows rows;
+    rows.count = 1;
+    for (rows.p = 1; rows.p <= 7; rows.p++) {
+        for (rows.s = 0; rows.s < rows.p; rows.s++) {
+            for (rows.x[0] = 1; rows.x[0] <= 2; rows.x[0]++) {
+                for (rows.y[0] = 1; rows.y[0] <= 8; rows.y[0]++) {
+                    for (rows.due[0] = 1; rows.due[0] <= 9; rows.due[0]++) {
+                        for (rows.cost[0] = 1; rows.cost[0] <= rows.due[0] && rows.cost[0] <= 5; rows.cost[0]++) {
+                            if (check_small_table(&rows)) {
+                                feasible++;
+                            } else {
+                                overloaded++;
+                            }
+                        }
+                    }
+                }
+            }
+        }
+    }
+    printf("small timers with one row: %u feasible, %u overloaded\n", feasible, overloaded);
+    check(feasible > 1000 && overloaded > 1000, "small timers", "number of cases");
+}
+
+/* Returns a number from 1 to `most`, always the same ones in the same order. */
+static uint64_t some(uint64_t most)
+{
+    static uint32_t state = 1;
+    state = (uint32_t)(state * UINT64_C(1664525) + UINT64_C(1013904223));
+    return state / 65536 % most + 1;
+}
+
+/* A job, whose serial is its place in a list. */
+struct small_job {
+    uint64_t time, row, due, left;
+};
+
+/* Releases the next job of a list: it is due by 4.2 and 4.3. */
+static void release_small(const struct rows *rows, struct small_job *jobs, size_t serial)
+{
+    struct small_job *job = &jobs[serial];
+    uint64_t before = 0; /* So many jobs of this row, from the last one back, have been looked at. */
+    size_t i;
+    job->due = job->time + rows->due[job->row];
+    for (i = serial; i > 0; i--) {
+        if (jobs[i - 1].row == job->row && ++before == rows->x[job->row]) {
+            uint64_t by_rate = jobs[i - 1].due + rows->y[job->row];
+            job->due = by_rate > job->due ? by_rate : job->due;
+        }
+    }
+}
+
+/* Plays jobs by single ticks, and writes their log. Returns its length, and adds up how many jobs became late. */
+static size_t play_small(const struct rows *rows, struct small_job *jobs, size_t count, uint8_t *log, uint64_t *late)
+{
+    size_t released = 0, finished = 0, length = 0, i;
+    uint64_t clock = 0;
+    *late = 0;
+    while (finished < count) {
+        size_t chosen = count;
+        while (released < count && jobs[released].time == clock) {
+            release_small(rows, jobs, released++);
+        }
+        for (i = 0; i < released && !is_taken(rows, clock); i++) {
+            if (jobs[i].left > 0 && (chosen == count || jobs[i].due < jobs[chosen].due)) {
+                chosen = i;
+            }
+        }
+        clock++;
+        if (chosen < count && --jobs[chosen].left == 0) {
+            finished++;
+            length += spell(log + length, chosen);
+            length += spell(log + length, jobs[chosen].row);
+            length += spell(log + length, jobs[chosen].time);
+            length += spell(log + length, jobs[chosen].due);
+            length += spell(log + length, clock);
+        }
+        for (i = 0; i < released; i++) {
+            *late += jobs[i].left > 0 && jobs[i].due == clock;
+        }
+    }
+    return length;
+}
+
+/* Replays some jobs of the rows, and compares everything with what single ticks give. Returns how many jobs are late. */
+static uint64_t check_small_script(const struct rows *rows, unsigned number_of_case)
+{
+    struct small_job jobs[MOST_SMALL_JOBS];
+    struct fenced log_buffer;
+    uint8_t table[MOST_SMALL_TABLE], script[RECORD_LEN * MOST_SMALL_JOBS], answer[JYRMEKKO_ANSWER_SIZE];
+    uint8_t wanted[JYRMEKKO_LOG_SIZE(sizeof script)], *log = untouched(&log_buffer);
+    size_t table_len = spell_small(table, rows), count = (size_t)some(MOST_SMALL_JOBS), length, i;
+    uint64_t time = 0, late;
+    uint32_t status;
+    char name[60];
+    for (i = 0; i < count; i++) {
+        uint64_t gap = some(3) == 1 ? some(9) : some(3) - 1;
+        jobs[i].time = time += gap;
+        jobs[i].row = some(rows->count) - 1;
+        jobs[i].left = some(rows->cost[jobs[i].row]);
+        script[RECORD_LEN * i] = (uint8_t)gap;
+        script[RECORD_LEN * i + 1] = (uint8_t)jobs[i].row;
+        script[RECORD_LEN * i + 2] = (uint8_t)jobs[i].left;
+    }
+    sprintf(name, "small script %u", number_of_case);
+    length = play_small(rows, jobs, count, wanted, &late);
+    status = replay(table, table_len, script, RECORD_LEN * count, log, MOST_LOG, answer, sizeof answer);
+    check(status == (late == 0 ? JYRMEKKO_IN_TIME : JYRMEKKO_LATE), name, "status");
+    check_answer(name, answer, length, late);
+    check(same_bytes(log, wanted, length), name, "log");
+    check(fence_stands(&log_buffer, length), name, "bytes past the log");
+    return late;
+}
+
+/* Tables of up to three rows, with a timer of each kind, and scripts on them. On a feasible table no job is late. */
+static void test_small_scripts(void)
+{
+    enum { CASES = 3000 };
+    unsigned feasible = 0, overloaded = 0, late_scripts = 0, i;
+    for (i = 0; i < CASES; i++) {
+        struct rows rows;
+        size_t row;
+        uint64_t late;
+        rows.p = some(9);
+        rows.s = some(rows.p) - 1;
+        rows.count = some(MOST_SMALL_ROWS);
+        for (row = 0; row < rows.count; row++) {
+            rows.x[row] = some(3);
+            rows.y[row] = some(4) == 1 ? some(6) : some(24);
+            rows.due[row] = some(20);
+            rows.cost[row] = some(rows.due[row] < 3 ? rows.due[row] : 3);
+        }
+        late = check_small_script(&rows, i);
+        late_scripts += late > 0;
+        if (check_small_table(&rows)) {
+            feasible++;
+            check(late == 0, "a feasible table", "job, which is late");
+        } else {
+            overloaded++;
+        }
+    }
+    printf("small scripts: %u on feasible tables, %u on overloaded ones, %u with late jobs\n", feasible, overloaded,
+           late_scripts);
+    check(feasible > 100 && overloaded > 100 && late_scripts > 100, "small scripts", "number of cases");
+}
+
 /* An answer buffer that is not 16 bytes long is refused with 13 before every other test, and nothing is written. */
 static void test_answer_size(void)
 {
     static const size_t sizes[] = {0, 1, 8, 15, 17, 32};
-    static const uint8_t table[] = {2, 1, 4, 4, 2, 1, 6, 6, 3}, script[] = {0, 0, 2, 0, 1, 3, 4, 0, 2};
-    static const uint8_t bad_table[] = {JYRMEKKO_MOST_ROWS + 1}, bad_script[] = {0x80, 0x00};
-    static const uint8_t hopeless_table[] = {1, 1, 4, 4, 5};
+    static const uint8_t table[] = {0, 1, 2, 1, 4, 4, 2, 1, 6, 6, 3}, script[] = {0, 0, 2, 0, 1, 3, 4, 0, 2};
+    static const uint8_t bad_table[] = {1, 1, JYRMEKKO_MOST_ROWS + 1}, bad_script[] = {0x80, 0x00};
+    static const uint8_t hopeless_table[] = {1, 3, 1, 1, 4, 4, 5};
     size_t i;
     for (i = 0; i < COUNT(sizes); i++) {
         struct fenced answer_buffer, log_buffer;
@@ -649,12 +1026,12 @@ static void test_answer_size(void)
 /* A null pointer is a buffer of length 0. */
 static void test_null(void)
 {
-    static const uint8_t empty_table[] = {0};
+    static const uint8_t empty_table[] = {0, 1, 0};
     uint8_t answer[JYRMEKKO_ANSWER_SIZE];
     check(verdict(NULL, 0, answer, sizeof answer) == JYRMEKKO_MISSPELLED, "null table", "status");
     check_answer("null table", answer, 0, 0);
-    check(verdict(empty_table, 1, NULL, 0) == JYRMEKKO_ANSWER_NOT_16_BYTES, "null answer", "status");
-    check(replay(empty_table, 1, NULL, 0, NULL, 0, answer, sizeof answer) == JYRMEKKO_IN_TIME,
+    check(verdict(empty_table, sizeof empty_table, NULL, 0) == JYRMEKKO_ANSWER_NOT_16_BYTES, "null answer", "status");
+    check(replay(empty_table, sizeof empty_table, NULL, 0, NULL, 0, answer, sizeof answer) == JYRMEKKO_IN_TIME,
           "null script and log", "status");
     check_answer("null script and log", answer, 0, 0);
     check(replay(NULL, 0, NULL, 0, NULL, 0, NULL, 0) == JYRMEKKO_ANSWER_NOT_16_BYTES, "all null", "status");
@@ -673,6 +1050,9 @@ int main(void)
     test_places();
     test_damage();
     test_hopeless();
+    test_timers();
+    test_every_small_timer();
+    test_small_scripts();
     test_answer_size();
     test_null();
     printf("%u passed, %u failed\n", passed, failed);

@@ -19,9 +19,9 @@ enum {
     MOST_ROWS = JYRMEKKO_MOST_ROWS,
     MOST_PENDING = JYRMEKKO_MOST_PENDING,
     MOST_X = 64,
-    MOST_TABLE = 1 + 6 * 4 * (MOST_ROWS + 1),
+    MOST_TABLE = 6 * (3 + 4 * (MOST_ROWS + 1)),
     MOST_SCRIPT = 3 * MOST_ROWS * (MOST_X + 1),
-    MOST_INPUTS = 20
+    MOST_INPUTS = 24
 };
 
 /* ---- the inputs */
@@ -36,9 +36,9 @@ struct input {
 static struct input inputs[MOST_INPUTS];
 static size_t input_count;
 
-/* So many equal rows. */
+/* A timer, and so many equal rows. */
 struct rows {
-    unsigned count, x, y, d, c;
+    unsigned s, p, count, x, y, d, c;
 };
 
 /* So many jobs, of all rows in turn, each with the same gap before it. */
@@ -58,7 +58,7 @@ static uint8_t *put(uint8_t *out, unsigned value)
 static struct input *add(const char *name, struct rows rows, struct jobs jobs, uint32_t judged, uint32_t replayed)
 {
     struct input *in = &inputs[input_count++];
-    uint8_t *out = put(in->table, rows.count);
+    uint8_t *out = put(put(put(in->table, rows.s), rows.p), rows.count);
     unsigned i;
     for (i = 0; i < rows.count; i++) {
         out = put(put(put(put(out, rows.x), rows.y), rows.d), rows.c);
@@ -78,10 +78,14 @@ static struct input *add(const char *name, struct rows rows, struct jobs jobs, u
 
 static void add_inputs(void)
 {
-    static const struct rows none = {0, 0, 0, 0, 0}, one_too_many = {MOST_ROWS + 1, 1, 1, 1, 1},
-                             full = {MOST_ROWS, 4, 256, 256, 1}, late_witness = {MOST_ROWS, 4, 252, 512, 1},
-                             hasty = {MOST_ROWS, MOST_X, 1, 1, 1}, most = {MOST_ROWS, MOST_X, 4096, 16384, 4096},
-                             above = {MOST_ROWS, MOST_X, 4096, 16384, 4097}, short_numbers = {MOST_ROWS, 1, 64, 1, 1};
+    static const struct rows none = {0, 1, 0, 0, 0, 0, 0}, one_too_many = {0, 1, MOST_ROWS + 1, 1, 1, 1, 1},
+                             full = {0, 1, MOST_ROWS, 4, 256, 256, 1}, late_witness = {0, 1, MOST_ROWS, 4, 252, 512, 1},
+                             hasty = {0, 1, MOST_ROWS, MOST_X, 1, 1, 1},
+                             most = {0, 1, MOST_ROWS, MOST_X, 4096, 16384, 4096},
+                             above = {0, 1, MOST_ROWS, MOST_X, 4096, 16384, 4097},
+                             short_numbers = {0, 1, MOST_ROWS, 1, 64, 1, 1}, timed = {1, 2, MOST_ROWS, 4, 512, 512, 1},
+                             hardly_free = {4095, 4096, MOST_ROWS, MOST_X, 4096, 16384, 4096},
+                             bad_timer = {2, 2, MOST_ROWS, 4, 512, 512, 1}, no_period = {0, 0, MOST_ROWS, 4, 512, 512, 1};
     static const struct jobs no_job = {0, 0}, one_job = {1, 0}, all_places = {MOST_PENDING, 0},
                              one_job_too_many = {MOST_PENDING + 1, 0},
                              all_due_times_kept = {MOST_ROWS * (MOST_X + 1), 1};
@@ -93,6 +97,9 @@ static void add_inputs(void)
     add("all rows, the largest values, all places", most, all_places, JYRMEKKO_OVERLOADED, JYRMEKKO_IN_TIME);
     add("all rows, the largest x, all due times kept", most, all_due_times_kept, JYRMEKKO_OVERLOADED, JYRMEKKO_IN_TIME);
 
+    add("all rows, a timer, all places", timed, all_places, JYRMEKKO_FEASIBLE, JYRMEKKO_IN_TIME);
+    add("all rows, one tick of 4096 free, all places", hardly_free, all_places, JYRMEKKO_OVERLOADED, JYRMEKKO_LATE);
+
     add("one job too many", full, one_job_too_many, JYRMEKKO_FEASIBLE, JYRMEKKO_PLACES_FULL);
     in = add("no room for the log", full, all_places, JYRMEKKO_FEASIBLE, JYRMEKKO_NO_ROOM);
     in->log_len = 0;
@@ -103,6 +110,8 @@ static void add_inputs(void)
     in = add("cost out of range", full, all_places, JYRMEKKO_FEASIBLE, JYRMEKKO_COST_OUT_OF_RANGE);
     in->script[in->script_len - 1] = 2;
 
+    add("s is not below p", bad_timer, one_job, JYRMEKKO_VALUE_OUT_OF_RANGE, JYRMEKKO_VALUE_OUT_OF_RANGE);
+    add("p is 0", no_period, one_job, JYRMEKKO_VALUE_OUT_OF_RANGE, JYRMEKKO_VALUE_OUT_OF_RANGE);
     add("one row too many", one_too_many, one_job, JYRMEKKO_TOO_MANY_ROWS, JYRMEKKO_TOO_MANY_ROWS);
     add("value out of range", above, one_job, JYRMEKKO_VALUE_OUT_OF_RANGE, JYRMEKKO_VALUE_OUT_OF_RANGE);
     in = add("the last row is hopeless", hasty, one_job, JYRMEKKO_HOPELESS_ROW, JYRMEKKO_HOPELESS_ROW);
@@ -112,8 +121,8 @@ static void add_inputs(void)
     in = add("bytes after the table", most, one_job, JYRMEKKO_EXTRA_BYTES, JYRMEKKO_EXTRA_BYTES);
     in->table_len++;
     in = add("period too long", short_numbers, one_job, JYRMEKKO_PERIOD_TOO_LONG, JYRMEKKO_PERIOD_TOO_LONG);
-    in->table[2] = 125;
-    in->table[6] = 121;
+    in->table[4] = 125;
+    in->table[8] = 121;
     in->table[in->table_len - 3] = 127;
 }
 

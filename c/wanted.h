@@ -1,6 +1,7 @@
 /*
  * The refusals that the rules want for a table and a script, worked out from the bytes alone (docs/RULES.md, 10.3 and
- * 10.4). The tests compare the two calls with it. It shares no code with the library or with the technician's program.
+ * 10.4), and a table's demand, by its definition (5.1 and 5.3). The tests compare the two calls with it. It shares no
+ * code with the library or with the technician's program.
  */
 #ifndef WANTED_H
 #define WANTED_H
@@ -55,30 +56,50 @@ static inline struct wanted wanted_at(uint32_t status, size_t place, enum spelle
     return wanted;
 }
 
-/* The rows of a table that wants no refusal: how many they are, and the most that a job of each may cost. */
+/* The timer and the rows of a table that wants no refusal. */
 struct rows {
+    uint64_t s, p;
     uint64_t count;
-    uint64_t cost[JYRMEKKO_MOST_ROWS];
+    uint64_t x[JYRMEKKO_MOST_ROWS], y[JYRMEKKO_MOST_ROWS], due[JYRMEKKO_MOST_ROWS], cost[JYRMEKKO_MOST_ROWS];
 };
 
 /* Returns which of 1 to 4 and 16 is wanted. 5 is left out. */
 static inline struct wanted wanted_of_table(const uint8_t *table, size_t length, struct rows *rows)
 {
-    enum { DUE = 2, COST = 3, VALUES = 4 };
+    enum { VALUES = 4, MOST_P = 4096 };
     static const uint64_t most[VALUES] = {64, 4096, 16384, 4096};
     struct found found = find_number(table, length, 0);
-    uint64_t due = 0;
-    size_t i;
+    size_t i, start;
+    rows->s = found.value;
+    rows->p = 1;
     rows->count = 0;
     if (found.spelled != READABLE) {
         return wanted_at(JYRMEKKO_MISSPELLED, found.place, found.spelled, 0);
     }
+    start = found.place;
+    found = find_number(table, length, start);
+    if (found.spelled != READABLE) {
+        return wanted_at(JYRMEKKO_MISSPELLED, found.place, found.spelled, 0);
+    }
+    rows->p = found.value;
+    if (rows->p < 1 || rows->p > MOST_P) {
+        return wanted_at(JYRMEKKO_VALUE_OUT_OF_RANGE, start, READABLE, 0);
+    }
+    if (rows->s >= rows->p) {
+        return wanted_at(JYRMEKKO_VALUE_OUT_OF_RANGE, 0, READABLE, 0);
+    }
+    start = found.place;
+    found = find_number(table, length, start);
+    if (found.spelled != READABLE) {
+        return wanted_at(JYRMEKKO_MISSPELLED, found.place, found.spelled, 0);
+    }
     if (found.value > JYRMEKKO_MOST_ROWS) {
-        return wanted_at(JYRMEKKO_TOO_MANY_ROWS, 0, READABLE, 0);
+        return wanted_at(JYRMEKKO_TOO_MANY_ROWS, start, READABLE, 0);
     }
     rows->count = found.value;
     for (i = 0; i < VALUES * rows->count; i++) {
-        size_t start = found.place;
+        uint64_t *const values[VALUES] = {rows->x, rows->y, rows->due, rows->cost};
+        start = found.place;
         found = find_number(table, length, start);
         if (found.spelled != READABLE) {
             return wanted_at(JYRMEKKO_MISSPELLED, found.place, found.spelled, 0);
@@ -86,19 +107,41 @@ static inline struct wanted wanted_of_table(const uint8_t *table, size_t length,
         if (found.value < 1 || found.value > most[i % VALUES]) {
             return wanted_at(JYRMEKKO_VALUE_OUT_OF_RANGE, start, READABLE, 0);
         }
-        if (i % VALUES == DUE) {
-            due = found.value;
-        } else if (i % VALUES == COST) {
-            if (found.value > due) {
-                return wanted_at(JYRMEKKO_HOPELESS_ROW, start, READABLE, 0);
-            }
-            rows->cost[i / VALUES] = found.value;
+        values[i % VALUES][i / VALUES] = found.value;
+        if (i % VALUES == VALUES - 1 && found.value > rows->due[i / VALUES]) {
+            return wanted_at(JYRMEKKO_HOPELESS_ROW, start, READABLE, 0);
         }
     }
     if (found.place < length) {
         return wanted_at(JYRMEKKO_EXTRA_BYTES, found.place, READABLE, 0);
     }
     return wanted_at(0, 0, READABLE, 0);
+}
+
+/* Returns whether the timer takes the tick at this clock. */
+static inline int is_taken(const struct rows *rows, uint64_t clock)
+{
+    return clock % rows->p < rows->s;
+}
+
+/* Returns how many ticks the timer takes of the first `length` ticks. */
+static inline uint64_t taken_of(const struct rows *rows, uint64_t length)
+{
+    uint64_t rest = length % rows->p;
+    return length / rows->p * rows->s + (rest < rows->s ? rest : rows->s);
+}
+
+/* Returns the demand of a table that wants no refusal in this length. */
+static inline uint64_t demand_of(const struct rows *rows, uint64_t length)
+{
+    uint64_t sum = taken_of(rows, length);
+    size_t i;
+    for (i = 0; i < rows->count; i++) {
+        if (length >= rows->due[i]) {
+            sum += ((length - rows->due[i]) / rows->y[i] + 1) * rows->x[i] * rows->cost[i];
+        }
+    }
+    return sum;
 }
 
 /* Returns which of 14, 10, 6 and 7 is wanted where no release before it is refused with 8 or 9. */

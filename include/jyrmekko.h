@@ -1,10 +1,10 @@
 /*
  * jyrmekko.h: the rig's scheduler, for a host in C or C++
  *
- * verdict() says whether a table is feasible: whether its jobs can all be run in time at every load that it allows.
- * replay() runs a script of releases on a table and writes a log of the jobs. Both return a status, which is one of the
- * numbers below. Zero is none of them, and no refusal looks like a yes. Test for the status that you want, and never
- * for the absence of another.
+ * verdict() says whether a table is feasible: whether its jobs can all be run in time at every load that it allows, in
+ * the ticks that the sampling timer leaves free. replay() runs a script of releases on a table and writes a log of the
+ * jobs. Both return a status, which is one of the numbers below. Zero is none of them, and no refusal looks like a yes.
+ * Test for the status that you want, and never for the absence of another.
  *
  * Buffers. Each buffer is lent as a pointer and a length in bytes. The buffers of one call must not overlap. A null
  * pointer is allowed only with length 0. Any bytes may be handed in, and nothing has to be checked beforehand. The
@@ -17,19 +17,26 @@
  * groups, and the last group of a number with more than one group is not zero. So one number has one spelling: 0 is
  * 00, 127 is 7F, 128 is 80 01, 300 is AC 02. Time is counted in ticks, from 0 to 2^40.
  *
- * Tables. A table is its row count, from 0 to JYRMEKKO_MOST_ROWS, then x, y, d and c of each row, and nothing after. In
- * a row, x executions are expected in any y ticks, each is due d ticks after its release, and each costs at most c
- * units. One unit is one tick of the processor. x is 1 to 64, y is 1 to 4,096, d is 1 to 16,384 and c is 1 to 4,096. A
- * row with c above d is hopeless, since no job gets more units than it has ticks, and no table may have one. H, the
- * least common multiple of the y of all rows, is at most 1,048,576.
+ * Tables. A table is s and p of the sampling timer, then its row count, from 0 to JYRMEKKO_MOST_ROWS, then x, y, d and
+ * c of each row, and nothing after. In a row, x executions are expected in any y ticks, each is due d ticks after its
+ * release, and each costs at most c units. One unit is one tick of the processor. x is 1 to 64, y is 1 to 4,096, d is 1
+ * to 16,384 and c is 1 to 4,096. A row with c above d is hopeless, since no job gets more units than it has ticks, and
+ * no table may have one. H, the least common multiple of p and the y of all rows, is at most 1,048,576.
+ *
+ * Timer. The sampling timer takes the first s ticks of every p, counted from clock 0, and no job can have them: the
+ * tick at the clock t is taken when t modulo p is below s. Every other tick is free for jobs. p is 1 to 4,096 and s is
+ * 0 to p - 1. With s = 0 no tick is taken, but p counts in H all the same. A rig without a timer has s = 0 and p = 1. A
+ * table of the earlier spelling, which starts with its row count, is not read any more. With 00 01 put in front it is
+ * the table of that rig, and its verdict is what it was.
  *
  * Scripts. A script is any number of records of three numbers: the gap, which is the time since the last record (for
  * the first record since 0); the row number, counted from 0; and the cost. A row number is in use when it is below the
  * table's row count. A record's script time is the sum of all gaps up to and including its own. Each record releases
  * one job at its script time, and at most JYRMEKKO_MOST_PENDING jobs may be pending at a time. Jobs get their serials
  * from 0 on, in the order of release. The j-th job of a row, released at t, is due at t + d. Where j is above x, it is
- * due at the later of t + d and y ticks after the due time of job j - x. Each tick gives one unit to the pending job
- * with the earliest due time, and among equal due times to the lowest serial.
+ * due at the later of t + d and y ticks after the due time of job j - x. Each tick that is not taken gives one unit to
+ * the pending job with the earliest due time, and among equal due times to the lowest serial. A taken tick gives no
+ * unit, and jobs become late in it as in any other.
  *
  * Logs. A log has one record of five numbers for each job, in the order of finishing: serial, row number, release, due
  * time, finish. A job that finishes after its due time is late, and one that finishes exactly at it is not. A record of
@@ -46,13 +53,13 @@
  *     more bytes follow.
  *   - Where the bytes end inside a number, or where a number should stand, it is the length of the table or script. No
  *     byte stands there.
- * So the table 80 00 is refused with 1 at place 1, the table 01 01 80 80 80 80 80 80 01 with 1 at place 7, and the
- * table 01 with 1 at place 1, its length. On a table with a row, the script 00 00 is refused with 14 at place 2, its
- * length.
+ * So the table 80 00 is refused with 1 at place 1, the table 00 01 01 01 80 80 80 80 80 80 01 with 1 at place 9, and
+ * the table 00 01 01 with 1 at place 3, its length. On a table with a row, the script 00 00 is refused with 14 at place
+ * 2, its length.
  *
  * Example:
  *
- *     uint8_t table[] = {1, 1, 2, 6, 1}, script[] = {0, 0, 1, 4, 0, 1};
+ *     uint8_t table[] = {0, 1, 1, 1, 2, 6, 1}, script[] = {0, 0, 1, 4, 0, 1};
  *     uint8_t log[JYRMEKKO_LOG_SIZE(sizeof script)], answer[JYRMEKKO_ANSWER_SIZE];
  *     if (verdict(table, sizeof table, answer, sizeof answer) != JYRMEKKO_FEASIBLE) return 1;
  *     if (replay(table, sizeof table, script, sizeof script, log, sizeof log, answer, sizeof answer) != JYRMEKKO_IN_TIME) return 1;
@@ -78,7 +85,7 @@ extern "C" {
 
 /*
  * The bytes of stack with which a thread can make either call. Measured on x86-64, with any input: below its caller
- * verdict() takes less than 12,000 bytes, and replay() less than 57,000. With what the system itself puts on a thread's
+ * verdict() takes less than 12,000 bytes, and replay() less than 59,000. With what the system itself puts on a thread's
  * stack, a thread needs 65,536 bytes. The other 32,768 are room, for the functions that make the call and for signal
  * handlers.
  */
@@ -91,7 +98,8 @@ extern "C" {
 enum jyrmekko_status {
     /* The answers of verdict(). */
     JYRMEKKO_FEASIBLE = 20,            /* No length of time has more demand than length. Numbers: 0 and 0. */
-    JYRMEKKO_OVERLOADED = 21,          /* Some length has. Numbers: the smallest such length and its demand. */
+    JYRMEKKO_OVERLOADED = 21,          /* Some length has. Numbers: the smallest such length and its demand, in */
+                                       /* which the taken ticks are counted. */
 
     /* The answers of replay(). */
     JYRMEKKO_IN_TIME = 22,             /* All jobs are in time. Numbers: the log's length in bytes, and 0. */
@@ -100,8 +108,9 @@ enum jyrmekko_status {
     /* The refusals of a table, by both calls. */
     JYRMEKKO_MISSPELLED = 1,           /* A number is misspelled or too long. Place: the bad byte. */
                                        /* Or a number is cut off. Place: the table's length. */
-    JYRMEKKO_TOO_MANY_ROWS = 2,        /* The row count is above JYRMEKKO_MOST_ROWS. Place: 0, the count's start. */
-    JYRMEKKO_VALUE_OUT_OF_RANGE = 3,   /* An x, y, d or c is out of its range. Place: the number's start. */
+    JYRMEKKO_TOO_MANY_ROWS = 2,        /* The row count is above JYRMEKKO_MOST_ROWS. Place: the count's start. */
+    JYRMEKKO_VALUE_OUT_OF_RANGE = 3,   /* A p, x, y, d or c is out of its range. Place: the number's start. */
+                                       /* Or s is not below p. Place: 0, the start of s. */
     JYRMEKKO_EXTRA_BYTES = 4,          /* There are bytes after the last row. Place: the first extra byte. */
     JYRMEKKO_PERIOD_TOO_LONG = 5,      /* H is above 1,048,576. Place: the table's length. */
     JYRMEKKO_HOPELESS_ROW = 16,        /* A row's c is in its range and above the row's d. Place: the start of c. */
@@ -138,17 +147,21 @@ enum jyrmekko_status {
  * Says whether the table is feasible.
  *
  * It returns 20 or 21, or a refusal. 13 comes first, and then 1 to 5 and 16. The table is tested from left to right,
- * each number as it is read: the row count for 1 and 2, each x, y and d for 1 and 3, and each c for 1, 3 and 16. After
- * the last row comes 4, and then 5. So the table 02 01 04 04 05, which is cut off after a hopeless row, is refused with
- * 16 at place 4. Every status but 13 writes the answer buffer. The table is only read.
+ * each number as it is read: s for 1, p for 1 and 3, the row count for 1 and 2, each x, y and d for 1 and 3, and each c
+ * for 1, 3 and 16. Only s waits for p: right after p's own range comes 3 for an s that is not below p. After the last
+ * row comes 4, and then 5. So the table 01 00 is refused with 3 at place 1, the table 01 01 with 3 at place 0, and the
+ * table 00 01 02 01 04 04 05, which is cut off after a hopeless row, with 16 at place 6. Every status but 13 writes the
+ * answer buffer. The table is only read.
  *
  * The demand of a row in a length of time L is 0 if L is below d, and otherwise ((L - d) / y + 1) * x * c units, with
- * the division rounded down. The demand of a table is the sum over its rows.
+ * the division rounded down. The timer takes at most (L / p) * s of L ticks, with the division rounded down, and the
+ * smaller of s and L modulo p besides. The demand of a table is the sum over its rows and these taken ticks.
  */
 uint32_t verdict(const uint8_t *table, size_t table_len, uint8_t *answer, size_t answer_len);
 
 /*
- * Runs a script from clock 0 until its last job has finished. Overloaded tables are replayed too.
+ * Runs a script from clock 0 until its last job has finished. Taken ticks go by without a unit for anybody. Overloaded
+ * tables are replayed too.
  *
  * It returns 22 or 23, or a refusal. 13 comes first, and then those of the table as in verdict(). Then each record is
  * tested in turn: the gap for 14 and 10, the row number for 14 and 6, the cost for 14 and 7, and then the release for 8

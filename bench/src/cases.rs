@@ -31,7 +31,42 @@ pub enum Form {
     Lent,
 }
 
-type Row = [u64; 4];
+pub type Row = [u64; 4];
+
+/// The timer takes the first s ticks of every p.
+#[derive(Clone, Copy)]
+pub struct Timer {
+    pub s: u64,
+    pub p: u64,
+}
+
+pub const NO_TIMER: Timer = Timer { s: 0, p: 1 };
+
+/// The timers of the cases with one. They take a tenth, half and three quarters of all ticks.
+const TIMERS: [Timer; 3] = [Timer { s: 1, p: 10 }, Timer { s: 1, p: 2 }, Timer { s: 3, p: 4 }];
+
+impl Timer {
+    /// Returns the least time from clock 0, in whole p, with so many free ticks.
+    pub fn whole_periods(&self, free: u64) -> u64 {
+        free.div_ceil(self.p - self.s) * self.p
+    }
+
+    /// Returns the time right after so many free ticks, and 0 for none.
+    pub fn after(&self, free: u64) -> u64 {
+        match free.checked_sub(1) {
+            Some(earlier) => earlier / (self.p - self.s) * self.p + self.s + earlier % (self.p - self.s) + 1,
+            None => 0,
+        }
+    }
+
+    /// Says the timer behind a case's name.
+    pub fn said(&self) -> String {
+        match self.s {
+            0 => String::new(),
+            s => format!(", timer {s}/{}", self.p),
+        }
+    }
+}
 
 const RECORDS: usize = 100_000;
 const NUMBERS: usize = 1_000_000;
@@ -56,79 +91,111 @@ fn verdicts() -> Vec<Case> {
     let two_late = [[1, 64, 16_384, 32], [1, 64, 16_384, 33]];
     let mut sixteen_late = [[1, 64, 16_384, 4]; 16];
     sixteen_late[15][3] = 5;
+    // This timer takes a fifteenth of all ticks, and its p divides H, so H stays as it is. The rows ask for less instead.
+    let fifteenth = Timer { s: 1, p: 15 };
+    let two_beside = [[1, 1023, 1023, 475], [1, 1025, 1025, 475]];
+    let sixteen_beside: Vec<Row> = periods.iter().map(|&y| [1, y, y, y / 18]).collect();
+    // The sum of s / p and of x * c / y is 65/64, and the rows have no demand in a length below 16,384.
+    let sixty_fourth = Timer { s: 1, p: 64 };
+    let two_late_beside = [[1, 64, 16_384, 32]; 2];
+    let sixteen_late_beside = [[1, 64, 16_384, 4]; 16];
     vec![
-        feasible("feasible, 2 rows", &two, 1_048_575 + 1_025),
-        feasible("feasible, 16 rows", &sixteen, 1_048_575 + 1_025),
-        overloaded("late witness, 2 rows", &two_late, 1_060_864),
-        overloaded("late witness, 16 rows", &sixteen_late, 1_060_864),
+        feasible("feasible, 2 rows", NO_TIMER, &two, 1_048_575 + 1_025),
+        feasible("feasible, 16 rows", NO_TIMER, &sixteen, 1_048_575 + 1_025),
+        overloaded("late witness, 2 rows", NO_TIMER, &two_late, 1_060_864),
+        overloaded("late witness, 16 rows", NO_TIMER, &sixteen_late, 1_060_864),
+        feasible("feasible, 2 rows", fifteenth, &two_beside, 1_048_575 + 1_025),
+        feasible("feasible, 16 rows", fifteenth, &sixteen_beside, 1_048_575 + 1_025),
+        overloaded("late witness, 2 rows", sixty_fourth, &two_late_beside, 1_044_544),
+        overloaded("late witness, 16 rows", sixty_fourth, &sixteen_late_beside, 1_044_544),
     ]
 }
 
 /// The verdict looks at all lengths up to H + the largest d.
-fn feasible(name: &'static str, rows: &[Row], lengths: u64) -> Case {
-    Case { status: 20, first: Some(0), ..verdict(name, rows, lengths) }
+fn feasible(name: &str, timer: Timer, rows: &[Row], lengths: u64) -> Case {
+    Case { status: 20, first: Some(0), ..verdict(name, timer, rows, lengths) }
 }
 
 /// The verdict looks at the lengths up to the witness.
-fn overloaded(name: &'static str, rows: &[Row], witness: u64) -> Case {
-    Case { status: 21, first: Some(witness), ..verdict(name, rows, witness) }
+fn overloaded(name: &str, timer: Timer, rows: &[Row], witness: u64) -> Case {
+    Case { status: 21, first: Some(witness), ..verdict(name, timer, rows, witness) }
 }
 
-fn verdict(name: &'static str, rows: &[Row], lengths: u64) -> Case {
+fn verdict(name: &str, timer: Timer, rows: &[Row], lengths: u64) -> Case {
     let size = format!("{} lengths", grouped(lengths));
     Case {
         group: "verdict",
-        name: name.to_string(),
+        name: name.to_string() + &timer.said(),
         size,
-        work: Work::Verdicts(vec![table(rows)]),
+        work: Work::Verdicts(vec![table(timer, rows)]),
         status: 0,
         first: None,
         target: Some(1.3),
     }
 }
 
-/// With four jobs of each row this many jobs are pending. Their cost fills y and d, so the table is just feasible.
-fn four_jobs_a_row(pending: u64, cost: u64) -> Vec<Row> {
-    vec![[4, pending * cost, pending * cost, cost]; pending as usize / 4]
+/// With four jobs of each row this many jobs are pending. Their cost fills the free ticks of y and d, or nearly, so the
+/// table is just feasible.
+fn four_jobs_a_row(timer: Timer, pending: u64, cost: u64) -> Vec<Row> {
+    let y = timer.whole_periods(pending * cost);
+    vec![[4, y, y, cost]; pending as usize / 4]
 }
 
 fn replays() -> Vec<Case> {
     let n = RECORDS as u64;
-    let four = [[1, 8, 8, 2]; 4];
     let wide = [[64, 1024, 1024, 1]; 16];
 
-    // There are four jobs every eight ticks, and each costs two units.
-    let few_busy: Vec<_> = (0..n).map(|i| (if i > 0 && i % 4 == 0 { 8 } else { 0 }, i % 4, 2)).collect();
+    // There are four jobs in every y ticks, and each costs two units.
+    let few_busy = |timer: Timer| {
+        let y = timer.whole_periods(8);
+        let records: Vec<_> = (0..n).map(|i| (if i > 0 && i % 4 == 0 { y } else { 0 }, i % 4, 2)).collect();
+        replay("busy, 4 pending", timer, &[[1, y, y, 2]; 4], &records)
+    };
     // One job is released every tick, on sixteen rows that keep 64 due times each.
     let wide_busy: Vec<_> = (0..n).map(|i| (if i > 0 { 1 } else { 0 }, i % 16, 1)).collect();
     // One job is released at a time, and nothing is pending for most of the time.
-    let few_sparse: Vec<_> = (0..n).map(|i| (1_000, i % 4, 2)).collect();
+    let few_sparse = |timer: Timer| {
+        let y = timer.whole_periods(8);
+        let records: Vec<_> = (0..n).map(|i| (1_000, i % 4, 2)).collect();
+        replay("sparse, 1 pending", timer, &[[1, y, y, 2]; 4], &records)
+    };
     // So many jobs are released at once, and then one more for each that finishes.
-    let busy = |name, pending, cost| {
-        let records: Vec<_> = (0..n).map(|i| (if i < pending { 0 } else { cost }, i % (pending / 4), cost)).collect();
-        replay(name, &four_jobs_a_row(pending, cost), &records)
+    let busy = |name, timer: Timer, pending, cost| {
+        let finish = |i: u64| timer.after((i + 1).saturating_sub(pending) * cost);
+        let gap = |i| if i > 0 { finish(i) - finish(i - 1) } else { 0 };
+        let records: Vec<_> = (0..n).map(|i| (gap(i), i % (pending / 4), cost)).collect();
+        replay(name, timer, &four_jobs_a_row(timer, pending, cost), &records)
     };
     // So many jobs are released at once, and then nothing is pending for most of the time.
-    let sparse = |name, pending| {
+    let sparse = |name, timer, pending| {
         let gap = |i| if i % pending == 0 { 10_000 } else { 0 };
         let records: Vec<_> = (0..n).map(|i| (gap(i), i % (pending / 4), 1)).collect();
-        replay(name, &four_jobs_a_row(pending, 1), &records)
+        replay(name, timer, &four_jobs_a_row(timer, pending, 1), &records)
     };
 
-    vec![
-        replay("busy, 4 pending", &four, &few_busy),
-        busy("busy, 64 pending", 64, 1),
-        busy("busy, 256 pending", 256, 1),
-        busy("busy, 64 pending, 16 ticks a job", 64, 16),
-        busy("busy, 256 pending, 16 ticks a job", 256, 16),
-        replay("busy, 1 pending, 1,024 due times kept", &wide, &wide_busy),
-        replay("sparse, 1 pending", &four, &few_sparse),
-        sparse("sparse, 64 pending", 64),
-        sparse("sparse, 256 pending", 256),
-    ]
+    let mut cases = vec![
+        few_busy(NO_TIMER),
+        busy("busy, 64 pending", NO_TIMER, 64, 1),
+        busy("busy, 256 pending", NO_TIMER, 256, 1),
+        busy("busy, 64 pending, 16 ticks a job", NO_TIMER, 64, 16),
+        busy("busy, 256 pending, 16 ticks a job", NO_TIMER, 256, 16),
+        replay("busy, 1 pending, 1,024 due times kept", NO_TIMER, &wide, &wide_busy),
+        few_sparse(NO_TIMER),
+        sparse("sparse, 64 pending", NO_TIMER, 64),
+        sparse("sparse, 256 pending", NO_TIMER, 256),
+    ];
+    for timer in TIMERS {
+        cases.push(few_busy(timer));
+        cases.push(busy("busy, 64 pending", timer, 64, 1));
+        cases.push(busy("busy, 256 pending", timer, 256, 1));
+        cases.push(busy("busy, 64 pending, 16 ticks a job", timer, 64, 16));
+        cases.push(few_sparse(timer));
+        cases.push(sparse("sparse, 64 pending", timer, 64));
+    }
+    cases
 }
 
-fn replay(name: &'static str, rows: &[Row], records: &[(u64, u64, u64)]) -> Case {
+fn replay(name: &str, timer: Timer, rows: &[Row], records: &[(u64, u64, u64)]) -> Case {
     let mut script = Vec::new();
     for &(gap, row, cost) in records {
         for number in [gap, row, cost] {
@@ -137,11 +204,12 @@ fn replay(name: &'static str, rows: &[Row], records: &[(u64, u64, u64)]) -> Case
     }
     let units: u64 = records.iter().map(|record| record.2).sum();
     let size = format!("{} records, {} units", grouped(records.len() as u64), grouped(units));
-    let work = Work::Replay { table: table(rows), script };
-    Case { group: "replay", name: name.to_string(), size, work, status: 22, first: None, target: Some(2.0) }
+    let name = name.to_string() + &timer.said();
+    let work = Work::Replay { table: table(timer, rows), script };
+    Case { group: "replay", name, size, work, status: 22, first: None, target: Some(2.0) }
 }
 
-/// Numbers are read in tables of 65 numbers with one extra byte. All are read and tested, and then comes refusal 4.
+/// Numbers are read in tables of 67 numbers with one extra byte. All are read and tested, and then comes refusal 4.
 fn readings() -> Vec<Case> {
     vec![
         reading("numbers of 1 byte", [64, 127, 127, 127]),
@@ -151,21 +219,23 @@ fn readings() -> Vec<Case> {
 
 fn reading(name: &'static str, most: Row) -> Case {
     let mut random = Random(1);
-    let count = NUMBERS.div_ceil(65);
+    let count = NUMBERS.div_ceil(67);
     let tables = (0..count)
         .map(|_| {
+            let p = 1 + random.below(most[1]);
+            let timer = Timer { s: random.below(p), p };
             let mut row = || {
                 let [x, y, d, c] = most.map(|m| 1 + random.below(m));
                 // A row with c above d is refused with 16, so the larger of these two numbers is its d.
                 [x, y, d.max(c), d.min(c)]
             };
             let rows: Vec<Row> = (0..16).map(|_| row()).collect();
-            let mut bytes = table(&rows);
+            let mut bytes = table(timer, &rows);
             bytes.push(0);
             bytes
         })
         .collect();
-    let size = format!("{} numbers", grouped(65 * count as u64));
+    let size = format!("{} numbers", grouped(67 * count as u64));
     let work = Work::Verdicts(tables);
     Case { group: "reading", name: name.to_string(), size, work, status: 4, first: None, target: Some(1.5) }
 }
@@ -180,17 +250,30 @@ fn ticks() -> Vec<Case> {
         for pending in [1, 16, 64, 256] {
             cases.push(ticks_and_releases(format!("tick and release, {said}, {pending} pending"), form, pending));
         }
+        for pending in [1, 16, 64, 256] {
+            cases.push(taken_ticks(format!("taken tick, {said}, {pending} pending"), form, pending));
+        }
     }
     cases
 }
 
 /// So many jobs are released. Then there are only ticks, and each gives a unit to the same job and does not finish it.
 fn only_ticks(name: String, form: Form, pending: u64) -> Case {
+    same_ticks(name, form, NO_TIMER, pending, 4)
+}
+
+/// So many jobs are released. Then there are only ticks that the timer takes, and no job gets a unit.
+fn taken_ticks(name: String, form: Form, pending: u64) -> Case {
+    same_ticks(name, form, Timer { s: 4_095, p: 4_096 }, pending, 7)
+}
+
+/// So many jobs of the most units are released, and the answer of each tick after that has this first word.
+fn same_ticks(name: String, form: Form, timer: Timer, pending: u64, word: u64) -> Case {
     let each = pending.min(4);
     let rows = vec![[each, 4_096, 16_384, 4_096]; (pending / each) as usize];
     let releases = (0..pending).map(|i| ([1, i / each, 4_096], 2));
-    let ticks = (0..TICKS).map(|_| ([2, 0, 0], 4));
-    run(name, form, &rows, releases.chain(ticks).collect())
+    let ticks = (0..TICKS).map(|_| ([2, 0, 0], word));
+    run(name, form, timer, &rows, releases.chain(ticks).collect())
 }
 
 /// So many jobs are released. Then a tick, which finishes a job, and a release take turns.
@@ -200,22 +283,24 @@ fn ticks_and_releases(name: String, form: Form, pending: u64) -> Case {
     let release = |i: u64| ([1, i % (pending / each), 1], 2);
     let first = (0..pending).map(release);
     let turns = (pending..pending + TICKS).flat_map(|i| [([2, 0, 0], 5), release(i)]);
-    run(name, form, &rows, first.chain(turns).collect())
+    run(name, form, NO_TIMER, &rows, first.chain(turns).collect())
 }
 
 /// Each call comes with the first word of its answer.
-fn run(name: String, form: Form, rows: &[Row], played: Vec<([u64; 3], u64)>) -> Case {
+fn run(name: String, form: Form, timer: Timer, rows: &[Row], played: Vec<([u64; 3], u64)>) -> Case {
     let size = format!("{} calls on a run of {} bytes", grouped(played.len() as u64), grouped(RUN_SIZE as u64));
     let status = 1 + played.len() as u32;
     let calls = played.iter().flat_map(|call| call.0).flat_map(u64::to_le_bytes).collect();
     let kinds = played.iter().map(|call| call.1).collect();
-    let work = Work::Calls { form, table: table(rows), calls, kinds };
+    let work = Work::Calls { form, table: table(timer, rows), calls, kinds };
     Case { group: "tick", name, size, work, status, first: None, target: None }
 }
 
-fn table(rows: &[Row]) -> Vec<u8> {
+pub fn table(timer: Timer, rows: &[Row]) -> Vec<u8> {
     let mut bytes = Vec::new();
-    spell(&mut bytes, rows.len() as u64);
+    for number in [timer.s, timer.p, rows.len() as u64] {
+        spell(&mut bytes, number);
+    }
     for row in rows {
         for &number in row {
             spell(&mut bytes, number);
@@ -224,7 +309,7 @@ fn table(rows: &[Row]) -> Vec<u8> {
     bytes
 }
 
-fn spell(bytes: &mut Vec<u8>, mut number: u64) {
+pub fn spell(bytes: &mut Vec<u8>, mut number: u64) {
     while number >= 128 {
         bytes.push(number as u8 | 128);
         number >>= 7;
@@ -233,7 +318,7 @@ fn spell(bytes: &mut Vec<u8>, mut number: u64) {
 }
 
 /// Writes 1048576 as 1,048,576.
-fn grouped(number: u64) -> String {
+pub fn grouped(number: u64) -> String {
     let digits = number.to_string();
     let mut said = String::new();
     for (i, digit) in digits.chars().enumerate() {
@@ -245,10 +330,10 @@ fn grouped(number: u64) -> String {
     said
 }
 
-struct Random(u64);
+pub struct Random(pub u64);
 
 impl Random {
-    fn below(&mut self, limit: u64) -> u64 {
+    pub fn below(&mut self, limit: u64) -> u64 {
         self.0 = self.0.wrapping_mul(6_364_136_223_846_793_005).wrapping_add(1_442_695_040_888_963_407);
         (self.0 >> 33) % limit
     }

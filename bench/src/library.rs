@@ -3,9 +3,10 @@
 
 use crate::plain::{PLACES, ROWS, X};
 
-/// A run's size in bytes, by its fields: the rows and their count, the clock, the pending jobs and their count, the next
-/// serial, and for each row the kept due times and their count. Each number has eight bytes.
-pub const RUN_SIZE: usize = 8 * ((4 * ROWS as usize + 1) + 1 + (6 * PLACES + 1) + 1 + ROWS as usize * (X as usize + 1));
+/// A run's size in bytes, by its fields: s and p of the timer, the rows and their count, the clock, the pending jobs and
+/// their count, the next serial, and for each row the kept due times and their count. Each number has eight bytes.
+pub const RUN_SIZE: usize =
+    8 * ((2 + 4 * ROWS as usize + 1) + 1 + (6 * PLACES + 1) + 1 + ROWS as usize * (X as usize + 1));
 
 /// This is memory for a run. The library does not say how large a run is, so there is room behind it, which has to stay as
 /// it was: a run of another size is noticed.

@@ -59,12 +59,15 @@ mod tests {
     use super::*;
     use crate::numbers;
     use crate::run::{LAST_TICK, MOST_PENDING};
-    use crate::table::{tests::spell, MOST_ROWS, MOST_X};
+    use crate::table::tests::{spell, spell_with};
+    use crate::table::{MOST_ROWS, MOST_X};
 
-    const V3: [u8; 9] = [2, 1, 4, 4, 2, 1, 6, 6, 3];
+    const V3: [u8; 11] = [0, 1, 2, 1, 4, 4, 2, 1, 6, 6, 3];
     const R1: [u8; 9] = [0, 0, 2, 0, 1, 3, 4, 0, 2];
-    const ONE_ROW_TOO_MANY: [u8; 1] = [MOST_ROWS as u8 + 1];
-    const HOPELESS: [u8; 5] = [1, 1, 4, 4, 5];
+    const ONE_ROW_TOO_MANY: [u8; 3] = [0, 1, MOST_ROWS as u8 + 1];
+    const HOPELESS: [u8; 7] = [0, 1, 1, 1, 4, 4, 5];
+    const S_IS_P: [u8; 3] = [1, 1, 0];
+    const P_IS_0: [u8; 3] = [0, 0, 0];
     const R1_LOG: [u8; 15] = [0, 0, 0, 4, 2, 1, 1, 0, 6, 5, 2, 0, 4, 8, 7];
 
     fn numbers_of(answer: &[u8; 16]) -> (u64, u64) {
@@ -91,20 +94,62 @@ mod tests {
     fn verdicts_and_refusals() {
         assert_eq!(judged(&V3), (20, 0, 0));
         assert_eq!(judged(&spell(&[[1, 2, 10, 3]])), (21, 26, 27));
-        assert_eq!(judged(&[1]), (1, 1, 0));
-        assert_eq!(judged(&[0x80, 0x00]), (1, 1, 0));
-        assert_eq!(judged(&[1, 1, 0x80, 0x80, 0x80, 0x80, 0x80, 0x80, 1]), (1, 7, 0));
-        assert_eq!(judged(&ONE_ROW_TOO_MANY), (2, 0, 0));
-        assert_eq!(judged(&[1, 1, 0, 1, 1]), (3, 2, 0));
-        assert_eq!(judged(&[0, 0]), (4, 1, 0));
+        assert_eq!(judged(&spell_with([1, 2], &[[1, 2, 10, 2]])), (21, 18, 19));
+        assert_eq!(judged(&[0, 1, 1]), (1, 3, 0));
+        assert_eq!(judged(&[0, 1, 0x80, 0x00]), (1, 3, 0));
+        assert_eq!(judged(&[0, 1, 1, 1, 0x80, 0x80, 0x80, 0x80, 0x80, 0x80, 1]), (1, 9, 0));
+        assert_eq!(judged(&ONE_ROW_TOO_MANY), (2, 2, 0));
+        assert_eq!(judged(&[0, 1, 1, 1, 0, 1, 1]), (3, 4, 0));
+        assert_eq!(judged(&S_IS_P), (3, 0, 0));
+        assert_eq!(judged(&P_IS_0), (3, 1, 0));
+        assert_eq!(judged(&[0x81, 0x20, 0x81, 0x20, 0]), (3, 2, 0));
+        assert_eq!(judged(&[0x81, 0x20, 0x81, 0x00, 0]), (1, 3, 0));
+        assert_eq!(judged(&[0, 1, 0, 0]), (4, 3, 0));
         let long = spell(&[[1, 1_141, 1, 1], [1, 919, 1, 1]]);
         assert_eq!(judged(&long), (5, long.len() as u64, 0));
-        assert_eq!(judged(&HOPELESS), (16, 4, 0));
+        let long = spell_with([0, 919], &[[1, 1_141, 1, 1]]);
+        assert_eq!(judged(&long), (5, long.len() as u64, 0));
+        assert_eq!(judged(&HOPELESS), (16, 6, 0));
+    }
+
+    #[test]
+    fn a_refused_timer_zeroes_the_log_of_a_replay() {
+        for (table, refusal) in [
+            (&S_IS_P[..], (3, 0, 0)),
+            (&P_IS_0[..], (3, 1, 0)),
+            (&[&[1, 1], &V3[2..]].concat(), (3, 0, 0)),
+            (&[0x80, 0x20, 0x80, 0x00], (1, 3, 0)),
+            (&[0x80, 0x20], (1, 2, 0)),
+            (&spell_with([0, 919], &[[1, 1_141, 1, 1]]), (5, 9, 0)),
+        ] {
+            let mut log = [0xee; 14];
+            assert_eq!(judged(table), refusal);
+            for script in [&R1[..], &[0x80, 0x00], &[]] {
+                assert_eq!(replayed(table, script, &mut log), refusal);
+                assert_eq!(log, [0; 14]);
+                log.fill(0xee);
+            }
+        }
+    }
+
+    #[test]
+    fn example_r2_and_a_job_that_the_timer_makes_late() {
+        let table = [1, 4, 2, 1, 8, 6, 2, 1, 8, 8, 3];
+        assert_eq!(judged(&table), (20, 0, 0));
+        let mut log = [0xee; 12];
+        assert_eq!(replayed(&table, &[0, 0, 2, 0, 1, 3], &mut log), (22, 10, 0));
+        assert_eq!(log, [0, 0, 0, 6, 3, 1, 1, 0, 8, 7, 0xee, 0xee]);
+        let t5 = [3, 4, 1, 1, 4, 3, 1];
+        assert_eq!(judged(&t5), (21, 3, 4));
+        assert_eq!(replayed(&t5, &[0, 0, 1], &mut log), (23, 5, 1));
+        assert_eq!(log[..5], [0, 0, 0, 3, 4]);
+        assert_eq!(replayed(&t5, &[3, 0, 1], &mut log), (22, 5, 0));
+        assert_eq!(log[..5], [0, 0, 3, 6, 4]);
     }
 
     #[test]
     fn a_row_whose_c_is_its_d_is_judged_and_replayed() {
-        let [all_of_it, too_often] = [[1, 1, 4, 4, 4], [1, 2, 4, 4, 4]];
+        let [all_of_it, too_often] = [[0, 1, 1, 1, 4, 4, 4], [0, 1, 1, 2, 4, 4, 4]];
         assert_eq!(judged(&all_of_it), (20, 0, 0));
         assert_eq!(judged(&too_often), (21, 4, 8));
         let mut log = [0xee; 10];
@@ -118,10 +163,11 @@ mod tests {
     fn a_hopeless_row_is_refused_by_both_calls_at_the_same_place() {
         let last = spell(&[[1, 300, 300, 4], [1, 4, 4, 4], [1, 300, 299, 300]]);
         for (table, refusal) in [
-            (&HOPELESS[..], (16, 4, 0)),
-            (&[&HOPELESS[..], &[7]].concat(), (16, 4, 0)),
+            (&HOPELESS[..], (16, 6, 0)),
+            (&[&HOPELESS[..], &[7]].concat(), (16, 6, 0)),
             (&last, (16, last.len() as u64 - 2, 0)),
-            (&spell(&[[1, 4, 4, 5_000]]), (3, 4, 0)),
+            (&spell(&[[1, 4, 4, 5_000]]), (3, 6, 0)),
+            (&spell_with([3, 128], &[[1, 4, 4, 5]]), (16, 7, 0)),
         ] {
             let mut log = [0xee; 14];
             assert_eq!(judged(table), refusal);
@@ -140,6 +186,8 @@ mod tests {
             let mut log = [0xee; 20];
             assert_eq!(verdict(&ONE_ROW_TOO_MANY, &mut answer), 13);
             assert_eq!(verdict(&HOPELESS, &mut answer), 13);
+            assert_eq!(verdict(&S_IS_P, &mut answer), 13);
+            assert_eq!(replay(&P_IS_0, &R1, &mut log, &mut answer), 13);
             assert_eq!(replay(&HOPELESS, &R1, &mut log, &mut answer), 13);
             assert_eq!(replay(&ONE_ROW_TOO_MANY, &[0x80, 0x00], &mut log, &mut answer), 13);
             assert_eq!(replay(&V3, &R1, &mut log, &mut answer), 13);
@@ -155,7 +203,7 @@ mod tests {
         let (full, above) = (table(most * MOST_X, limit), table(most * MOST_X, limit + 1));
         assert_eq!(judged(&spell(&vec![[1, most, most, 1]; limit])), (20, 0, 0));
         assert_eq!(judged(&spell(&vec![[1, most, most - 1, 1]; limit])), (21, most - 1, most));
-        assert_eq!(judged(&above), (2, 0, 0));
+        assert_eq!(judged(&above), (2, 2, 0));
 
         let record = |job: usize| [0, (job % limit) as u8, 1];
         let script = |jobs| (0..jobs).flat_map(record).collect::<Vec<u8>>();
@@ -165,7 +213,7 @@ mod tests {
         let (status, _, late) = replayed(&table(1, limit), &script(MOST_PENDING), &mut log);
         assert_eq!((status, late), (23, MOST_PENDING as u64 - 1));
         assert_eq!(replayed(&full, &script(MOST_PENDING + 1), &mut log), (8, 3 * MOST_PENDING as u64, 0));
-        assert_eq!(replayed(&above, &script(1), &mut log), (2, 0, 0));
+        assert_eq!(replayed(&above, &script(1), &mut log), (2, 2, 0));
         assert!(log.iter().all(|&byte| byte == 0));
     }
 
@@ -183,24 +231,25 @@ mod tests {
     #[test]
     fn no_jobs_leave_the_log_untouched() {
         let mut log = [0xee; 4];
-        assert_eq!(replayed(&[0], &[], &mut log), (22, 0, 0));
+        assert_eq!(replayed(&[0, 1, 0], &[], &mut log), (22, 0, 0));
+        assert_eq!(replayed(&[1, 4, 0], &[], &mut log), (22, 0, 0));
         assert_eq!(log, [0xee; 4]);
     }
 
     #[test]
     fn late_jobs_are_counted() {
-        assert_eq!(replayed(&[1, 2, 1, 1, 1], &[0, 0, 1, 0, 0, 1], &mut [0; 10]), (23, 10, 1));
+        assert_eq!(replayed(&[0, 1, 1, 2, 1, 1, 1], &[0, 0, 1, 0, 0, 1], &mut [0; 10]), (23, 10, 1));
     }
 
     #[test]
     fn every_refusal_but_13_zeroes_the_log() {
         for (table, script, refusal) in [
-            (&V3[..5], &R1[..], (1, 5, 0)),
-            (&[2, 1, 0x84, 0x00, 4, 2][..], &R1[..], (1, 3, 0)),
-            (&ONE_ROW_TOO_MANY[..], &R1[..], (2, 0, 0)),
-            (&HOPELESS[..], &R1[..], (16, 4, 0)),
+            (&V3[..7], &R1[..], (1, 7, 0)),
+            (&[0, 1, 2, 1, 0x84, 0x00, 4, 2][..], &R1[..], (1, 5, 0)),
+            (&ONE_ROW_TOO_MANY[..], &R1[..], (2, 2, 0)),
+            (&HOPELESS[..], &R1[..], (16, 6, 0)),
             (&V3[..], &R1[..8], (14, 8, 0)),
-            (&[1, 1, 2, 6, 1][..], &[0, 0][..], (14, 2, 0)),
+            (&[0, 1, 1, 1, 2, 6, 1][..], &[0, 0][..], (14, 2, 0)),
             (&V3[..], &[0, 0, 0x82, 0x00][..], (14, 3, 0)),
             (&V3[..], &[0, 0, 0xff, 0xff, 0xff, 0xff, 0xff, 0xff][..], (14, 7, 0)),
             (&V3[..], &[0, 2, 1][..], (6, 1, 0)),
@@ -217,7 +266,7 @@ mod tests {
         assert_eq!(replayed(&V3, &R1, &mut []), (12, 9, 0));
         assert_eq!(replayed(&V3, &R1[..8], &mut []), (14, 8, 0));
         // Two jobs of two units each are due at the last tick, and there are two ticks for them.
-        let crowded = [1, 2, 1, 2, 2];
+        let crowded = [0, 1, 1, 2, 1, 2, 2];
         let mut script = vec![0, 0, 1];
         script.extend(numbers::spell(LAST_TICK - 2).unwrap());
         script.extend([0, 2, 0, 0, 2]);

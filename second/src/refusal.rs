@@ -9,7 +9,7 @@ pub enum Reason {
     Misspelled = 1,
     /// The row count is above the limit of rows.
     TooManyRows = 2,
-    /// An x, y, d or c is out of its range.
+    /// A p, x, y, d or c is out of its range, or s is not below p.
     ValueOutOfRange = 3,
     /// There are bytes after the last row.
     ExtraBytes = 4,

@@ -76,7 +76,7 @@ impl Player {
     fn tick_until(&mut self, time: u64) {
         while self.run.clock() < time {
             if self.run.pending().is_empty() {
-                self.run.idle_until(time);
+                self.run.pass_until(time);
             } else {
                 self.tick().expect("a script time is at most 2^40");
             }
@@ -88,12 +88,18 @@ impl Player {
 mod tests {
     use super::*;
     use crate::run::MOST_PENDING;
-    use crate::table::{self, tests::spell, MOST_X};
+    use crate::table::tests::spell_with;
+    use crate::table::{self, MOST_X};
+    use crate::verdict::{verdict, Verdict};
 
     const R1: [u8; 9] = [0, 0, 2, 0, 1, 3, 4, 0, 2];
 
     fn play(rows: &[[u64; 4]], script: &[u8]) -> Result<Replayed, (u32, usize)> {
-        let table = table::read(&spell(rows)).unwrap();
+        play_with([0, 1], rows, script)
+    }
+
+    fn play_with(timer: [u64; 2], rows: &[[u64; 4]], script: &[u8]) -> Result<Replayed, (u32, usize)> {
+        let table = table::read(&spell_with(timer, rows)).unwrap();
         replay(&table, script).map_err(|refusal| (refusal.reason.number(), refusal.place))
     }
 
@@ -105,6 +111,13 @@ mod tests {
     fn example_r1() {
         let records = vec![vec![0, 0, 0, 4, 2], vec![1, 1, 0, 6, 5], vec![2, 0, 4, 8, 7]];
         assert_eq!(play(&[[1, 4, 4, 2], [1, 6, 6, 3]], &R1), Ok(Replayed { records, late: 0 }));
+    }
+
+    #[test]
+    fn example_r2() {
+        let records = vec![vec![0, 0, 0, 6, 3], vec![1, 1, 0, 8, 7]];
+        let rows = [[1, 8, 6, 2], [1, 8, 8, 3]];
+        assert_eq!(play_with([1, 4], &rows, &[0, 0, 2, 0, 1, 3]), Ok(Replayed { records, late: 0 }));
     }
 
     #[test]
@@ -122,20 +135,107 @@ mod tests {
     #[test]
     fn late_jobs_are_those_that_the_ticks_counted() {
         let rows = [[4, 1, 4, 3], [4, 1, 2, 2]];
-        let records: Vec<[u64; 3]> = (0..60).map(|index| [index % 3, index % 2, 1 + index % 2]).collect();
-        let replayed = play(&rows, &script(&records)).unwrap();
+        for timer in [[0, 1], [0, 9], [1, 4], [3, 7], [4, 5]] {
+            let records: Vec<[u64; 3]> = (0..60).map(|index| [index % 3, index % 2, 1 + index % 2]).collect();
+            let replayed = play_with(timer, &rows, &script(&records)).unwrap();
 
-        let (mut run, _) = Run::start(&spell(&rows));
-        let mut late = 0;
-        for [gap, row, cost] in records {
-            late += (0..gap).map(|_| run.tick().unwrap().late).sum::<u64>();
-            run.release(row, cost).unwrap();
+            let (mut run, _) = Run::start(&spell_with(timer, &rows));
+            let mut late = 0;
+            for [gap, row, cost] in records {
+                late += (0..gap).map(|_| run.tick().unwrap().late).sum::<u64>();
+                run.release(row, cost).unwrap();
+            }
+            while !run.pending().is_empty() {
+                late += run.tick().unwrap().late;
+            }
+            assert!(late > 0);
+            assert_eq!(replayed.late, late, "{timer:?}");
         }
-        while !run.pending().is_empty() {
-            late += run.tick().unwrap().late;
+    }
+
+    #[test]
+    fn jobs_of_a_feasible_table_are_in_time_and_those_of_a_witness_are_not() {
+        let mut state: u64 = 1;
+        let mut below = |bound: u64| {
+            state = state.wrapping_mul(0x5851_f42d_4c95_7f2d).wrapping_add(1);
+            (state >> 33) % bound
+        };
+        let mut met = [0, 0];
+        for _ in 0..3_000 {
+            let p = 1 + below(8);
+            let timer = [below(p), p];
+            let row = |below: &mut dyn FnMut(u64) -> u64| {
+                let d = 1 + below(30);
+                [1 + below(2), 1 + below(20), d, 1 + below(d.min(4))]
+            };
+            let rows: Vec<[u64; 4]> = (0..=below(3)).map(|_| row(&mut below)).collect();
+            let table = table::read(&spell_with(timer, &rows)).unwrap();
+            match verdict(&table) {
+                Verdict::Feasible => {
+                    met[0] += 1;
+                    let any_job = |_| {
+                        let number = below(rows.len() as u64);
+                        [below(9) * below(2), number, 1 + below(rows[number as usize][3])]
+                    };
+                    let records: Vec<[u64; 3]> = (0..40).map(any_job).collect();
+                    let replayed = play_with(timer, &rows, &script(&records)).unwrap();
+                    assert_eq!(replayed.late, 0, "{timer:?} {rows:?} {records:?}");
+                }
+                Verdict::Overloaded { length, .. } => {
+                    let due_in_it = |[x, y, d, _]: [u64; 4]| if d <= length { ((length - d) / y + 1) * x } else { 0 };
+                    let of_row = |(&row, number): (&[u64; 4], u64)| vec![[0, number, row[3]]; due_in_it(row) as usize];
+                    let records: Vec<[u64; 3]> = rows.iter().zip(0..).flat_map(of_row).collect();
+                    if records.len() <= MOST_PENDING {
+                        met[1] += 1;
+                        let replayed = play_with(timer, &rows, &script(&records)).unwrap();
+                        assert!(replayed.late > 0, "{timer:?} {rows:?}");
+                    }
+                }
+            }
         }
-        assert!(late > 0);
-        assert_eq!(replayed.late, late);
+        assert!(met.iter().all(|&count| count > 300), "{met:?}");
+    }
+
+    #[test]
+    fn a_timer_that_takes_no_tick_changes_no_log() {
+        let rows = [[1, 4, 4, 2], [1, 6, 6, 3]];
+        for p in [2, 3, 12, 4_096] {
+            assert_eq!(play_with([0, p], &rows, &R1), play(&rows, &R1));
+        }
+    }
+
+    #[test]
+    fn a_job_due_inside_a_taken_stretch() {
+        // The ticks from 0 to 2 are taken, and those from 8 to 10. The job is due at 10 and has the ticks from 3 to 7.
+        let finish = |cost| {
+            let replayed = play_with([3, 8], &[[1, 16, 10, 6]], &[0, 0, cost]).unwrap();
+            (replayed.records[0][4], replayed.late)
+        };
+        assert_eq!(finish(5), (8, 0));
+        assert_eq!(finish(6), (12, 1));
+        // A job that is released inside the stretch has its first unit after it.
+        let later = play_with([3, 8], &[[1, 16, 10, 6]], &[9, 0, 1]).unwrap();
+        assert_eq!((&later.records[0][..], later.late), (&[0, 0, 9, 19, 12][..], 0));
+        // This one is due when the stretch ends, and has its unit one tick later.
+        let late = play_with([3, 8], &[[1, 16, 2, 1]], &[9, 0, 1]).unwrap();
+        assert_eq!((&late.records[0][..], late.late), (&[0, 0, 9, 11, 12][..], 1));
+    }
+
+    #[test]
+    fn finishing_in_the_one_free_tick_of_a_long_p() {
+        let row = [[1, 4_096, 4_096, 1]];
+        let script = script(&[[0, 0, 1], [4_096, 0, 1], [4_095 + (1 << 32), 0, 1]]);
+        let replayed = play_with([4_095, 4_096], &row, &script).unwrap();
+        let finish = |record: &[u8]| {
+            let numbers = (0..5).scan(0, |place, _| {
+                let (number, after) = numbers::read(record, *place).unwrap();
+                *place = after;
+                Some(number)
+            });
+            numbers.last().unwrap()
+        };
+        let finishes: Vec<u64> = replayed.records.iter().map(|record| finish(record)).collect();
+        assert_eq!((finishes, replayed.late), (vec![4_096, 8_192, (1 << 32) + 8_192], 0));
     }
 
     #[test]
@@ -221,5 +321,31 @@ mod tests {
         let two_units = script(&[[LAST_TICK - 2, 0, 1], [0, 0, 1]]);
         assert_eq!(play(&crowded, &two_units).map(|replayed| replayed.late), Ok(0));
         assert_eq!(play(&crowded, &script(&[[LAST_TICK - 2, 0, 2]])).map(|replayed| replayed.late), Ok(0));
+    }
+
+    #[test]
+    fn the_clock_stops_the_final_ticks_whether_they_are_taken_or_not() {
+        // 2^40 is one more than a multiple of three. With s = 1 the last tick of all is taken, and with s = 2 the tick
+        // at 2^40 would be taken too.
+        let row = [[2, 1, 2, 2]];
+        let at_the_end = |timer, from_the_end, cost| {
+            let script = script(&[[LAST_TICK - from_the_end, 0, cost]]);
+            play_with(timer, &row, &script).map(|replayed| replayed.late)
+        };
+        assert_eq!(at_the_end([1, 3], 3, 2), Ok(0));
+        assert_eq!(at_the_end([1, 3], 2, 1), Ok(0));
+        assert_eq!(at_the_end([1, 3], 2, 2), Err((10, 8)));
+        assert_eq!(at_the_end([2, 3], 2, 1), Ok(0));
+        assert_eq!(at_the_end([2, 3], 2, 2), Err((10, 8)));
+        assert_eq!(at_the_end([1, 2], 2, 1), Ok(0));
+        assert_eq!(at_the_end([1, 2], 2, 2), Err((10, 8)));
+        // The one free tick before 2^40 is the last one. With p = 4095 the ticks from 2^40 - 16 on are all taken.
+        assert_eq!(at_the_end([4_095, 4_096], 2, 1), Ok(0));
+        assert_eq!(at_the_end([16, 4_095], 2, 1), Err((10, 8)));
+        assert_eq!(at_the_end([14, 4_095], 2, 2), Ok(0));
+        let none_is_free = script(&[[LAST_TICK - 1, 0, 1]]);
+        assert_eq!(play_with([1, 3], &[[1, 1, 1, 1]], &none_is_free), Err((10, none_is_free.len())));
+        // An idle end is crossed, and its taken ticks with it.
+        assert_eq!(play_with([1, 3], &row, &script(&[[LAST_TICK, 0, 1]])), Err((9, 0)));
     }
 }

@@ -1,4 +1,5 @@
-//! Runs. Jobs are released, and each tick gives one unit to the pending job with the earliest due time.
+//! Runs. Jobs are released, and each tick that the timer leaves free gives one unit to the pending job with the
+//! earliest due time.
 
 use crate::due::due;
 use crate::refusal::{Reason, Refusal};
@@ -30,6 +31,7 @@ pub struct Run {
 
 #[derive(Clone, Copy, Debug, PartialEq, Eq)]
 pub enum Given {
+    Taken,
     Idle,
     Ran { serial: u64, finished: bool },
 }
@@ -89,8 +91,10 @@ impl Run {
         if self.clock == LAST_TICK {
             return Err(Reason::TimeTooLate);
         }
+        let taken = self.table.timer.takes(self.clock);
         let next = self.pending.iter_mut().min_by_key(|job| (job.due, job.serial));
         let given = match next {
+            _ if taken => Given::Taken,
             None => Given::Idle,
             Some(job) => {
                 job.left -= 1;
@@ -103,8 +107,8 @@ impl Run {
         Ok(Ticked { given, late })
     }
 
-    /// Takes the clock to a later time in one go, where every tick would be idle.
-    pub fn idle_until(&mut self, time: u64) {
+    /// Takes the clock to a later time in one go, where nothing is pending and every tick would be idle or taken.
+    pub fn pass_until(&mut self, time: u64) {
         assert!(self.pending.is_empty() && self.clock <= time && time <= LAST_TICK);
         self.clock = time;
     }
@@ -113,13 +117,18 @@ impl Run {
 #[cfg(test)]
 mod tests {
     use super::*;
-    use crate::table::{tests::spell, MOST_ROWS, MOST_X};
+    use crate::table::tests::{spell, spell_with};
+    use crate::table::{MOST_ROWS, MOST_X};
 
     /// This many rows with x at its most have jobs for all places before the spacing by y sets in.
     const ROWS_FOR_ALL_PLACES: usize = MOST_PENDING / MOST_X as usize;
 
     fn run_on(rows: &[[u64; 4]]) -> Run {
-        let (run, refusal) = Run::start(&spell(rows));
+        run_with([0, 1], rows)
+    }
+
+    fn run_with(timer: [u64; 2], rows: &[[u64; 4]]) -> Run {
+        let (run, refusal) = Run::start(&spell_with(timer, rows));
         assert_eq!(refusal, None);
         run
     }
@@ -127,6 +136,10 @@ mod tests {
     fn released(run: &mut Run, row: u64, cost: u64) -> (u64, u64) {
         let job = run.release(row, cost).unwrap();
         (job.serial, job.due)
+    }
+
+    fn taken(late: u64) -> Result<Ticked, Reason> {
+        Ok(Ticked { given: Given::Taken, late })
     }
 
     fn idle(late: u64) -> Result<Ticked, Reason> {
@@ -156,13 +169,16 @@ mod tests {
 
     #[test]
     fn a_refused_table_starts_a_fresh_run_of_the_empty_one() {
-        let (mut run, refusal) = Run::start(&[MOST_ROWS as u8 + 1]);
-        assert_eq!(refusal, Some(Reason::TooManyRows.at(0)));
+        let (mut run, refusal) = Run::start(&[0, 1, MOST_ROWS as u8 + 1]);
+        assert_eq!(refusal, Some(Reason::TooManyRows.at(2)));
         assert_eq!(run.release(0, 1), Err(Reason::NoSuchRow));
         assert_eq!(run.tick(), idle(0));
         let (mut run, refusal) = Run::start(&spell(&[[1, 4, 4, 4], [1, 4, 4, 5]]));
-        assert_eq!(refusal, Some(Reason::HopelessRow.at(8)));
+        assert_eq!(refusal, Some(Reason::HopelessRow.at(10)));
         assert_eq!(run.release(0, 1), Err(Reason::NoSuchRow));
+        let (mut run, refusal) = Run::start(&spell_with([3, 4], &[[1, 4, 4, 5]]));
+        assert_eq!(refusal, Some(Reason::HopelessRow.at(6)));
+        assert_eq!(run.tick(), idle(0));
     }
 
     #[test]
@@ -205,7 +221,7 @@ mod tests {
         assert_eq!(run.release(1 << 32, 1), Err(Reason::NoSuchRow));
         assert_eq!(run.release(0, 0), Err(Reason::CostOutOfRange));
         assert_eq!(run.release(0, 3), Err(Reason::CostOutOfRange));
-        run.idle_until(LAST_TICK - 4);
+        run.pass_until(LAST_TICK - 4);
         for serial in 0..MOST_PENDING as u64 {
             assert_eq!(released(&mut run, serial / MOST_X, 1), (serial, LAST_TICK));
         }
@@ -239,9 +255,92 @@ mod tests {
     #[test]
     fn the_clock_stops_at_its_end() {
         let mut run = run_on(&[]);
-        run.idle_until(LAST_TICK - 1);
+        run.pass_until(LAST_TICK - 1);
         assert_eq!(run.tick(), idle(0));
         assert_eq!(run.tick(), Err(Reason::TimeTooLate));
         assert_eq!(run.clock(), LAST_TICK);
+    }
+
+    #[test]
+    fn the_first_ticks_of_every_p_are_taken_and_idle_means_free_with_nothing_pending() {
+        for (timer, first_ticks) in [([1, 4], "t...t...t."), ([2, 3], "tt.tt.tt.t"), ([0, 4], "..........")] {
+            let mut run = run_with(timer, &[]);
+            for tick in first_ticks.chars() {
+                let answer = if tick == 't' { taken(0) } else { idle(0) };
+                assert_eq!(run.tick(), answer, "{timer:?} {}", run.clock());
+            }
+        }
+    }
+
+    #[test]
+    fn a_taken_tick_gives_no_unit_and_moves_the_clock_alone() {
+        let mut run = run_with([2, 4], &[[2, 1, 9, 2]]);
+        assert_eq!(released(&mut run, 0, 2), (0, 9));
+        let before = run.pending().to_vec();
+        assert_eq!(run.tick(), taken(0));
+        assert_eq!((run.clock(), run.pending()), (1, &before[..]));
+        // A release while the tick at the clock is taken is like any other.
+        assert_eq!(released(&mut run, 0, 1), (1, 10));
+        assert_eq!(run.tick(), taken(0));
+        assert_eq!(run.tick(), ran(0, false, 0));
+        assert_eq!(run.tick(), ran(0, true, 0));
+        assert_eq!(run.tick(), taken(0));
+        assert_eq!(run.tick(), taken(0));
+        assert_eq!(run.tick(), ran(1, true, 0));
+        assert_eq!(run.tick(), idle(0));
+        assert_eq!(run.tick(), taken(0));
+    }
+
+    #[test]
+    fn jobs_become_late_in_taken_ticks_and_are_counted_once() {
+        let mut run = run_with([3, 4], &[[2, 9, 2, 1], [1, 9, 3, 1], [1, 9, 4, 1]]);
+        for (row, due) in [(0, 2), (0, 2), (1, 3), (2, 4)] {
+            assert_eq!(run.release(row, 1).unwrap().due, due);
+        }
+        assert_eq!(run.tick(), taken(0));
+        assert_eq!(run.tick(), taken(2));
+        assert_eq!(run.tick(), taken(1));
+        assert_eq!(run.tick(), ran(0, true, 1));
+        assert_eq!(run.tick(), taken(0));
+        assert_eq!(run.tick(), taken(0));
+        assert_eq!(run.tick(), taken(0));
+        assert_eq!(run.tick(), ran(1, true, 0));
+    }
+
+    #[test]
+    fn all_ticks_but_the_last_of_each_p_are_taken() {
+        let mut run = run_with([4_095, 4_096], &[[1, 4_096, 4_096, 1]]);
+        for serial in 0..3 {
+            assert_eq!(released(&mut run, 0, 1), (serial, 4_096 * (serial + 1)));
+            for _ in 0..4_095 {
+                assert_eq!(run.tick(), taken(0));
+            }
+            assert_eq!(run.tick(), ran(serial, true, 0));
+        }
+    }
+
+    #[test]
+    fn the_timer_counts_from_clock_0_over_time_crossed_in_one_go() {
+        let mut run = run_with([1, 3], &[[1, 1, 1, 1]]);
+        run.pass_until(LAST_TICK - 3);
+        // One more than a multiple of three is 2^40, and so is LAST_TICK - 3.
+        assert_eq!(run.tick(), idle(0));
+        assert_eq!(run.tick(), idle(0));
+        assert_eq!(run.tick(), taken(0));
+        assert_eq!(run.tick(), Err(Reason::TimeTooLate));
+    }
+
+    #[test]
+    fn the_clock_stops_at_its_end_where_the_tick_there_would_be_taken() {
+        for timer in [[1, 2], [2, 3], [4_095, 4_096], [1, 4_096]] {
+            assert!((1 << 40) % timer[1] < timer[0]);
+            let mut run = run_with(timer, &[[2, 1, 1, 1]]);
+            run.pass_until(LAST_TICK - 1);
+            assert_eq!(released(&mut run, 0, 1), (0, LAST_TICK));
+            let last_is_taken = (LAST_TICK - 1) % timer[1] < timer[0];
+            assert_eq!(run.tick(), if last_is_taken { taken(1) } else { ran(0, true, 0) });
+            assert_eq!(run.tick(), Err(Reason::TimeTooLate));
+            assert_eq!(run.clock(), LAST_TICK);
+        }
     }
 }

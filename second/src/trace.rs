@@ -14,7 +14,7 @@ pub mod kind {
     pub const STARTED: u64 = 1;
     /// A job was released. The other three are its serial, its due time and 0.
     pub const RELEASED: u64 = 2;
-    /// A tick found nothing pending. The other three are 0, 0 and the late count.
+    /// A tick was not taken and found nothing pending. The other three are 0, 0 and the late count.
     pub const IDLE: u64 = 3;
     /// A tick gave a unit to a job that did not finish. The other three are the job's serial, 0 and the late count.
     pub const RAN: u64 = 4;
@@ -23,6 +23,8 @@ pub mod kind {
     /// The call was refused. The other three are the refusal's number, its place and 0. The place is 0 unless a table
     /// is refused.
     pub const REFUSED: u64 = 6;
+    /// A tick was taken by the timer. The other three are 0, 0 and the late count.
+    pub const TAKEN: u64 = 7;
 }
 
 pub type Answer = [u64; 4];
@@ -42,6 +44,7 @@ fn play(run: &mut Run, call: Call) -> Answer {
     let answer = match call {
         Call::Release { row, cost } => run.release(row, cost).map(|job| [kind::RELEASED, job.serial, job.due, 0]),
         Call::Tick => run.tick().map(|ticked| match ticked.given {
+            Given::Taken => [kind::TAKEN, 0, 0, ticked.late],
             Given::Idle => [kind::IDLE, 0, 0, ticked.late],
             Given::Ran { serial, finished: false } => [kind::RAN, serial, 0, ticked.late],
             Given::Ran { serial, finished: true } => [kind::FINISHED, serial, 0, ticked.late],
@@ -59,7 +62,7 @@ mod tests {
         let release = |row, cost| Call::Release { row, cost };
         let refused = [release(1, 1), release(0, 3)];
         let calls = [&[Call::Tick, release(0, 2), release(0, 2)][..], &refused, &[Call::Tick; 3]].concat();
-        let two_at_a_time = [1, 2, 1, 2, 2];
+        let two_at_a_time = [0, 1, 1, 2, 1, 2, 2];
         assert_eq!(
             trace(&two_at_a_time, &calls),
             [
@@ -79,11 +82,45 @@ mod tests {
     #[test]
     fn a_refused_table_is_answered_and_played_as_the_empty_one() {
         let calls = [Call::Release { row: 0, cost: 1 }, Call::Tick];
-        let answers = [[kind::REFUSED, 4, 1, 0], [kind::REFUSED, 6, 0, 0], [kind::IDLE, 0, 0, 0]];
-        assert_eq!(trace(&[0, 0], &calls), answers);
-        assert_eq!(trace(&[1, 0x80, 0x00, 1, 1, 1], &[]), [[kind::REFUSED, 1, 2, 0]]);
-        assert_eq!(trace(&[1, 1, 0x82], &[]), [[kind::REFUSED, 1, 3, 0]]);
-        let hopeless = [[kind::REFUSED, 16, 4, 0], [kind::REFUSED, 6, 0, 0], [kind::IDLE, 0, 0, 0]];
-        assert_eq!(trace(&[1, 1, 4, 4, 5], &calls), hopeless);
+        let answers = [[kind::REFUSED, 4, 3, 0], [kind::REFUSED, 6, 0, 0], [kind::IDLE, 0, 0, 0]];
+        assert_eq!(trace(&[0, 1, 0, 0], &calls), answers);
+        assert_eq!(trace(&[0, 1, 1, 0x80, 0x00, 1, 1, 1], &[]), [[kind::REFUSED, 1, 4, 0]]);
+        assert_eq!(trace(&[0, 1, 1, 1, 0x82], &[]), [[kind::REFUSED, 1, 5, 0]]);
+        let hopeless = [[kind::REFUSED, 16, 6, 0], [kind::REFUSED, 6, 0, 0], [kind::IDLE, 0, 0, 0]];
+        assert_eq!(trace(&[0, 1, 1, 1, 4, 4, 5], &calls), hopeless);
+    }
+
+    #[test]
+    fn a_refused_timer_takes_no_tick_of_the_empty_tables_run() {
+        for (table, number, place) in
+            [(&[1, 1, 0][..], 3, 0), (&[0, 0, 0], 3, 1), (&[1, 2, 65], 2, 2), (&[1, 2, 0, 9], 4, 3), (&[1], 1, 1)]
+        {
+            assert_eq!(trace(table, &[Call::Tick]), [[kind::REFUSED, number, place, 0], [kind::IDLE, 0, 0, 0]]);
+        }
+    }
+
+    #[test]
+    fn a_taken_tick_is_answered_with_and_without_a_pending_job_and_with_late_jobs() {
+        let release = Call::Release { row: 0, cost: 1 };
+        let calls = [Call::Tick, Call::Tick, Call::Tick, release, Call::Tick, Call::Tick, release, release, Call::Tick];
+        // The ticks at 0 and 1 are taken, and so are those at 3 and 4. A job is due one tick after its release.
+        let two_of_three = [2, 3, 1, 2, 1, 1, 1];
+        assert_eq!(
+            trace(&two_of_three, &[&calls[..], &[Call::Tick; 2]].concat()),
+            [
+                [kind::STARTED, 0, 0, 0],
+                [kind::TAKEN, 0, 0, 0],
+                [kind::TAKEN, 0, 0, 0],
+                [kind::IDLE, 0, 0, 0],
+                [kind::RELEASED, 0, 4, 0],
+                [kind::TAKEN, 0, 0, 1],
+                [kind::TAKEN, 0, 0, 0],
+                [kind::RELEASED, 1, 6, 0],
+                [kind::RELEASED, 2, 6, 0],
+                [kind::FINISHED, 0, 0, 2],
+                [kind::TAKEN, 0, 0, 0],
+                [kind::TAKEN, 0, 0, 0],
+            ]
+        );
     }
 }

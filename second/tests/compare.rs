@@ -9,7 +9,7 @@ use support::bad_bytes::InNumber;
 use support::case::{Call, Case};
 use support::random::Random;
 use support::tally::{Tally, SCRIPT_MISSPELLED, TABLE_MISSPELLED};
-use support::{bad_bytes, edges, families, settings};
+use support::{bad_bytes, definition, edges, families, settings};
 
 const COMPARISONS: u64 = 250_000;
 /// One table and one script in so many comparisons are damaged at every byte.
@@ -23,7 +23,7 @@ fn main() {
     let seed = settings::number("JYRMEKKO_SEED", 1);
     let mut compared = Compared { seed, families: 0, all: Tally::default() };
 
-    compared.family("edges", edges::all().into_iter().map(|case| move |_: &mut Random| case));
+    compared.family("edges", edges::all().map(|case| move |_: &mut Random| case));
     let each = comparisons.div_ceil(families::ALL.len() as u64) as usize;
     for (name, make) in families::ALL {
         compared.family(name, std::iter::repeat_n(make, each));
@@ -75,6 +75,11 @@ impl Compared {
             if found != expected {
                 println!("MISMATCH in '{name}', comparison {index}, seed {}", self.seed);
                 println!("{case}second program:\n{expected}library:\n{found}");
+                self.fail();
+            }
+            if definition::contradicts(&case, &expected) {
+                println!("WRONG by the rules in '{name}', comparison {index}, seed {}", self.seed);
+                println!("{case}both programs:\n{expected}");
                 self.fail();
             }
             tally.count(&case, &expected);

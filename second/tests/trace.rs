@@ -2,7 +2,7 @@
 
 mod support;
 
-use second::numbers;
+use second::refusal::Reason;
 use second::run::MOST_PENDING;
 use second::table::{MOST_C, MOST_ROWS};
 use second::trace::{kind, trace, Answer, Call};
@@ -11,13 +11,16 @@ use support::case::hex;
 use support::random::Random;
 use support::tables::Row;
 use support::trace::{by_library, bytes_of};
-use support::{damage, hopeless, scripts, settings, tables};
+use support::{damage, hopeless, scripts, settings, tables, timers};
 
 /// There are at least this many traces, since with fewer some answers might not be met.
 const TRACES: u64 = 20_000;
 
 /// One trace in so many takes about all places before it goes on.
-const FILLED: u64 = 40;
+const FILLED: u64 = 12;
+
+/// One trace in so many has a timer that is refused, or nearly, and one in so many a period that p makes long.
+const BAD_TIMER: u64 = 40;
 
 /// One trace in so many has a first row whose c is above its d, or about as high.
 const HOPELESS: u64 = 40;
@@ -71,23 +74,45 @@ fn most_pending(answers: &[Answer]) -> usize {
     most
 }
 
+/// What was met of the ticks that were taken: whether a job was pending, and whether one became late.
+fn taken_ticks(answers: &[Answer]) -> BTreeSet<(bool, bool)> {
+    let mut pending = 0;
+    let mut met = BTreeSet::new();
+    for answer in answers {
+        match answer[0] {
+            kind::RELEASED => pending += 1,
+            kind::FINISHED => pending -= 1,
+            kind::TAKEN => drop(met.insert((pending > 0, answer[3] > 0))),
+            _ => {}
+        }
+    }
+    met
+}
+
 #[test]
 fn single_calls() {
     let seed = settings::number("JYRMEKKO_SEED", 1);
     let mut met = BTreeSet::new();
     let mut started_rows = BTreeSet::new();
     let mut pending_jobs = BTreeSet::new();
+    let mut taken = BTreeSet::new();
+    let mut places_of_3 = BTreeSet::new();
     for index in 0..settings::number("JYRMEKKO_COMPARISONS", 0).max(settings::number("JYRMEKKO_TRACES", TRACES)) {
         let mut random = Random::of(seed, index);
-        let mut rows = tables::to_replay(&mut random);
+        let mut lent = tables::to_replay(&mut random);
         if random.one_in(HOPELESS) {
-            rows.iter_mut().take(1).for_each(|row| hopeless::spoil(row, &mut random));
+            lent.rows.iter_mut().take(1).for_each(|row| hopeless::spoil(row, &mut random));
         }
-        let mut table = tables::spell(&rows);
+        match random.below(BAD_TIMER) {
+            0 => lent.timer = timers::bad(&mut random),
+            1 => lent = tables::long_period_by_p(&mut random),
+            _ => {}
+        }
+        let mut table = lent.spell();
         if random.one_in(20) {
             table = damage::mutate(&table, &mut random);
         }
-        let calls = random_calls(&rows, &mut random);
+        let calls = random_calls(&lent.rows, &mut random);
         let expected = trace(&table, &calls);
         let (count, found) = by_library(&table, &calls, &mut random);
         assert!(
@@ -97,17 +122,28 @@ fn single_calls() {
             hex(&found)
         );
         if expected[0][0] == kind::STARTED {
-            started_rows.insert(numbers::read(&table, 0).unwrap().0);
+            started_rows.insert(tables::row_count(&table).unwrap());
         }
+        if expected[0][..2] == [kind::REFUSED, Reason::ValueOutOfRange.number().into()] {
+            places_of_3.insert(expected[0][2]);
+        }
+        taken.extend(taken_ticks(&expected));
         pending_jobs.insert(most_pending(&expected));
         met.extend(expected.iter().map(|answer| (answer[0], if answer[0] == kind::REFUSED { answer[1] } else { 0 })));
     }
-    for kind in [kind::STARTED, kind::RELEASED, kind::IDLE, kind::RAN, kind::FINISHED] {
+    for kind in [kind::STARTED, kind::RELEASED, kind::IDLE, kind::RAN, kind::FINISHED, kind::TAKEN] {
         assert!(met.contains(&(kind, 0)), "no answer of kind {kind} was met");
     }
-    for number in [1, 2, 3, 4, 6, 7, 8, 16] {
+    for number in [1, 2, 3, 4, 5, 6, 7, 8, 16] {
         assert!(met.contains(&(kind::REFUSED, number)), "no refusal {number}");
     }
+    for place in [0, 1, 2] {
+        assert!(
+            places_of_3.contains(&place),
+            "no refusal 3 at {place}, where s starts or p after a short s or a longer"
+        );
+    }
+    assert_eq!(taken, BTreeSet::from([(false, false), (true, false), (true, true)]), "a job pending, and one late");
     for rows in [MOST_ROWS - 1, MOST_ROWS] {
         assert!(started_rows.contains(&rows), "no run was started on {rows} rows");
     }

@@ -1,9 +1,9 @@
 //! Replay. Pending jobs stand in a vector, and the due times of each row in a queue. A linear scan finds the job with
-//! the earliest due time.
+//! the earliest due time, once for each tick that is not taken.
 
 use super::jobs::{due_time, first, Job, LATEST, PLACES};
 use super::numbers::{bad_byte, read, write};
-use super::table::read_table;
+use super::table::{read_table, Table, Timer};
 use super::Refused;
 use std::collections::VecDeque;
 
@@ -11,6 +11,7 @@ use std::collections::VecDeque;
 const RECORD: usize = 30;
 
 struct Run<'a> {
+    timer: Timer,
     clock: u64,
     pending: Vec<Job>,
     log: &'a mut [u8],
@@ -21,9 +22,9 @@ struct Run<'a> {
 
 /// Returns the log's length, and how many jobs were late.
 pub fn replay(table: &[u8], script: &[u8], log: &mut [u8]) -> Result<(usize, u64), Refused> {
-    let rows = read_table(table)?.rows;
+    let Table { timer, rows, .. } = read_table(table)?;
     let mut kept: Vec<VecDeque<u64>> = rows.iter().map(|_| VecDeque::new()).collect();
-    let mut run = Run { clock: 0, pending: Vec::new(), log, length: 0, full: false, late: 0 };
+    let mut run = Run { timer, clock: 0, pending: Vec::new(), log, length: 0, full: false, late: 0 };
     let mut serial = 0;
     let mut at = 0;
     while at < script.len() {
@@ -77,9 +78,14 @@ fn number(script: &[u8], at: &mut usize) -> Result<u64, Refused> {
 }
 
 impl Run<'_> {
-    /// Gives one unit to the pending job with the earliest due time, and to the lowest serial among equal due times.
+    /// Gives one unit to the pending job with the earliest due time, and to the lowest serial among equal due times. A
+    /// tick that is taken gives none.
     fn tick(&mut self) {
+        let taken = self.timer.takes(self.clock);
         self.clock += 1;
+        if taken {
+            return;
+        }
         let at = first(&self.pending);
         self.pending[at].left -= 1;
         if self.pending[at].left == 0 {

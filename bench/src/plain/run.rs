@@ -2,7 +2,7 @@
 //! that. Calls are three words of eight bytes each, and answers are four, as the probe library has them.
 
 use super::jobs::{due_time, first, Job, LATEST, PLACES};
-use super::table::{read_table, Row};
+use super::table::{read_table, Row, Timer};
 use super::Refused;
 use std::collections::VecDeque;
 
@@ -11,6 +11,7 @@ const WORD: usize = 8;
 const RELEASE: u64 = 1;
 
 struct Run {
+    timer: Timer,
     rows: Vec<Row>,
     clock: u64,
     pending: Vec<Job>,
@@ -25,13 +26,13 @@ pub fn trace(table: &[u8], calls: &[u8], answers: &mut [u8]) -> u32 {
     let Some(start) = room.next() else {
         return 0;
     };
-    let (rows, answer) = match read_table(table) {
-        Ok(table) => (table.rows, [1, 0, 0, 0]),
-        Err(Refused(number, place)) => (Vec::new(), [6, number.into(), place as u64, 0]),
+    let (timer, rows, answer) = match read_table(table) {
+        Ok(table) => (table.timer, table.rows, [1, 0, 0, 0]),
+        Err(Refused(number, place)) => (Timer { s: 0, p: 1 }, Vec::new(), [6, number.into(), place as u64, 0]),
     };
     put(start, answer);
     let kept = rows.iter().map(|_| VecDeque::new()).collect();
-    let mut run = Run { rows, clock: 0, pending: Vec::new(), next: 0, kept };
+    let mut run = Run { timer, rows, clock: 0, pending: Vec::new(), next: 0, kept };
     let mut shown = 1;
     for (call, answer) in calls.chunks_exact(3 * WORD).zip(room) {
         let said = match word(call, 0) {
@@ -69,7 +70,11 @@ impl Run {
         if self.clock == LATEST {
             return Err(10);
         }
+        let taken = self.timer.takes(self.clock);
         self.clock += 1;
+        if taken {
+            return Ok([7, 0, 0, self.late()]);
+        }
         if self.pending.is_empty() {
             return Ok([3, 0, 0, 0]);
         }
@@ -80,8 +85,12 @@ impl Run {
         if finished {
             self.pending.remove(at);
         }
-        let late = self.pending.iter().filter(|job| job.due == self.clock).count();
-        Ok([if finished { 5 } else { 4 }, serial, 0, late as u64])
+        Ok([if finished { 5 } else { 4 }, serial, 0, self.late()])
+    }
+
+    /// Returns how many pending jobs became late as the clock got to where it is.
+    fn late(&self) -> u64 {
+        self.pending.iter().filter(|job| job.due == self.clock).count() as u64
     }
 }
 

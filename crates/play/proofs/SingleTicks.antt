@@ -23,9 +23,9 @@ use Rattle.jobs.specs.JobChanges.{unitAt}
 use Rattle.jobs.proofs.Changes.{first-is-there, place-holds-job, without-is-one-less}
 use Rattle.run.specs.declared.Run.{Run}
 use Rattle.run.specs.Sound.{SoundJob}
-use Rattle.run.specs.Ticking.{runWith, ticked}
+use Rattle.run.specs.Ticking.{runWith, isTaken, ticked}
 use Rattle.run.specs.ManyTicks.{finishedBy, SoFar, oneMore, ticks, ticksWhilePending}
-use Rattle.run.proofs.Ticking.{Good, facts, counted, tick-idle, tick-busy, tick-keeps-good, tick-gives-one-unit}
+use Rattle.run.proofs.Ticking.{Good, facts, counted, tick-taken, tick-idle, tick-busy, tick-keeps-good, tick-gives-one-unit}
 use Rattle.log.specs.Log.{valuesOf, allInRange}
 use Rattle.log.specs.SpelledLogs.{EachInRange}
 use Rattle.play.specs.LogRecords.{SmallNumbers}
@@ -76,13 +76,15 @@ module _ (run : Run) (good : Good run) where
   module _ (in-time : run .clock .0 < maxTime) where
     -- A job that a tick finishes is no longer pending, and all others are.
     pub tick-conserves : length (finishedBy run) + ticked run .run .pending .count ≡ run .pending .count
-    tick-conserves = by-lt 0 (run .pending .count)
+    tick-conserves = by-test (isTaken run)
+        (λ taken. rw (taken, tick-taken run (good .0) in-time taken) (omega arith))
+        (λ free. by-lt 0 (run .pending .count)
         (λ some.
-        let given = tick-gives-one-unit run (good .1) (good .0) in-time some in
+        let given = tick-gives-one-unit run (good .1) (good .0) in-time free some in
         let left : length (unitAt js first) ≡ ticked run .run .pending .count = rw (← given) (counted (ticked run .run) (tick-keeps-good run good)) in
-        rw (lt-ltb 0 (run .pending .count) some, first-is-pending some, length-if)
+        rw (free, lt-ltb 0 (run .pending .count) some, first-is-pending some, length-if)
         (omega (arith, counted run good, unit-takes (first-there some))))
-        (λ none. rw (le-ltb 0 (run .pending .count) none, tick-idle run (good .0) in-time (omega arith)) (omega arith))
+        (λ none. rw (free, le-ltb 0 (run .pending .count) none, tick-idle run (good .0) in-time free (omega arith)) (omega arith)))
 
     -- The numbers of a job that finishes are small.
     finish-small : 1 ≤ run .pending .count → SmallNumbers (finishAt (run .clock .0 + 1) (firstJob (run .pending)))
@@ -98,11 +100,13 @@ module _ (run : Run) (good : Good run) where
         }
 
     pub finished-small : Each SmallNumbers (finishedBy run)
-    finished-small f = by-lt 0 (run .pending .count)
+    finished-small f = by-test (isTaken run)
+        (λ taken. rw taken (λ m. absurd (List·Memᴰ·not-nil m)))
+        (λ free. rw free (by-lt 0 (run .pending .count)
         (λ some. rw (lt-ltb 0 (run .pending .count) some) (by-test (lastUnit (firstJob (run .pending)))
         (λ last. rw last (λ m. rw (List·Memᴰ·eq-of-singleton m) (finish-small some)))
         (λ more. rw more (λ m. absurd (List·Memᴰ·not-nil m)))))
-        (λ none. rw (le-ltb 0 (run .pending .count) none) (λ m. absurd (List·Memᴰ·not-nil m)))
+        (λ none. rw (le-ltb 0 (run .pending .count) none) (λ m. absurd (List·Memᴰ·not-nil m)))))
 
     -- The numbers of a job that finishes have spellings.
     pub finished-in-range : EachInRange (finishedBy run)
@@ -110,9 +114,11 @@ module _ (run : Run) (good : Good run) where
 
     -- A tick takes the clock up by one, and apart from that changes only the pending jobs.
     tick-touches : ticked run .run ≡ runWith run (run .clock .0 + 1) (ticked run .run .pending)
-    tick-touches = by-lt 0 (run .pending .count)
-        (λ some. rw (tick-busy run (good .0) in-time some))
-        (λ none. rw (tick-idle run (good .0) in-time (omega arith)))
+    tick-touches = by-test (isTaken run)
+        (λ taken. rw (tick-taken run (good .0) in-time taken))
+        (λ free. by-lt 0 (run .pending .count)
+        (λ some. rw (tick-busy run (good .0) in-time free some))
+        (λ none. rw (tick-idle run (good .0) in-time free (omega arith))))
 
     pub tick-clock : ticked run .run .clock .0 ≡ run .clock .0 + 1
     tick-clock = ap (λ (r : Run). r .clock .0) tick-touches

@@ -2,17 +2,19 @@
 -- all moves keep, a whole play keeps. (docs/RULES.md, sections 6.6 to 6.17 and 8.1 to 8.7.)
 use Prim.Native.Nat.{ℕ, _+_, _≤_, _<_}
 use mathlib.Core.Path.{_≡_, refl}
+use mathlib.Core.Bool.{true, false}
 use mathlib.Core.List.{List, [], _∷_, _++_, append-nil}
-use native.Mathlib.Nat.{add-zero, not-suc-le-zero}
+use native.Mathlib.Nat.{add-zero, le-refl, not-suc-le-zero}
 use native.Mathlib.Omega.{arith}
 use lib.ListN.{length, set, getD}
+use lib.Seq.{set-out}
 use borrow.Author.Tests.{le-leb, lt-leb, lt-ltb, le-ltb}
 use Rattle.kinds.specs.Numbering.{maxTime}
 use Rattle.kinds.specs.declared.Finish.{Finish}
 use Rattle.kinds.specs.declared.Tick.{Tick}
 use Rattle.kinds.proofs.Apart.{impossible}
 use Rattle.numbers.specs.SpelledNumbers.{Bytes}
-use Rattle.theory.proofs.Cases.{by-lt}
+use Rattle.theory.proofs.Cases.{by-lt, by-test}
 use Rattle.theory.proofs.DueTimes.{due-time-at-least-d}
 use Rattle.table.specs.declared.Table.{Table}
 use Rattle.due.specs.declared.Due.the-variants as due
@@ -32,7 +34,8 @@ use Rattle.run.specs.declared.ReleaseStep.{ReleaseStep}
 use Rattle.run.specs.Runs.{rowAt, keptOf}
 use Rattle.run.specs.Sound.{SoundJob}
 use Rattle.run.specs.Release.{newJob, withJob, released}
-use Rattle.run.proofs.Ticking.{Good, facts, counted, tick-idle, tick-busy}
+use Rattle.run.specs.Ticking.{isTaken}
+use Rattle.run.proofs.Ticking.{Good, facts, counted, tick-taken, tick-idle, tick-busy}
 use Rattle.run.proofs.Release.{Passed, each-release}
 use Rattle.play.specs.Play.{Progress, whole, played}
 use Rattle.play.proofs.KeptThroughout.{tickMore, releaseMore, Keeps, kept-through}
@@ -127,12 +130,17 @@ module _ (p : Progress) (good : Good (p .so-far .run)) where
   at = firstPlace js
 
   module _ (in-time : run .clock .0 < maxTime) where
-    -- A tick with nothing pending finishes no job.
-    idle-is-quiet : run .pending .count ≡ 0 → seenOf (tickMore p) ≡ quietTick (seenOf p) 0
-    unfolding lateCount
-    idle-is-quiet e = rw (tick-idle run (good .0) in-time e, le-ltb 0 (run .pending .count) (omega arith), none-pending p e, append-nil, add-zero)
+    -- A taken tick finishes no job, and no pending job gets a unit.
+    taken-is-quiet : isTaken run ≡ true → seenOf (tickMore p) ≡ quietTick (seenOf p) (length js)
+    taken-is-quiet e = rw (tick-taken run (good .0) in-time e, e, set-out js (length js) (worked (getD js (length js) noJob)) (le-refl (length js)), append-nil)
 
-    module _ (h : 1 ≤ run .pending .count) where
+    -- A free tick with nothing pending finishes no job.
+    idle-is-quiet : isTaken run ≡ false → run .pending .count ≡ 0 → seenOf (tickMore p) ≡ quietTick (seenOf p) 0
+    unfolding lateCount
+    idle-is-quiet free e =
+        rw (tick-idle run (good .0) in-time free e, free, le-ltb 0 (run .pending .count) (omega arith), none-pending p e, append-nil, add-zero)
+
+    module _ (free : isTaken run ≡ false) (h : 1 ≤ run .pending .count) where
       -- The job that goes first stands among the pending ones.
       there : at < length js
       there = first-is-there (run .pending) (omega (arith, counted run good))
@@ -143,7 +151,8 @@ module _ (p : Progress) (good : Good (p .so-far .run)) where
       -- A tick that does not give a job its last unit finishes no job.
       unit-is-quiet : 1 < getD js at noJob .left → seenOf (tickMore p) ≡ quietTick (seenOf p) at
       unit-is-quiet l = rw (
-        tick-busy run (good .0) in-time h,
+        tick-busy run (good .0) in-time free h,
+        free,
         after-a-unit (run .pending) at there,
         first-here,
         lt-leb (getD js at noJob .left) 1 l,
@@ -154,7 +163,8 @@ module _ (p : Progress) (good : Good (p .so-far .run)) where
       -- A tick that gives a job's last unit finishes that job.
       last-finishes : getD js at noJob .left ≤ 1 → seenOf (tickMore p) ≡ finishTick (seenOf p) at
       last-finishes l = rw (
-        tick-busy run (good .0) in-time h,
+        tick-busy run (good .0) in-time free h,
+        free,
         after-a-unit (run .pending) at there,
         first-here,
         le-leb (getD js at noJob .left) 1 l,
@@ -206,13 +216,15 @@ module _ (Q : Seen → Type 0) (moves : Moves Q) where
         let s = seenOf p in
         let place = firstPlace (s .pending) in
         let sound = facts (p .so-far .run) good .jobs in
-        by-lt 0 (p .so-far .run .pending .count)
+        by-test (isTaken (p .so-far .run))
+        (λ taken. rw (taken-is-quiet p good in-time taken) (moves .quiet s (length (s .pending)) sound (λ k. absurd (omega arith)) q))
+        (λ free. by-lt 0 (p .so-far .run .pending .count)
         (λ h. by-lt 1 (getD (s .pending) place noJob .left)
-        (λ l. rw (unit-is-quiet p good in-time h l) (moves .quiet s place sound (λ k. l) q))
-        (λ l. rw (last-finishes p good in-time h l) (moves .finish s place sound (there p good in-time h) q)))
+        (λ l. rw (unit-is-quiet p good in-time free h l) (moves .quiet s place sound (λ k. l) q))
+        (λ l. rw (last-finishes p good in-time free h l) (moves .finish s place sound (there p good in-time free h) q)))
         (λ h.
         let none = none-pending p (omega arith) in
-        rw (idle-is-quiet p good in-time (omega arith)) (moves .quiet s 0 sound (λ k. absurd (not-suc-le-zero (rw none at k))) q));
+        rw (idle-is-quiet p good in-time free (omega arith)) (moves .quiet s 0 sound (λ k. absurd (not-suc-le-zero (rw none at k))) q)));
     release = λ p row cost a good e q. release-moves p row cost a good Q moves q e;
   }
 

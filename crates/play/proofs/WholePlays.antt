@@ -2,6 +2,7 @@
 use Prim.Native.Nat.{ℕ, suc, _+_, _≤_, _<_, suc-le-suc}
 use mathlib.Core.Path.{_≡_, refl, sym, ap, subst, _∙_}
 use mathlib.Core.Logic.{⊎-elim}
+use mathlib.Core.Bool.{true, false}
 use mathlib.Core.List.{List, [], _∷_, List·Memᴰ, List·Memᴰ·head, List·Memᴰ·tail, List·Memᴰ·not-nil}
 use native.Mathlib.Omega.{arith}
 use lib.ListN.{length, getD}
@@ -9,16 +10,17 @@ use borrow.Author.Tests.{le-leb, lt-leb, lt-ltb, le-ltb}
 use Rattle.kinds.specs.Numbering.{maxTime}
 use Rattle.kinds.specs.declared.Finish.{Finish}
 use Rattle.kinds.proofs.Apart.{impossible}
-use Rattle.theory.proofs.Cases.{by-lt}
+use Rattle.theory.proofs.Cases.{by-lt, by-test}
 use Rattle.table.proofs.Each.{stands-in}
 use Rattle.jobs.specs.declared.Job.{Job}
 use Rattle.jobs.specs.Places.{noJob}
 use Rattle.jobs.specs.Turns.{noFinish, firstJob, finishAt}
 use Rattle.run.specs.declared.Run.{Run}
 use Rattle.run.specs.Runs.{started}
+use Rattle.run.specs.Ticking.{isTaken}
 use Rattle.run.specs.ManyTicks.{finishedBy, ticks}
 use Rattle.run.proofs.Fresh.{started-is-sound}
-use Rattle.run.proofs.Ticking.{Good, tick-idle, tick-busy}
+use Rattle.run.proofs.Ticking.{Good, tick-taken, tick-idle, tick-busy}
 use Rattle.log.proofs.Logs as log
 use Rattle.play.specs.Play.{begun}
 use Rattle.play.specs.PlayLaws.{EveryRecordIsAccepted, FinishIsTheLastUnit, FinishesRise, LateIsTheSum, LogReadsBack, OneRecordEach, SerialsCount}
@@ -105,34 +107,39 @@ module _ (run : Run) (f : Finish) (good : Good run) (in-time : run .clock .0 < m
   first = firstJob (run .pending)
 
   -- Where the job that goes first has one unit left, the tick finishes it.
-  last-unit : 1 ≤ run .pending .count → first .left ≤ 1 → finishedBy run ≡ finishAt (run .clock .0 + 1) first ∷ []
-  last-unit some last = rw (lt-ltb 0 (run .pending .count) some, le-leb (first .left) 1 last)
+  last-unit : isTaken run ≡ false → 1 ≤ run .pending .count → first .left ≤ 1 → finishedBy run ≡ finishAt (run .clock .0 + 1) first ∷ []
+  last-unit free some last = rw (free, lt-ltb 0 (run .pending .count) some, le-leb (first .left) 1 last)
 
   to-last-unit : finishedBy run ≡ f ∷ [] → GotItsLastUnit run f
   to-last-unit e =
-      by-lt 0 (run .pending .count)
+      by-test (isTaken run)
+      (λ taken. let nothing = rw taken at e in impossible cc)
+      (λ free. by-lt 0 (run .pending .count)
       (λ some. by-lt 1 (first .left)
-      (λ more. absurd (let none = rw (lt-ltb 0 (run .pending .count) some, lt-leb (first .left) 1 more) at e in
+      (λ more. absurd (let none = rw (free, lt-ltb 0 (run .pending .count) some, lt-leb (first .left) 1 more) at e in
       impossible cc))
       (λ last.
-      let its : f ≡ finishAt (run .clock .0 + 1) first = let one = last-unit some last in cc in
+      let its : f ≡ finishAt (run .clock .0 + 1) first = let one = last-unit free some last in cc in
       let sound = first-sound run good some in
       rw its (record {
-        answered = rw (tick-busy run (good .0) in-time some, le-leb (first .left) 1 last);
+        answered = rw (tick-busy run (good .0) in-time free some, le-leb (first .left) 1 last);
         one-left = omega (arith, sound .some-left);
         its-own = record { serial = refl; row = refl; release = refl; due = refl; after-release = omega (arith, sound .released) };
         at-the-clock = sym (tick-clock run good in-time);
       })))
-      (λ none. let nothing = rw (le-ltb 0 (run .pending .count) none) at e in impossible cc)
+      (λ none. let nothing = rw (free, le-ltb 0 (run .pending .count) none) at e in impossible cc))
 
   from-last-unit : GotItsLastUnit run f → finishedBy run ≡ f ∷ []
   from-last-unit l =
-      by-lt 0 (run .pending .count)
+      by-test (isTaken run)
+      (λ taken. absurd (let nothing = rw (tick-taken run (good .0) in-time taken) at (l .answered) in
+      impossible cc))
+      (λ free. by-lt 0 (run .pending .count)
       (λ some.
       let clock : f .finish .0 ≡ run .clock .0 + 1 = l .at-the-clock ∙ tick-clock run good in-time in
-      last-unit some (omega (arith, l .one-left)) ∙ ap (λ (g : Finish). g ∷ []) (its-record first f (run .clock .0 + 1) (l .its-own) clock))
-      (λ none. absurd (let nothing = rw (tick-idle run (good .0) in-time (omega arith)) at (l .answered) in
-      impossible cc))
+      last-unit free some (omega (arith, l .one-left)) ∙ ap (λ (g : Finish). g ∷ []) (its-record first f (run .clock .0 + 1) (l .its-own) clock))
+      (λ none. absurd (let nothing = rw (tick-idle run (good .0) in-time free (omega arith)) at (l .answered) in
+      impossible cc)))
 
 pub finish-is-the-last-unit : FinishIsTheLastUnit
 finish-is-the-last-unit run f whole sound in-time = (to-last-unit run f (sound, whole) in-time, from-last-unit run f (sound, whole) in-time)

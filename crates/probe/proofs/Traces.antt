@@ -45,6 +45,7 @@ event-is-four : (e : Event) → length (eventWords e) ≡ mostWords
 event-is-four (Event.release row cost (accepted serial due)) = refl
 event-is-four (Event.release row cost (says.ReleaseSays.refused n place)) = refl
 event-is-four (Event.tick idle late) = refl
+event-is-four (Event.tick says.taken late) = refl
 event-is-four (Event.tick (ran serial false) late) = refl
 event-is-four (Event.tick (ran serial true) late) = refl
 event-is-four (Event.tick (says.TickSays.refused n place) late) = refl

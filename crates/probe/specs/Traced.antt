@@ -12,7 +12,7 @@ use Rattle.numbers.specs.declared.NumberRead.the-variants as number
 use Rattle.run.specs.declared.Run.{Run}
 use Rattle.run.specs.Runs.{started}
 use Rattle.run.specs.Answers.{startSays}
-use Rattle.run.specs.Answers.{ReleaseSays, accepted, TickSays, idle, ran}
+use Rattle.run.specs.Answers.{ReleaseSays, accepted, TickSays, idle, ran, taken}
 use Rattle.run.specs.Answers as says
 use Rattle.promise.specs.Traces.{Call, Event, runAfter, eventOf, trace}
 use Rattle.words.specs.Words.{wordLength, wordAt}
@@ -72,10 +72,11 @@ abbrev pub releaseWords : ReleaseSays → List ℕ
 releaseWords (accepted serial due) = 2 ∷ serial ∷ due ∷ 0 ∷ []
 releaseWords (says.ReleaseSays.refused n place) = refusedWords n place
 
--- The words of a tick's answer, with the late count as the last: 3 for idle, 4 and the serial for a unit that did not finish its job, 5 and the serial for one
--- that did, or those of its refusal. (6.12, 6.14, 6.16)
+-- The words of a tick's answer, with the late count as the last: 3 for idle, 7 for taken, 4 and the serial for a unit that did not finish its job, 5 and the
+-- serial for one that did, or those of its refusal. (6.12, 6.14, 6.16)
 abbrev pub tickWords : TickSays → (late : ℕ) → List ℕ
 tickWords idle late = 3 ∷ 0 ∷ 0 ∷ late ∷ []
+tickWords taken late = 7 ∷ 0 ∷ 0 ∷ late ∷ []
 tickWords (ran serial false) late = 4 ∷ serial ∷ 0 ∷ late ∷ []
 tickWords (ran serial true) late = 5 ∷ serial ∷ 0 ∷ late ∷ []
 tickWords (says.TickSays.refused n place) late = refusedWords n place

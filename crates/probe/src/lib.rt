@@ -186,7 +186,7 @@ fn release_words(answer: Released) -> [u64; 4]
 }
 
 // The words of a tick's answer, with the late count as the last: 3 for idle, 4 with the serial for a unit that did not finish its job, 5 with the serial for
-// one that did, or 6 with the refusal's number. (6.12, 6.14, 6.16)
+// one that did, 7 for taken, or 6 with the refusal's number. (6.12, 6.14, 6.16)
 fn tick_words(answer: Ticked, late: u64) -> [u64; 4]
     ensures { λ r. ⌜ r ≡ tickWords (tickSays answer) late ⌝ }
 {
@@ -199,6 +199,7 @@ fn tick_words(answer: Ticked, late: u64) -> [u64; 4]
                 Finished::Yes => [5, ran.serial.0, 0, late],
             }
         }
+        Ticked::Taken => [7, 0, 0, late],
         Ticked::Refused(r) => [6, r.number() as u64, 0, 0],
     }
 }

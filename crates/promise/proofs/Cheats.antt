@@ -1,7 +1,7 @@
 -- The cheats are shut out: the proofs.
 use Prim.Native.Nat.{ℕ, _≤_, _<_}
 use mathlib.Core.Path.{_≡_, refl}
-use mathlib.Core.List.{_∷_, flatten}
+use mathlib.Core.List.{flatten}
 use native.Mathlib.Omega.{arith}
 use Rattle.kinds.proofs.Apart.{impossible}
 use Rattle.numbers.specs.Reading as reading
@@ -28,13 +28,12 @@ use Rattle.run.specs.declared.Released.the-variants as release
 use Rattle.run.specs.Sound.{soundOf, jobFits, jobSound}
 use Rattle.run.specs.Release.{released}
 use Rattle.run.specs.Ticking.{ticked}
+use Rattle.run.specs.Answers.{accepted, releaseSays}
+use Rattle.run.proofs.Ticking.{idle-means}
 use Rattle.play.proofs.OnItsWay.{release-adds-one}
-use Rattle.run.specs.Answers.{accepted, idle, releaseSays, tickSays}
-use Rattle.promise.specs.Traces.{Call, runAt}
+use Rattle.promise.specs.Traces.{runAt}
 use Rattle.promise.specs.Examples.{v1, v8}
 use Rattle.promise.specs.Cheats.{NotAllRefused, NotAllReleasesRefused, NotAlwaysFeasible, NoBlankWitness, NotAlwaysIdle, NotIdleAfterARelease}
-use Rattle.promise.proofs.RunsFollow.{bridge}
-use Rattle.promise.proofs.Ticks.{each-tick}
 use Rattle.promise.proofs.NoOrder.{says-overloaded}
 use Rattle.promise.proofs.Examples.{v1-is-feasible, v8-is-overloaded}
 
@@ -61,13 +60,14 @@ no-blank-witness bytes v judged L units said =
 
 pub not-all-releases-refused : NotAllReleasesRefused
 unfolding
-    runAt released soundOf jobFits jobSound put dueOf keptWith keptSound dueTime readRows leastCommonMultiple firstMultiple reading.spelt spelling.groupsOf flatten
+    runAt released soundOf jobFits jobSound put dueOf keptWith keptSound dueTime readRows leastCommonMultiple firstMultiple reading.spelt spelling.groupsOf
+    flatten
 not-all-releases-refused = refl
 
 pub not-always-idle : NotAlwaysIdle
 unfolding
-    runAt released ticked soundOf jobFits jobSound put takenOut after lateCount goesBefore dueOf keptWith keptSound dueTime readRows leastCommonMultiple firstMultiple
-    reading.spelt spelling.groupsOf flatten
+    runAt released ticked soundOf jobFits jobSound put takenOut after lateCount goesBefore dueOf keptWith keptSound dueTime readRows leastCommonMultiple
+    firstMultiple reading.spelt spelling.groupsOf flatten
 not-always-idle = refl
 
 -- An answer that says accepted is an accepted release.
@@ -78,10 +78,7 @@ says-accepted (release.Refused r) serial due said = impossible cc
 -- A tick is idle only where nothing is pending, and after an accepted release something is pending.
 pub not-idle-after-a-release : NotIdleAfterARelease
 unfolding runAt
-not-idle-after-a-release bytes ok calls row cost serial due said =
+not-idle-after-a-release bytes ok calls row cost serial due said none =
     let run = runAt bytes calls in
     let was = says-accepted (released run row cost .answer) serial due said in
-    each-tick (released run row cost .run) (bridge bytes ok (Call.release row cost ∷ calls) .sound) (λ step. tickSays (step .answer) ≡ idle → ⊥)
-    (λ last e. impossible cc)
-    (λ h none e. absurd (omega (arith, release-adds-one run row cost (was .0) (was .1))))
-    (λ h some e. impossible cc)
+    omega (arith, idle-means (released run row cost .run) .0 none .3, release-adds-one run row cost (was .0) (was .1) .0)

@@ -1,6 +1,7 @@
--- Choice: the proof. The run chooses among its pending jobs, and these are the unfinished accepted ones. So what the choice says about the pending jobs it says
--- about the trace. The late count is over the jobs that are pending after the tick, which are the ones that are unfinished then. (6.10, 6.11, 6.12, 6.14)
-use Prim.Native.Nat.{ℕ, suc, _+_, _≤_, _<_}
+-- Choice: the proof. The run's timer is the table's and its clock is the trace's, so that both take the same ticks. In a free tick the run chooses among its
+-- pending jobs, and these are the unfinished accepted ones. So what the choice says about the pending jobs it says about the trace. The late count is over the
+-- jobs that are pending after the tick, which are the ones that are unfinished then. (6.5, 6.10, 6.11, 6.12, 6.14)
+use Prim.Native.Nat.{ℕ, suc, _+_, _%_, _≤_, _<_}
 use mathlib.Core.Path.{_≡_, refl, sym, ap, subst, _∙_}
 use mathlib.Core.Logic.{_↔_}
 use mathlib.Core.Bool.{Bool, true, false, cond, _&&_, and-true}
@@ -8,7 +9,7 @@ use mathlib.Core.List.{List, [], _∷_, List·Memᴰ, List·Memᴰ·head, List·
 use native.Mathlib.Omega.{arith}
 use lib.Dec.{eqb}
 use lib.ListN.{length, getD, take}
-use borrow.Author.Tests.{le-leb, lt-leb, lt-ltb, ne-eqb}
+use borrow.Author.Tests.{ltb-true, le-leb, lt-leb, lt-ltb, ne-eqb}
 use Rattle.kinds.specs.Numbering.{maxTime}
 use Rattle.kinds.proofs.Apart.{impossible}
 use Rattle.theory.specs.Lists.{total, weightIf}
@@ -26,12 +27,13 @@ use Rattle.jobs.specs.Turns.{firstJob}
 use Rattle.jobs.specs.JobChanges.{NotAfter, IsFirst}
 use Rattle.jobs.proofs.Changes.{choice-is-first, job-among-the-rest, place-holds-job}
 use Rattle.run.specs.declared.Run.{Run}
-use Rattle.run.specs.Ticking.{ticked}
-use Rattle.run.proofs.Ticking.{counted}
+use Rattle.run.specs.Ticking.{isTaken, ticked}
+use Rattle.run.proofs.Ticking.{counted, taken-where, taken-means, idle-means}
 use Rattle.jobs.specs.Answers.{hasFinished}
-use Rattle.run.specs.Answers.{idle, ran, tickSays}
+use Rattle.run.specs.Answers.{idle, ran, taken, tickSays}
 use Rattle.promise.specs.Traces.{Call, Event, eventOf, runAt, trace, clockOf, jobsOfTrace, unitsOf, unfinished}
-use Rattle.promise.specs.Choice.{IdleWhenAllHaveTheirCost, GoesFirst, RanFirst, EarliestDueFirst, lateAt, LateCountIsTheLate}
+use Rattle.promise.specs.Choice.{TakenWhenTheTimerTakes, IdleWhenAllHaveTheirCost, SomeJobRan, RunsWhenFree}
+use Rattle.promise.specs.Choice.{GoesFirst, RanFirst, EarliestDueFirst, lateAt, LateCountIsTheLate}
 use Rattle.promise.specs.Link.{jobOf}
 use Rattle.promise.proofs.RunAndTrace.{Bridge}
 use Rattle.promise.proofs.RunsFollow.{bridge}
@@ -130,29 +132,77 @@ module _ {t : Table} {run : Run} {es : List Event} (b : Bridge t run es) where
     first-ran : RanFirst es (first .serial .0) (hasFinished (ranOf first .finished))
     first-ran = record { job = jobOf first; its-serial = refl; first = first-goes-first; finishes = first-finishes }
 
+  -- Where every accepted job has had its cost, nothing is pending.
+  all-done : ((j : Job) → List·Memᴰ j (jobsOfTrace es) → unitsOf (j .name) es ≡ j .cost) → run .pending .count ≡ 0
+  all-done done = by-lt 0 (run .pending .count)
+      (λ some. let owed = pending-is-owed b (first some) (first-pending some) in absurd (omega (arith, done (jobOf (first some)) (owed .was-accepted))))
+      (λ none. omega arith)
+
+  -- ---- the timer
+
+  -- The table's timer takes the next tick.
+  abbrev TakesNext : Type 0
+  TakesNext = clockOf es % t .p < t .s
+
+  -- The run's own timer takes the next tick exactly when the table's does.
+  takes-next : (isTaken run ≡ true) ↔ TakesNext
+  takes-next = rw (← b .same-clock, ← b .same-table) (taken-where run)
+
+  -- The next tick of the run is free exactly when the table's timer does not take it.
+  free-next : (isTaken run ≡ false) ↔ (¬ TakesNext)
+  free-next = (
+    λ free k. let takes = takes-next .1 k in impossible cc,
+    λ not. by-test (isTaken run) (λ takes. absurd (not (takes-next .0 takes))) (λ free. free),
+  )
+
   -- ---- the answer of a tick
 
-  -- A tick is idle exactly when every accepted job has had its cost.
-  pub idle-when-done : clockOf es < maxTime
-      → (tickSays (ticked run .answer) ≡ idle) ↔ ((j : Job) → List·Memᴰ j (jobsOfTrace es) → unitsOf (j .name) es ≡ j .cost)
-  idle-when-done in-time =
-      let clock = b .same-clock in
-      each-tick run (b .sound)
-      (λ step. (tickSays (step .answer) ≡ idle) ↔ ((j : Job) → List·Memᴰ j (jobsOfTrace es) → unitsOf (j .name) es ≡ j .cost))
-      (λ last. absurd (omega arith))
-      (λ h none. (λ e. none-pending none, λ done. refl))
-      (λ h some. (
-        λ e. impossible cc,
-        λ done. absurd (let owed = pending-is-owed b (first some) (first-pending some) in omega (arith, done (jobOf (first some)) (owed .was-accepted))),
-      ))
+  -- In this part the tick is called for before the clock is at 2^40.
+  module _ (in-time : clockOf es < maxTime) where
+    -- The run's own clock is below 2^40 too.
+    here : run .clock .0 < maxTime
+    here = omega (arith, b .same-clock)
+
+    -- A tick is taken exactly when the table's timer takes it.
+    pub taken-by-the-timer : (tickSays (ticked run .answer) ≡ taken) ↔ TakesNext
+    taken-by-the-timer =
+        rw (← b .same-clock, ← b .same-table) (λ said. taken-means run .0 said .2, λ k. taken-means run .1 (b .sound, here, k))
+
+    -- A tick is idle exactly when it is not taken and every accepted job has had its cost.
+    pub idle-when-done : (tickSays (ticked run .answer) ≡ idle)
+        ↔ ((¬ TakesNext) × ((j : Job) → List·Memᴰ j (jobsOfTrace es) → unitsOf (j .name) es ≡ j .cost))
+    idle-when-done = (
+      λ said. let known = idle-means run .0 said in (free-next .0 (known .2), none-pending (known .3)),
+      λ k. idle-means run .1 (b .sound, here, free-next .1 (k .0), all-done (k .1)),
+    )
+
+    -- A tick answers that a job ran exactly when it is not taken and some accepted job is unfinished.
+    pub ran-when-free : SomeJobRan (tickSays (ticked run .answer))
+        ↔ ((¬ TakesNext) × ((j : Job) × List·Memᴰ j (jobsOfTrace es) × (unfinished es j ≡ true)))
+    ran-when-free =
+        each-tick run (b .sound)
+        (λ step. SomeJobRan (tickSays (step .answer)) ↔ ((¬ TakesNext) × ((j : Job) × List·Memᴰ j (jobsOfTrace es) × (unfinished es j ≡ true))))
+        (λ last. absurd (omega (arith, here)))
+        (λ h takes. (λ said. let e = said .2 in impossible cc, λ k. absurd (k .0 (takes-next .0 takes))))
+        (λ h free none. (
+          λ said. let e = said .2 in impossible cc,
+          λ k. let j = k .1 .0 in absurd (omega (arith, none-pending none j (k .1 .1), ltb-true (unitsOf (j .name) es) (j .cost) (k .1 .2))),
+        ))
+        (λ h free some. (
+          λ said.
+              let p = first some in
+              (free-next .0 free, (jobOf p, pending-is-owed b p (first-pending some) .was-accepted, pending-is-unfinished b p (first-pending some))),
+          λ k. (_, _, refl),
+        ))
 
   -- A tick that ran a job ran the one that goes first.
   pub ran-the-first : (serial : ℕ) (finished : Bool) → tickSays (ticked run .answer) ≡ ran serial finished → RanFirst es serial finished
   ran-the-first serial finished =
       each-tick run (b .sound) (λ step. tickSays (step .answer) ≡ ran serial finished → RanFirst es serial finished)
       (λ last e. impossible cc)
-      (λ h none e. impossible cc)
-      (λ h some. rw (first-stands some) (λ e.
+      (λ h takes e. impossible cc)
+      (λ h free none e. impossible cc)
+      (λ h free some. rw (first-stands some) (λ e.
       let its-serial : first some .serial .0 ≡ serial = cc in
       let its-finish : hasFinished (ranOf (first some) .finished) ≡ finished = cc in
       rw (← its-serial, ← its-finish) (first-ran some)))
@@ -182,8 +232,9 @@ module _ {t : Table} {run : Run} {es : List Event} (b : Bridge t run es) where
   unfolding lateCount
   late-after-the-tick = each-tick run (b .sound) (λ step. step .late ≡ lateCount (run .clock .0 + 1) (jobsOf (step .run .pending)))
       (λ last. sym (none-due-past (run .clock .0 + 1) (omega arith)))
-      (λ h none. ap (lateCount (run .clock .0 + 1)) (sym (no-jobs none)))
-      (λ h some. refl)
+      (λ h takes. refl)
+      (λ h free none. ap (lateCount (run .clock .0 + 1)) (sym (no-jobs none)))
+      (λ h free some. refl)
 
 -- The late count of a tick is the number of accepted jobs that are late by the trace after it. This holds at the clock 2^40 too, since no job is due after it.
 pub late-of-the-trace : {t : Table} {run : Run} {es : List Event} → Bridge t run es → Bridge t (ticked run .run) (eventOf run Call.tick ∷ es)
@@ -194,9 +245,17 @@ late-of-the-trace {run = run} {es = es} b next =
 
 -- ---- the promises
 
--- A tick is idle exactly when every accepted job has had its cost.
+-- A tick is taken exactly when the timer takes it.
+pub taken-when-the-timer-takes : TakenWhenTheTimerTakes
+taken-when-the-timer-takes bytes ok calls = taken-by-the-timer (bridge bytes ok calls)
+
+-- A tick is idle exactly when it is not taken and every accepted job has had its cost.
 pub idle-when-all-have-their-cost : IdleWhenAllHaveTheirCost
 idle-when-all-have-their-cost bytes ok calls = idle-when-done (bridge bytes ok calls)
+
+-- A tick answers that a job ran exactly when it is not taken and some accepted job is unfinished.
+pub runs-when-free : RunsWhenFree
+runs-when-free bytes ok calls = ran-when-free (bridge bytes ok calls)
 
 -- A tick that runs a job runs the unfinished job with the earliest due time.
 pub earliest-due-first : EarliestDueFirst

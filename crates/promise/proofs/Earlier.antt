@@ -2,15 +2,17 @@
 -- newest, and the jobs that were released before that time had been accepted. So a job that is due had its cost before its due time. (6.26)
 use Prim.Native.Nat.{ℕ, suc, _-_, _≤_, _<_}
 use mathlib.Core.Path.{_≡_, refl, sym}
+use mathlib.Core.Option.{Option}
 use mathlib.Core.List.{List, [], _∷_, List·Memᴰ, List·Memᴰ·head, List·Memᴰ·tail}
 use native.Mathlib.Omega.{arith}
 use lib.ListN.{drop}
 use Rattle.theory.specs.Jobs.{Job}
 use Rattle.theory.proofs.Cases.{by-eq}
-use Rattle.run.specs.Answers.{accepted, idle, ran}
+use Rattle.run.specs.Answers.{accepted, TickSays, idle, ran, taken}
 use Rattle.run.specs.Answers as says
 use Rattle.promise.specs.Traces.{Call, Event, runAt, eventOf, trace, told, clockOf, jobsOfTrace, ticksOf}
 use Rattle.promise.specs.InTime.{InTimeBeforeDue}
+use Rattle.promise.proofs.Ticks.{no-job-by-a-tick}
 use Rattle.promise.proofs.InTime.{in-time, due-times-come}
 
 -- The time was reached before the event e, and e changes neither the ticks up to that time nor the jobs that were released before it.
@@ -25,17 +27,22 @@ not-the-newest time late j (List·Memᴰ·head e) = λ early. absurd (omega (ari
 not-the-newest time late j (List·Memᴰ·tail m) = λ early. m
 
 module _ (time : ℕ) (es : List Event) where
+  -- Where the clock is past a time after a tick that went by, whoever had it, the time was reached before that tick.
+  past-a-tick : (a : TickSays) (late : ℕ) (who : Option ℕ)
+      → clockOf (Event.tick a late ∷ es) ≡ suc (clockOf es) → ticksOf (Event.tick a late ∷ es) ≡ who ∷ ticksOf es
+      → time < clockOf (Event.tick a late ∷ es) → OneBack time (Event.tick a late) es
+  past-a-tick a late who now ticks h =
+      let one : suc (clockOf es) - time ≡ suc (clockOf es - time) = omega arith in
+      record { reached = omega arith; same-ticks = rw (now, ticks, one); same-jobs = rw (no-job-by-a-tick a late es) (λ j m early. m) }
+
   -- Where the clock is past a time after one more event, the time was reached before that event.
   one-back : (e : Event) → time < clockOf (e ∷ es) → OneBack time e es
   unfolding told
   one-back (Event.release row cost (accepted serial due)) h = record { reached = omega arith; same-ticks = refl; same-jobs = not-the-newest time (omega arith) }
   one-back (Event.release row cost (says.ReleaseSays.refused n place)) h = record { reached = omega arith; same-ticks = refl; same-jobs = λ j m early. m }
-  one-back (Event.tick idle late) h =
-      let one : suc (clockOf es) - time ≡ suc (clockOf es - time) = omega arith in
-      record { reached = omega arith; same-ticks = rw one; same-jobs = λ j m early. m }
-  one-back (Event.tick (ran serial finished) late) h =
-      let one : suc (clockOf es) - time ≡ suc (clockOf es - time) = omega arith in
-      record { reached = omega arith; same-ticks = rw one; same-jobs = λ j m early. m }
+  one-back (Event.tick idle late) h = past-a-tick idle late _ refl refl h
+  one-back (Event.tick (ran serial finished) late) h = past-a-tick (ran serial finished) late _ refl refl h
+  one-back (Event.tick taken late) h = past-a-tick taken late _ refl refl h
   one-back (Event.tick (says.TickSays.refused n place) late) h = record { reached = omega arith; same-ticks = refl; same-jobs = λ j m early. m }
 
 -- This is the point of a trace at which the clock was at a time.

@@ -37,7 +37,8 @@ use Rattle.verdict.specs.Demand.{tableDemand, tableGrowth, largestD, largestOf}
 use Rattle.verdict.specs.Verdict.{RightOf, RightOfRead, Judged, verdictSays}
 use Rattle.verdict.proofs.Accepted.{accepted-is-known}
 use Rattle.verdict.proofs.Verdicts.{verdicts-said-apart}
-use Rattle.promise.specs.Examples.{dueTimesFrom, RightVerdictSays, feasible, overloaded, v1, v2, v3, v4, v5, v6, v7, v8, ExamplesHold}
+use Rattle.promise.specs.Examples.{dueTimesFrom, RightVerdictSays, feasible, overloaded, ExamplesHold}
+use Rattle.promise.specs.Examples.{v1, v2, v3, v4, v5, v6, v7, v8, t1, t2, t3, t4, t5, t6, t7}
 
 -- ---- looks that can be made by computing
 
@@ -73,14 +74,14 @@ accepted-right t a period v accepted right = rw accepted right
 
 module _ (s : List ℕ) (period : ℕ) (bytes : allBytes s ≡ true) (accepted : tableRead s .answer ≡ answer.Accepted period) where
   -- A table is feasible where its demand grows by at most the period in a period, and every length up to period + largest d fits.
-  feasible-by-look : leb (tableGrowth (tableRead s .table) period) period ≡ true → looks (tableDemand (tableRead s .table)) (period + largestD (tableRead s .table)) ≡ true
-      → RightVerdictSays s feasible
+  pub feasible-by-look : leb (tableGrowth (tableRead s .table) period) period ≡ true
+      → looks (tableDemand (tableRead s .table)) (period + largestD (tableRead s .table)) ≡ true → RightVerdictSays s feasible
   feasible-by-look within fits =
       let known = accepted-is-known s period (are-bytes s bytes) accepted in (
         verdict.Feasible,
         accepted-right (tableRead s .table) (tableRead s .answer) period verdict.Feasible accepted
-            (settled-within-a-period (tableDemand (tableRead s .table)) (largestD (tableRead s .table)) period (tableGrowth (tableRead s .table) period) (known .curve)
-            (known .some-period) (leb-true (tableGrowth (tableRead s .table) period) period within) (looked _ _ fits)),
+            (settled-within-a-period (tableDemand (tableRead s .table)) (largestD (tableRead s .table)) period (tableGrowth (tableRead s .table) period)
+            (known .curve) (known .some-period) (leb-true (tableGrowth (tableRead s .table) period) period within) (looked _ _ fits)),
         refl,
       )
 
@@ -151,7 +152,8 @@ then p q = (p, q)
 
 pub examples-hold : ExamplesHold
 unfolding
-    tableDemand tableGrowth largestOf total rowDemand rowJobs rowGrowth readRows leastCommonMultiple firstMultiple reading.spelt spelling.groupsOf flatten dueTime
+    tableDemand tableGrowth largestOf total rowDemand rowJobs rowGrowth readRows leastCommonMultiple firstMultiple reading.spelt spelling.groupsOf flatten
+    dueTime
 examples-hold =
     then (feasible-by-look v1 1 refl refl refl refl)
     (then (feasible-by-look v2 2 refl refl refl refl)
@@ -162,16 +164,25 @@ examples-hold =
     (then (overloaded-by-look v6 6 refl refl 4 6 refl refl refl)
     (then (overloaded-by-look v7 1 refl refl 0 2 refl refl refl)
     (then (overloaded-by-look v8 2 refl refl 25 27 refl refl refl)
+    (then (feasible-by-look t1 4 refl refl refl refl)
+    (then (feasible-by-look t2 4 refl refl refl refl)
+    (then refl
+    (then (feasible-by-look t3 12 refl refl refl refl)
+    (then refl
+    (then (overloaded-by-look t4 12 refl refl 11 13 refl refl refl)
+    (then (overloaded-by-look t5 4 refl refl 2 4 refl refl refl)
+    (then (overloaded-by-look t6 10 refl refl 6 8 refl refl refl)
+    (then (overloaded-by-look t7 2 refl refl 17 19 refl refl refl)
     (then (due-by-rule 1 2 6 (0 ∷ 0 ∷ 0 ∷ 3 ∷ 3 ∷ 6 ∷ []) _ refl refl refl refl refl)
     (then (due-by-rule 3 6 6 (0 ∷ 0 ∷ 0 ∷ 3 ∷ 3 ∷ 6 ∷ []) _ refl refl refl refl refl)
     (then (due-by-rule 1 2 6 (0 ∷ 20 ∷ []) _ refl refl refl refl refl)
-    tt)))))))))))
+    tt))))))))))))))))))))
 
 -- A right verdict that says the same as w is w.
-judged-so : (bytes : List ℕ) (w : Verdict) → RightVerdictSays bytes (verdictSays w) → Judged bytes w
+pub judged-so : (bytes : List ℕ) (w : Verdict) → RightVerdictSays bytes (verdictSays w) → Judged bytes w
 judged-so bytes w says = subst (Judged bytes) (verdicts-said-apart (says .0) w (says .2)) (says .1)
 
--- These are the verdicts of V1, V3, V4 and V8 by themselves.
+-- These are the verdicts of V1, V3, V4, V8 and T6 by themselves.
 pub v1-is-feasible : Judged v1 verdict.Feasible
 v1-is-feasible = judged-so v1 verdict.Feasible (examples-hold .0)
 
@@ -183,3 +194,7 @@ v4-is-overloaded = judged-so v4 (verdict.Overloaded (record { length = 11; deman
 
 pub v8-is-overloaded : Judged v8 (verdict.Overloaded (record { length = 26; demand = 27 }))
 v8-is-overloaded = judged-so v8 (verdict.Overloaded (record { length = 26; demand = 27 })) (examples-hold .1 .1 .1 .1 .1 .1 .1 .1 .0)
+
+pub t6-is-overloaded : Judged t6 (verdict.Overloaded (record { length = 7; demand = 8 }))
+t6-is-overloaded =
+    judged-so t6 (verdict.Overloaded (record { length = 7; demand = 8 })) (examples-hold .1 .1 .1 .1 .1 .1 .1 .1 .1 .1 .1 .1 .1 .1 .1 .1 .0)

@@ -10,35 +10,28 @@ use mathlib.Core.List.{List, [], _∷_, _++_, flatten, map, append-assoc, List·
 use lib.Dec.{leb, eqb}
 use lib.ListN.{length, length-append}
 use Rattle.kinds.specs.Numbering.{Said, refusalAt, refusedWith, refusalNumber, numbered}
-use Rattle.kinds.specs.declared.Refusal.{Refusal}
 use Rattle.kinds.specs.declared.Refusal.the-variants.{HopelessRow}
-use Rattle.kinds.specs.declared.RefusedAt.{RefusedAt}
 use Rattle.kinds.proofs.Apart.{impossible}
 use Rattle.kinds.proofs.Numbering.{no-answer}
 use Rattle.numbers.specs.Spelling.{spelling}
-use Rattle.numbers.specs.SpelledNumbers.{Bytes}
 use Rattle.theory.proofs.Cases.{by-eq, by-test}
 use Rattle.table.specs.declared.Row.{Row}
 use Rattle.table.specs.declared.Table.{Table}
 use Rattle.table.specs.declared.TableAnswer.{TableAnswer}
 use Rattle.table.specs.declared.TableAnswer.the-variants as answer
-use Rattle.table.specs.Limits.{maxRows}
-use Rattle.table.specs.Content.{rowsAlone}
 use Rattle.table.specs.Tables.{tableRead}
 use Rattle.table.specs.Answers.{tableSays}
 use Rattle.table.specs.SpelledTables.{WithinLimits, AcceptableRow, spelledRow, spelledTable}
-use Rattle.table.specs.Refusals.{PartStands, HopelessRowAt}
+use Rattle.table.specs.Refusals.{PartStands, HopelessRowIn}
 use Rattle.table.proofs.Each.{Each, each-none, each-cons, each-head, each-tail}
 use Rattle.table.proofs.Spelling.{stands-whole, parted}
 use Rattle.table.proofs.SpelledTables.{accepted-is-usable}
 use Rattle.table.proofs.TableAnswers.{refused-with-sixteen}
 use Rattle.verdict.specs.declared.Verdict.{Verdict}
 use Rattle.verdict.specs.declared.Verdict.the-variants as verdict
-use Rattle.verdict.specs.Verdict.{RightOf, RightOfRead, Judged, verdictSays}
-use Rattle.run.specs.declared.Run.{Run}
-use Rattle.run.specs.Runs.{startAnswer, rowAt, started}
-use Rattle.run.specs.Sound.{soundOf, Whole}
-use Rattle.run.specs.Release.{refusedRelease, released}
+use Rattle.verdict.specs.Verdict.{RightOf, RightOfRead, verdictSays}
+use Rattle.run.specs.Runs.{startAnswer}
+use Rattle.run.specs.Sound.{soundOf}
 use Rattle.run.specs.Answers.{startSays, releaseSays, tickSays}
 use Rattle.run.proofs.Sound.{sound-means}
 use Rattle.run.proofs.Release.{not-sound}
@@ -46,7 +39,7 @@ use Rattle.run.proofs.Ticking.{tick-unsound}
 use Rattle.log.specs.SpelledLogs.{spelledLog}
 use Rattle.play.specs.Play.{Progress, Played, whole, stopped, played}
 use Rattle.play.specs.Late.{lateFinishes}
-use Rattle.play.specs.Refusals.{StoppedFor, the-table}
+use Rattle.play.specs.Refusals.{the-table}
 use Rattle.play.proofs.Stopping.{stopped-means}
 use Rattle.play.proofs.BadBytes.{stopped-with-sixteen}
 use Rattle.replay.specs.declared.Replayed.{Replayed}
@@ -109,8 +102,8 @@ replay-says-hopeless table script room place rows records = (
   λ p. ap (λ q. replaySays (replayOutcome room (length script) q)) (from (exactly .1 p)),
 )
   where
-    exactly : (tableSays (tableRead table .answer) ≡ refusedWith 16 place → HopelessRowAt table 0 place)
-        × (HopelessRowAt table 0 place → tableSays (tableRead table .answer) ≡ refusedWith 16 place)
+    exactly : (tableSays (tableRead table .answer) ≡ refusedWith 16 place → HopelessRowIn table place)
+        × (HopelessRowIn table place → tableSays (tableRead table .answer) ≡ refusedWith 16 place)
     exactly = refused-with-sixteen table place rows
 
     to : (p : Played) → played table script ≡ p → replaySays (replayOutcome room (length script) p) ≡ refusalAt 16 place
@@ -167,34 +160,56 @@ spelled-around [] r after = refl
 spelled-around (q ∷ before) r after =
     ap (λ l. spelledRow q ++ l) (spelled-around before r after) ∙ sym (append-assoc (spelledRow q) (flatten (map spelledRow before)) _)
 
+-- Three parts stand one after the other, from the first byte on.
+record InTurn (s first second third : List ℕ) : Type 0 where
+  from : ℕ
+  at : ℕ
+  next : ℕ
+  stands-first : PartStands s 0 first from
+  stands-second : PartStands s from second at
+  stands-third : PartStands s at third next
+
+-- Bytes that are made of three parts and a rest have these parts in turn.
+in-turn : (s first second third rest : List ℕ) → s ≡ first ++ (second ++ (third ++ rest)) → InTurn s first second third
+in-turn s first second third rest apart =
+    let one = parted first (second ++ (third ++ rest)) (subst (λ part. PartStands s 0 part (length s)) apart (stands-whole s)) in
+    let two = parted second (third ++ rest) (one .2) in
+    let three = parted third rest (two .2) in
+    record { from = one .0; at = two .0; next = three .0; stands-first = one .1; stands-second = two .1; stands-third = three .1 }
+
 pub hopeless-is-refused : HopelessIsRefused
-hopeless-is-refused rows more few within r m above =
-    let f = first-hopeless rows within r m above in
+hopeless-is-refused content more good few within r m above =
+    let f = first-hopeless (content .rows) within r m above in
     let row = f .row in
-    let count = spelling (length rows) in
+    let timer = spelling (content .s) ++ spelling (content .p) in
+    let count = spelling (length (content .rows)) in
     let first = spelling (row .x) ++ (spelling (row .y) ++ spelling (row .d)) in
     let front = flatten (map spelledRow (f .before)) in
     let rest = flatten (map spelledRow (f .after)) ++ more in
-    let s = spelledTable (rowsAlone rows) ++ more in
-    let apart : s ≡ (count ++ (front ++ first)) ++ (spelling (row .c) ++ rest) =
-    ap (λ l. (count ++ l) ++ more) (ap (λ l. flatten (map spelledRow l)) (f .all) ∙ spelled-around (f .before) row (f .after)) ∙ simp (append-assoc)
+    let apart : spelledTable content ++ more ≡ timer ++ ((count ++ (front ++ first)) ++ (spelling (row .c) ++ rest)) =
+    ap (λ l. (spelling (content .s) ++ (spelling (content .p) ++ (count ++ l))) ++ more)
+    (ap (λ l. flatten (map spelledRow l)) (f .all) ∙ spelled-around (f .before) row (f .after)) ∙ simp (append-assoc)
     in
-    let stands = subst (λ part. PartStands s 0 part (length s)) apart (stands-whole s) in
-    let t = parted (count ++ (front ++ first)) (spelling (row .c) ++ rest) stands in
-    let c = parted (spelling (row .c)) rest (t .2) in (
-      t .0,
+    let parts = in-turn (spelledTable content ++ more) timer (count ++ (front ++ first)) (spelling (row .c)) rest apart in (
+      parts .at,
       record {
-        count = length rows;
-        rows = f .before;
-        row = row;
-        next = c .0;
-        few-rows = few;
-        fewer = omega (arith, ap length (f .all), length-append (f .before) (row ∷ f .after));
-        rows-acceptable = f .acceptable;
-        in-range = f .in-range;
-        c-above-d = f .c-above-d;
-        before = t .1;
-        its-c = c .1;
+        s = content .s;
+        p = content .p;
+        from = parts .from;
+        timer = record { good-timer = good; before = parts .stands-first };
+        its-row = record {
+          count = length (content .rows);
+          rows = f .before;
+          row = row;
+          next = parts .next;
+          few-rows = few;
+          fewer = omega (arith, ap length (f .all), length-append (f .before) (row ∷ f .after));
+          rows-acceptable = f .acceptable;
+          in-range = f .in-range;
+          c-above-d = f .c-above-d;
+          before = parts .stands-second;
+          its-c = parts .stands-third;
+        };
       },
     )
 

@@ -1,6 +1,7 @@
--- In time: the proof. On a feasible table every length fits. In no window do the accepted jobs ask for more than the table's demand, row by row. The ticks so
--- far are a trace of the theory in which the earliest due job goes first and no tick idles while a job waits. So the theory's theorem applies. Beside it stand
--- the clock, which comes to every due time, and the due times, which are all at 2^40 or before. (5.4, 6.26)
+-- In time: the proof. On a feasible table every length fits. In no window do the accepted jobs ask for more than the rows' own demand, row by row, and in no
+-- window does the timer take more ticks than it does in a window of that length that begins at zero. The ticks so far are a trace of the theory in which the
+-- earliest due job goes first and no free tick idles while a job waits. So the theory's theorem applies. Beside it stand the clock, which comes to every due
+-- time, and the due times, which are all at 2^40 or before. (5.3, 5.4, 6.26)
 use Prim.Native.Nat.{ℕ, suc, _+_, _≤_, _<_, min}
 use mathlib.Core.Path.{_≡_, refl}
 use mathlib.Core.Logic.{⊎-elim}
@@ -13,12 +14,13 @@ use Rattle.numbers.specs.SpelledNumbers.{Bytes}
 use Rattle.theory.specs.Lists.{All}
 use Rattle.theory.specs.Curves.{EveryLengthFits}
 use Rattle.theory.specs.Jobs.{Job, BoundedBy}
+use Rattle.theory.specs.Ticks.{timerTakes, TakenAtMost}
 use Rattle.theory.specs.Sources.{own}
 use Rattle.theory.specs.Trace.{ServedOrEnded, served, ended}
 use Rattle.theory.proofs.Lists.{all-imply, all-at, total-zero}
 use Rattle.theory.proofs.Demand.{no-demand-below-d}
 use Rattle.theory.proofs.DueTimes.{due-at-least-d}
-use Rattle.theory.proofs.Ticks.{all-free}
+use Rattle.theory.proofs.Timers.{timer-takes-at-most}
 use Rattle.theory.proofs.EarliestDue.{trace-is-in-time as in-time-by-the-theory}
 use Rattle.theory.proofs.Sources.{sum-of-sources}
 use Rattle.table.specs.declared.Row.{Row}
@@ -29,7 +31,7 @@ use Rattle.table.specs.Tables.{noRow, rowsOf, tableRead}
 use Rattle.table.proofs.Tables.{rows-used}
 use Rattle.verdict.specs.declared.Verdict.{Verdict}
 use Rattle.verdict.specs.declared.Verdict.the-variants as verdict
-use Rattle.verdict.specs.Demand.{rowDemandOf, tableDemand}
+use Rattle.verdict.specs.Demand.{rowDemandOf, rowsDemand, tableDemand}
 use Rattle.verdict.specs.Verdict.{RightOfRead, verdictSays}
 use Rattle.verdict.proofs.Rows.{row-within, rows-within}
 use Rattle.due.proofs.NewestKept.{due-given}
@@ -38,6 +40,7 @@ use Rattle.run.specs.Runs.{rowAt, keptOf}
 use Rattle.run.proofs.Release.{each-release}
 use Rattle.run.specs.Answers.{releaseSays, tickSays}
 use Rattle.promise.specs.Traces.{Call, Event, runAt, eventOf, trace, told, clockOf, jobsOfTrace, ticksOf, unitsOf}
+use Rattle.promise.specs.Link.{takenOn}
 use Rattle.promise.specs.InTime.{SaidFeasible, InTime, NeverMore, OneJobASerial, ticksIn, ClockCountsTicks, DueTimesCome}
 use Rattle.promise.proofs.RunAndTrace.{Bridge}
 use Rattle.promise.proofs.RunsFollow.{bridge}
@@ -63,30 +66,37 @@ feasible-fits bytes said = right-and-feasible (tableRead bytes .table) (tableRea
 module _ {t : Table} {run : Run} {es : List Event} (b : Bridge t run es) where
   -- ---- what the accepted jobs ask for
 
-  -- In every window the accepted jobs ask for at most the table's demand.
-  demand-bounds : BoundedBy (tableDemand t) (jobsOfTrace es)
-  unfolding tableDemand
+  -- In every window the accepted jobs ask for at most the rows' own demand.
+  demand-bounds : BoundedBy (rowsDemand t) (jobsOfTrace es)
   demand-bounds = sum-of-sources Row rowDemandOf noRow (rowsOf t) (jobsOfTrace es) (rw (rows-used (b .table-in-range)) (b .rows-in-use))
       (λ row h.
       let in-use : row < t .count = omega (arith, rows-used (b .table-in-range)) in
       rw (getD-take (t .count) (t .rows) row noRow in-use) (row-share b row in-use))
 
-  -- In a window of no length the table has no demand.
-  no-demand-at-zero : tableDemand t 0 ≡ 0
-  unfolding tableDemand
+  -- In a window of no length the rows have no demand.
+  no-demand-at-zero : rowsDemand t 0 ≡ 0
   no-demand-at-zero =
       let limits = rows-within (b .table-in-range) (t .count) (omega arith) in
       total-zero (λ r. rowDemandOf r 0) (rowsOf t)
       (all-imply (λ r within. no-demand-below-d (r .x) (r .y) (r .d) (r .c) 0 (within .some-d)) (rowsOf t) limits)
 
+  -- ---- what the timer takes
+
+  -- In every window the run's timer takes at most as many ticks as the table's demand has for it.
+  taken-at-most : TakenAtMost (timerTakes (t .s) (t .p)) (takenOn (run .table))
+  taken-at-most =
+      let good = b .table-in-range .good-timer in
+      rw (b .same-table) (timer-takes-at-most (t .s) (t .p) (good .some-p) (omega (arith, good .s-below-p)))
+
   -- ---- in time
 
   -- Where every length fits, an accepted job that is due has had its cost.
   pub due-had-its-cost : EveryLengthFits (tableDemand t) → (j : Job) → List·Memᴰ j (jobsOfTrace es) → j .due ≤ clockOf es → unitsOf (j .name) es ≡ j .cost
+  unfolding tableDemand
   due-had-its-cost fits j m due =
       let f = b .follows in
-      let all = in-time-by-the-theory (f .events) (f .earliest-due) (f .never-idle) (b .distinct) (tableDemand t) (λ L. 0) demand-bounds
-      (λ from to h. omega (arith, all-free from to)) no-demand-at-zero (λ L h. omega (arith, fits L h)) in
+      let all = in-time-by-the-theory (f .events) (f .earliest-due) (f .never-idle) (b .distinct) (rowsDemand t) (timerTakes (t .s) (t .p))
+      demand-bounds taken-at-most no-demand-at-zero fits in
       by-end (all-at (λ (i : Job). i .due ≤ clockOf es → ServedOrEnded i (ticksOf es) []) all m due)
     where
       by-end : ServedOrEnded j (ticksOf es) [] → unitsOf (j .name) es ≡ j .cost
@@ -97,15 +107,16 @@ module _ {t : Table} {run : Run} {es : List Event} (b : Bridge t run es) where
 
 module _ {t : Table} {run : Run} {es : List Event} (b : Bridge t run es) where
   -- A tick takes the clock up by one, and never above 2^40.
-  clock-after-a-tick : clockOf (eventOf run Call.tick ∷ es) ≡ min (suc (clockOf es)) maxTime
+  pub clock-after-a-tick : clockOf (eventOf run Call.tick ∷ es) ≡ min (suc (clockOf es)) maxTime
   unfolding told
   clock-after-a-tick =
       let clock = b .same-clock in
       let in-time : run .clock .0 ≤ maxTime = sound-facts b .clock-in-time in
       each-tick run (b .sound) (λ step. clockOf (Event.tick (tickSays (step .answer)) (step .late) ∷ es) ≡ min (suc (clockOf es)) maxTime)
       (λ last. omega arith)
-      (λ h none. omega arith)
-      (λ h some. omega arith)
+      (λ h takes. omega arith)
+      (λ h free none. omega arith)
+      (λ h free some. omega arith)
 
 -- ---- due times
 

@@ -1,14 +1,15 @@
 -- The promises at work: the proofs.
-use Prim.Native.Nat.{_≤_}
+use Prim.Native.Nat.{ℕ, _≤_}
 use mathlib.Core.Path.{_≡_, refl}
-use mathlib.Core.List.{[], _∷_, flatten, List·Memᴰ, List·Memᴰ·head, List·Memᴰ·tail}
+use mathlib.Core.List.{List, flatten, List·Memᴰ, List·Memᴰ·head, List·Memᴰ·tail}
 use native.Mathlib.Omega.{arith}
+use borrow.Author.Tests.{leb-true}
 use Rattle.numbers.specs.SpelledNumbers.{Bytes}
 use Rattle.numbers.specs.Reading as reading
 use Rattle.numbers.specs.Spelling as spelling
 use Rattle.theory.specs.Lists.{total}
 use Rattle.theory.specs.Jobs.{Job, weighed}
-use Rattle.theory.specs.Demand.{rowJobs}
+use Rattle.theory.specs.Demand.{rowJobs, rowDemand, rowGrowth}
 use Rattle.theory.specs.Sources.{own, inTurn}
 use Rattle.theory.specs.Trace.{units}
 use Rattle.theory.specs.DueTimes.{dueTime}
@@ -23,48 +24,47 @@ use Rattle.run.specs.Sound.{soundOf, jobFits, jobSound}
 use Rattle.run.specs.Release.{released}
 use Rattle.run.specs.Ticking.{ticked}
 use Rattle.verdict.specs.declared.Verdict.the-variants.{Feasible, Overloaded}
-use Rattle.promise.specs.Traces.{runAt, trace, told, clockOf, jobsOfTrace}
+use Rattle.verdict.specs.Demand.{tableDemand, tableGrowth, largestOf}
+use Rattle.verdict.specs.Verdict.{Judged}
+use Rattle.promise.specs.Traces.{Call, Event, runAt, trace, told, clockOf, jobsOfTrace, unitsOf}
 use Rattle.promise.specs.NoOrder.{firstJobs, keptAfter, unitsBy}
-use Rattle.promise.specs.Examples.{v3, v4}
-use Rattle.promise.specs.Instances.{calls, AnswersAreThese, job, ThreeJobs, AllThreeInTime, ShareIsReached, NamedByV4, NobodyServesV4, SomebodyServesV4Later}
+use Rattle.promise.specs.Examples.{v3, v4, t6}
+use Rattle.promise.specs.Instances.{calls, answers, AnswersAreThese, job, ThreeJobs, AllThreeInTime, ShareIsReached}
+use Rattle.promise.specs.Instances.{NamedByV4, NobodyServesV4, SomebodyServesV4Later, NamedByT6, NobodyServesT6, SomebodyServesT6Later}
+use Rattle.promise.specs.Instances.{r2, timedCalls, TimedAnswers, TimedInTime, LateInATakenTick}
 use Rattle.promise.proofs.InTime.{in-time}
 use Rattle.promise.proofs.NoOrder.{no-order}
-use Rattle.promise.proofs.Examples.{are-bytes, v3-is-feasible, v4-is-overloaded}
+use Rattle.promise.proofs.Examples.{are-bytes, feasible-by-look, judged-so, v3-is-feasible, v4-is-overloaded, t6-is-overloaded}
 
 pub answers-are-these : AnswersAreThese
 unfolding
-    runAt trace released ticked soundOf jobFits jobSound put takenOut after lateCount goesBefore dueOf keptWith keptSound dueTime readRows leastCommonMultiple firstMultiple reading.spelt spelling.groupsOf flatten
+    runAt trace released ticked soundOf jobFits jobSound put takenOut after lateCount goesBefore dueOf keptWith keptSound dueTime readRows leastCommonMultiple
+    firstMultiple reading.spelt spelling.groupsOf flatten
 answers-are-these = refl
 
 pub three-jobs : ThreeJobs
 unfolding told
 three-jobs = (refl, refl)
 
+-- *In time*, where the answers are known: on a feasible table, a job that was accepted and is due by the clock has had its cost.
+had-its-cost : (bytes : List ℕ) → Bytes bytes → Judged bytes Feasible → (calls : List Call) (es : List Event) → trace bytes calls ≡ es
+    → (j : Job) → List·Memᴰ j (jobsOfTrace es) → j .due ≤ clockOf es → unitsOf (j .name) (trace bytes calls) ≡ j .cost
+had-its-cost bytes fine feasible calls es same j accepted due =
+    in-time bytes fine (record { answer = Feasible; judged = feasible; feasible = refl }) calls j (rw same accepted) (rw same due)
+
+-- The table V3 is made of bytes.
 v3-in-bytes : Bytes v3
 unfolding spelling.groupsOf flatten
 v3-in-bytes = are-bytes v3 refl
 
--- Each of the three jobs was accepted, and the clock is at its due time or past it.
-record Due (j : Job) : Type 0 where
-  pub accepted : List·Memᴰ j (jobsOfTrace (trace v3 calls))
-  pub due : j .due ≤ clockOf (trace v3 calls)
-
-clock-at-8 : clockOf (trace v3 calls) ≡ 8
-clock-at-8 = rw answers-are-these (three-jobs .1)
-
-among-the-three : (j : Job) → List·Memᴰ j (job 2 0 4 8 2 ∷ job 1 1 0 6 3 ∷ job 0 0 0 4 2 ∷ []) → j .due ≤ 8 → Due j
-among-the-three j m due = record { accepted = rw answers-are-these (rw (three-jobs .0) m); due = rw clock-at-8 due }
-
 -- By *In time*, each of the three jobs has had its cost.
 pub all-three-in-time : AllThreeInTime
+unfolding told
 all-three-in-time =
-    let says = in-time v3 v3-in-bytes (record { answer = Feasible; judged = v3-is-feasible; feasible = refl }) calls in
-    let first = among-the-three (job 0 0 0 4 2) (List·Memᴰ·tail (List·Memᴰ·tail (List·Memᴰ·head refl))) (omega arith) in
-    let second = among-the-three (job 1 1 0 6 3) (List·Memᴰ·tail (List·Memᴰ·head refl)) (omega arith) in
-    let third = among-the-three (job 2 0 4 8 2) (List·Memᴰ·head refl) (omega arith) in (
-      says (job 0 0 0 4 2) (first .accepted) (first .due),
-      says (job 1 1 0 6 3) (second .accepted) (second .due),
-      says (job 2 0 4 8 2) (third .accepted) (third .due),
+    let had-it = had-its-cost v3 v3-in-bytes v3-is-feasible calls answers answers-are-these in (
+      had-it (job 0 0 0 4 2) (List·Memᴰ·tail (List·Memᴰ·tail (List·Memᴰ·head refl))) (omega arith),
+      had-it (job 1 1 0 6 3) (List·Memᴰ·tail (List·Memᴰ·head refl)) (omega arith),
+      had-it (job 2 0 4 8 2) (List·Memᴰ·head refl) (omega arith),
     )
 
 -- What row 0 consumes is worked out from the answers.
@@ -77,6 +77,7 @@ unfolding
     firstJobs keptAfter inTurn rowJobs dueOf keptWith dueTime readRows leastCommonMultiple firstMultiple reading.spelt spelling.groupsOf flatten
 named-by-v4 = refl
 
+-- The table V4 is made of bytes.
 v4-in-bytes : Bytes v4
 unfolding spelling.groupsOf flatten
 v4-in-bytes = are-bytes v4 refl
@@ -89,5 +90,54 @@ nobody-serves-v4 who =
 
 -- The units of this order are counted, and they serve the same jobs where each is due one tick later.
 pub somebody-serves-v4-later : SomebodyServesV4Later
-unfolding unitsBy
-somebody-serves-v4-later = rw named-by-v4 (omega arith, (omega arith, (omega arith, (omega arith, (omega arith, tt)))))
+unfolding unitsBy readRows leastCommonMultiple firstMultiple reading.spelt spelling.groupsOf flatten
+somebody-serves-v4-later = rw named-by-v4
+    (leb-true _ _ refl, (leb-true _ _ refl, (leb-true _ _ refl, (leb-true _ _ refl, (leb-true _ _ refl, tt)))))
+
+-- ---- with a timer
+
+pub named-by-t6 : NamedByT6
+unfolding
+    firstJobs keptAfter inTurn rowJobs dueOf keptWith dueTime readRows leastCommonMultiple firstMultiple reading.spelt spelling.groupsOf flatten
+named-by-t6 = refl
+
+-- The table T6 is made of bytes.
+t6-in-bytes : Bytes t6
+unfolding spelling.groupsOf flatten
+t6-in-bytes = are-bytes t6 refl
+
+-- By *No order*, nobody serves the job that the witness of T6 names.
+pub nobody-serves-t6 : NobodyServesT6
+nobody-serves-t6 who =
+    rw named-by-t6 at (no-order t6 t6-in-bytes (Overloaded (record { length = 7; demand = 8 })) t6-is-overloaded 7 8 refl who)
+
+-- Four of the first 8 ticks of T6 are counted as free.
+pub somebody-serves-t6-later : SomebodyServesT6Later
+unfolding unitsBy readRows leastCommonMultiple firstMultiple reading.spelt spelling.groupsOf flatten
+somebody-serves-t6-later = (leb-true _ _ refl, tt)
+
+pub timed-answers : TimedAnswers
+unfolding
+    runAt trace released ticked soundOf jobFits jobSound put takenOut after lateCount goesBefore dueOf keptWith keptSound dueTime readRows leastCommonMultiple
+    firstMultiple reading.spelt spelling.groupsOf flatten
+timed-answers = refl
+
+-- The table of R2 is feasible, by a look at its lengths.
+r2-is-feasible : Judged r2 Feasible
+unfolding tableDemand tableGrowth largestOf total rowDemand rowJobs rowGrowth readRows leastCommonMultiple firstMultiple reading.spelt
+r2-is-feasible = judged-so r2 Feasible (feasible-by-look r2 8 refl refl refl refl)
+
+-- By *In time*, both jobs have had their cost.
+pub timed-in-time : TimedInTime
+unfolding told
+timed-in-time =
+    let had-it = had-its-cost r2 (are-bytes r2 refl) r2-is-feasible timedCalls _ timed-answers in (
+      had-it (job 0 0 0 6 2) (List·Memᴰ·tail (List·Memᴰ·head refl)) (omega arith),
+      had-it (job 1 1 0 8 3) (List·Memᴰ·head refl) (omega arith),
+    )
+
+pub late-in-a-taken-tick : LateInATakenTick
+unfolding
+    runAt trace released ticked soundOf jobFits jobSound put takenOut after lateCount goesBefore dueOf keptWith keptSound dueTime readRows leastCommonMultiple
+    firstMultiple reading.spelt spelling.groupsOf flatten
+late-in-a-taken-tick = refl

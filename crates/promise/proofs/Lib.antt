@@ -24,3 +24,4 @@ pub mod Instances
 pub mod Cheats
 pub mod BadByte
 pub mod HopelessRows
+pub mod WithoutATimer

@@ -1,5 +1,5 @@
 -- The jobs that a length names are the theory's jobs that are all released at zero: the definitions that a release uses give them the same due times. So they
--- are as many as the demand counts, they are due by the recurrence and within the length, and they cost the demand. (5.10)
+-- are as many as the demand counts, they are due by the recurrence and within the length, and they cost the rows' demand. (5.10)
 use Prim.Native.Nat.{ℕ, zero, suc, _+_, _-_, _≤_, _<_}
 use mathlib.Core.Path.{_≡_, refl, ap, ap₂, _∙_}
 use mathlib.Core.Logic.{_≢_}
@@ -24,7 +24,7 @@ use Rattle.table.specs.declared.Table.{Table}
 use Rattle.table.specs.Tables.{noRow, rowsOf, tableRead}
 use Rattle.table.specs.SpelledTables.{WithinLimits}
 use Rattle.table.proofs.Ranges.{in-range-of}
-use Rattle.table.proofs.Tables.{rows-used}
+use Rattle.table.proofs.Tables.{rows-used, read-in-range}
 use Rattle.due.specs.declared.Due.the-variants as due
 use Rattle.due.specs.Kept.{dueOf}
 use Rattle.due.specs.KeptTimes.{KeepsNewest}
@@ -34,7 +34,6 @@ use Rattle.verdict.proofs.Rows.{row-within, rows-within}
 use Rattle.run.specs.Runs.{rowAt}
 use Rattle.promise.specs.NoOrder.{keptAfter, firstJobs, namedJobs}
 use Rattle.promise.specs.NamedJobs.{NamedOfRow, NamedJobsAreThePapers}
-use Rattle.promise.proofs.RunsFollow.{bridge}
 
 -- ---- the jobs of one row
 
@@ -231,7 +230,7 @@ pub named-jobs-are-the-papers : NamedJobsAreThePapers
 unfolding tableDemand
 named-jobs-are-the-papers bytes fine L in-time =
     let t = tableRead bytes .table in
-    let in-range = bridge bytes fine [] .table-in-range in
+    let in-range = read-in-range bytes fine in
     let within : All WithinLimits (rowsOf t) = rows-within in-range (t .count) (omega arith) in
     let its-own : (i first : ℕ) (r : Row) → All (λ j. j .source ≡ i) (theirs L i first r) =
     λ i first r. each-of-its-row (r .x) (r .y) (r .d) (r .c) i first (rowJobs (r .x) (r .y) (r .d) L) in
@@ -244,5 +243,5 @@ named-jobs-are-the-papers bytes fine L in-time =
           rw (zero-add, getD-take (t .count) (t .rows) row noRow in-use) at (found .1) in
           rw same (named-of-row (rowAt t row) (row-within in-range row in-use) L row (found .0));
       distinct = all-distinct L (rowsOf t);
-      cost-the-demand = total-flatten (λ j. j .cost) (inTurn (theirs L) 0 0 (rowsOf t)) ∙ all-cost L 0 0 (rowsOf t);
+      cost-the-demand = omega (arith, total-flatten (λ j. j .cost) (inTurn (theirs L) 0 0 (rowsOf t)), all-cost L 0 0 (rowsOf t));
     })

@@ -1,7 +1,9 @@
--- No order: the proof. The jobs that a witness of length L names are due by L and cost more than L, so no assignment serves them. (5.11)
+-- No order: the proof. The jobs that a witness of length L names are due by L and cost more than the ticks that the timer leaves free before L, so no
+-- assignment serves them. (5.11)
 use Prim.Native.Nat.{ℕ, zero, suc, _+_, _≤_}
 use mathlib.Core.Path.{_≡_, refl, ap}
 use mathlib.Core.Logic.{⊎-elim}
+use mathlib.Core.Bool.{Bool, cond}
 use mathlib.Core.Option.{Option}
 use mathlib.Core.List.{List, [], _∷_, flatten}
 use native.Mathlib.Omega.{arith}
@@ -10,13 +12,13 @@ use Rattle.kinds.proofs.Apart.{impossible}
 use Rattle.numbers.specs.SpelledNumbers.{Bytes}
 use Rattle.theory.specs.Lists.{All}
 use Rattle.theory.specs.Jobs.{Job}
-use Rattle.theory.specs.Ticks.{had, noneTaken}
+use Rattle.theory.specs.Ticks.{had}
 use Rattle.theory.specs.Curves.{SmallestFailing}
 use Rattle.theory.specs.Schedules.{unitsBefore, unitsIn, Meets}
 use Rattle.theory.specs.Sources.{inTurn}
 use Rattle.theory.proofs.Lists.{all-flatten}
 use Rattle.theory.proofs.Curves.{decided, one-smallest-failing, none-where-every-length-fits}
-use Rattle.theory.proofs.Ticks.{all-free}
+use Rattle.theory.proofs.Timers.{timer-takes-from-zero}
 use Rattle.theory.proofs.Schedules.{overload-of-sources}
 use Rattle.table.specs.declared.Table.{Table}
 use Rattle.table.specs.declared.TableAnswer.{TableAnswer}
@@ -32,32 +34,33 @@ use Rattle.verdict.proofs.Accepted.{Known, accepted-is-known}
 use Rattle.verdict.proofs.Verdicts.{verdicts-said-apart}
 use Rattle.verdict.proofs.Rows.{rows-within}
 use Rattle.verdict.proofs.Bounds.{last-at-most}
-use Rattle.promise.specs.NoOrder.{namedJobs, unitsBy, NoOrder}
+use Rattle.promise.specs.Link.{takenOn}
+use Rattle.promise.specs.NoOrder.{namedJobs, unitsBy, Serves, NoOrder}
 use Rattle.promise.specs.NamedJobs.{WitnessIsInTime}
 use Rattle.promise.proofs.NamedJobs.{theirs, all-due, all-cost, all-distinct, all-at-zero, same-named}
 
 -- ---- assignments
 
--- The units that count for a job by its due time are the theory's units, where every tick is free and the job is released at zero.
-same-units : (who : ℕ → Option ℕ) (n t : ℕ) → unitsBefore noneTaken who n t ≡ unitsBy t who n
-unfolding unitsBefore unitsBy
-same-units who n zero = refl
-same-units who n (suc t) = ap (λ m. had n (who t) + m) (same-units who n t)
+module _ (taken : ℕ → Bool) (who : ℕ → Option ℕ) where
+  -- The units that count for a job by its due time are the theory's units, where the job is released at zero.
+  same-units : (n t : ℕ) → unitsBefore taken who n t ≡ unitsBy taken t who n
+  unfolding unitsBefore unitsBy
+  same-units n zero = refl
+  same-units n (suc t) = ap (λ m. cond (taken t) 0 (had n (who t)) + m) (same-units n t)
 
--- No unit counts before time 0.
-none-before : (who : ℕ → Option ℕ) (n : ℕ) → unitsBy 0 who n ≡ 0
-unfolding unitsBy
-none-before who n = refl
+  -- No unit counts before time 0.
+  none-before : (n : ℕ) → unitsBy taken 0 who n ≡ 0
+  unfolding unitsBy
+  none-before n = refl
 
--- Jobs released at zero that have their cost in units that count have it by the theory's count too.
-meets : (who : ℕ → Option ℕ) (js : List Job) → All (λ j. j .release ≡ 0) js → All (λ j. j .cost ≤ unitsBy (j .due) who (j .name)) js
-    → Meets noneTaken who js
-unfolding unitsIn
-meets who [] zero-all had-all = tt
-meets who (j ∷ js) zero-all had-all = (
-  rw (zero-all .0) (omega (arith, had-all .0, same-units who (j .name) (j .due), same-units who (j .name) 0, none-before who (j .name))),
-  meets who js (zero-all .1) (had-all .1),
-)
+  -- Jobs released at zero that have their cost in units that count have it by the theory's count too.
+  meets : (js : List Job) → All (λ j. j .release ≡ 0) js → Serves taken who js → Meets taken who js
+  unfolding unitsIn
+  meets [] zero-all had-all = tt
+  meets (j ∷ js) zero-all had-all = (
+    rw (zero-all .0) (omega (arith, had-all .0, same-units (j .name) (j .due), same-units (j .name) 0, none-before (j .name))),
+    meets js (zero-all .1) (had-all .1),
+  )
 
 -- ---- the witness
 
@@ -73,16 +76,19 @@ witness-in-time t period known L smallest = ⊎-elim
     ))
     (decided (tableDemand t) (largestD t) period (tableGrowth t period) (known .curve) (known .some-period))
 
--- The jobs that a failing length names can't be served.
+-- The jobs that a failing length names can't be served on the ticks that the timer leaves free.
 not-served : (t : Table) (period : ℕ) → Known t period → (L : ℕ) → SmallestFailing (tableDemand t) L → (who : ℕ → Option ℕ)
-    → ¬ All (λ j. j .cost ≤ unitsBy (j .due) who (j .name)) (namedJobs t L)
+    → ¬ Serves (takenOn t) who (namedJobs t L)
 unfolding tableDemand
 not-served t period known L smallest who served =
     let within : All WithinLimits (rowsOf t) = rows-within (known .in-range) (t .count) (omega arith) in
     let same = same-named t L within (witness-in-time t period known L smallest) in
-    overload-of-sources noneTaken L (inTurn (theirs L) 0 0 (rowsOf t)) (all-distinct L (rowsOf t)) (all-due L 0 0 (rowsOf t) within)
-    (omega (arith, all-free 0 L, all-cost L 0 0 (rowsOf t), smallest .fails)) who
-    (meets who (flatten (inTurn (theirs L) 0 0 (rowsOf t))) (all-flatten (λ j. j .release ≡ 0) _ (all-at-zero L 0 0 (rowsOf t))) (rw same at served))
+    let good = known .in-range .good-timer in
+    let left = timer-takes-from-zero (t .s) (t .p) (good .some-p) (omega (arith, good .s-below-p)) L in
+    overload-of-sources (takenOn t) L (inTurn (theirs L) 0 0 (rowsOf t)) (all-distinct L (rowsOf t)) (all-due L 0 0 (rowsOf t) within)
+    (omega (arith, left, all-cost L 0 0 (rowsOf t), smallest .fails)) who
+    (meets (takenOn t) who (flatten (inTurn (theirs L) 0 0 (rowsOf t))) (all-flatten (λ j. j .release ≡ 0) _ (all-at-zero L 0 0 (rowsOf t)))
+    (rw same at served))
 
 -- A verdict that says 21 with the length L is the overloaded verdict with that length.
 pub says-overloaded : (v : Verdict) (L demand : ℕ) → verdictSays v ≡ record { number = 21; first = L; second = demand }

@@ -26,12 +26,13 @@ use Rattle.due.specs.Kept.{earlier, dueOf}
 use Rattle.due.proofs.NewestKept.{due-is-the-papers}
 use Rattle.jobs.specs.Places.{maxPlaces, jobsOf}
 use Rattle.run.specs.declared.Run.{Run}
+use Rattle.run.specs.declared.TickStep.{TickStep}
 use Rattle.run.specs.Runs.{rowInUse, rowAt, costLimit, keptOf}
 use Rattle.run.specs.Sound.{soundOf, Whole}
 use Rattle.run.specs.Release.{released}
 use Rattle.run.specs.Ticking.{ticked}
 use Rattle.run.proofs.Release.{bounded, each-release, one-test-means}
-use Rattle.run.proofs.Ticking.{counted}
+use Rattle.run.proofs.Ticking.{counted, tick-too-late}
 use Rattle.run.specs.Answers.{accepted, releaseSays, tickSays}
 use Rattle.run.specs.Answers as says
 use Rattle.promise.specs.Traces.{Call, Event, runAfter, eventOf, runAt, Told, told, clockOf, jobsOfTrace, unfinishedIn}
@@ -40,6 +41,7 @@ use Rattle.promise.proofs.RunAndTrace.{Bridge}
 use Rattle.promise.proofs.RunsFollow.{bridge}
 use Rattle.promise.proofs.Units.{sound-facts, unfinished-weigh-as-pending}
 use Rattle.promise.proofs.Ticks.{each-tick}
+use Rattle.promise.proofs.InTime.{clock-after-a-tick}
 
 -- ---- what a release looks at
 
@@ -118,20 +120,25 @@ module _ {t : Table} {run : Run} {es : List Event} (b : Bridge t run es) where
       each-tick run (b .sound)
       (λ step. (tickSays (step .answer) ≡ says.TickSays.refused number place) ↔ ((number ≡ 10) × (place ≡ 0) × (clockOf es ≡ maxTime)))
       (λ last. (λ e. (cc, cc, omega arith), λ h. rw (h .0, h .1)))
-      (λ h none. (λ e. impossible cc, λ k. absurd (omega arith)))
-      (λ h some. (λ e. impossible cc, λ k. absurd (omega arith)))
+      (λ h takes. (λ e. impossible cc, λ k. absurd (omega arith)))
+      (λ h free none. (λ e. impossible cc, λ k. absurd (omega arith)))
+      (λ h free some. (λ e. impossible cc, λ k. absurd (omega arith)))
 
--- A refused call leaves the run as it was.
-pub refused-leaves-the-run : (run : Run) → soundOf run ≡ true → (c : Call) → Refused (eventOf run c) → runAfter run c ≡ run
-refused-leaves-the-run run sound (Call.release row cost) =
-    each-release run row cost (λ step. Refused (Event.release row cost (releaseSays (step .answer))) → step .run ≡ run)
-    (λ r refused. refl)
-    (λ due passed given refused. absurd (omega (arith, ap (λ (t : Told). length (t .jobs)) (refused (told [])))))
-refused-leaves-the-run run sound Call.tick =
-    each-tick run sound (λ step. Refused (Event.tick (tickSays (step .answer)) (step .late)) → step .run ≡ run)
-    (λ last refused. refl)
-    (λ h none refused. absurd (omega (arith, ap (λ (t : Told). t .clock) (refused (told [])))))
-    (λ h some refused. absurd (omega (arith, ap (λ (t : Told). t .clock) (refused (told [])))))
+  -- A tick before the clock 2^40 is not refused, since it takes the clock up.
+  pub tick-not-refused : run .clock .0 < maxTime → ¬ Refused (eventOf run Call.tick)
+  unfolding told
+  tick-not-refused in-time refused =
+      omega (arith, clock-after-a-tick b, ap (λ (u : Told). u .clock) (refused (told es)), b .same-clock)
+
+  -- A refused call leaves the run as it was.
+  refused-leaves-the-run : (c : Call) → Refused (eventOf run c) → runAfter run c ≡ run
+  refused-leaves-the-run (Call.release row cost) =
+      each-release run row cost (λ step. Refused (Event.release row cost (releaseSays (step .answer))) → step .run ≡ run)
+      (λ r refused. refl)
+      (λ due passed given refused. absurd (omega (arith, ap (λ (u : Told). length (u .jobs)) (refused (told [])))))
+  refused-leaves-the-run Call.tick = by-lt (run .clock .0) maxTime
+      (λ in-time refused. absurd (tick-not-refused in-time refused))
+      (λ last refused. ap (λ (step : TickStep). step .run) (tick-too-late run (b .sound) last))
 
 -- ---- the promises
 
@@ -150,4 +157,4 @@ places-are-enough bytes ok calls = let b = bridge bytes ok calls in omega (arith
 -- A refused call changes nothing.
 pub refused-changes-nothing : RefusedChangesNothing
 unfolding runAt
-refused-changes-nothing bytes ok calls = refused-leaves-the-run (runAt bytes calls) (bridge bytes ok calls .sound)
+refused-changes-nothing bytes ok calls = refused-leaves-the-run (bridge bytes ok calls)

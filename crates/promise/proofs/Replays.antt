@@ -48,7 +48,7 @@ use Rattle.promise.proofs.RunsFollow.{bridge}
 use Rattle.promise.proofs.Units.{pending-is-owed}
 use Rattle.promise.proofs.Ticks.{no-job-by-a-tick, each-tick}
 use Rattle.promise.proofs.Choice.{first, first-stands, first-pending}
-use Rattle.promise.proofs.Refusals.{pending-count}
+use Rattle.promise.proofs.Refusals.{pending-count, tick-not-refused}
 
 -- ---- what a tick's answer tells
 
@@ -64,28 +64,23 @@ module _ {t : Table} {run : Run} {es : List Event} (b : Bridge t run es) (in-tim
   unfolding told
   late-told = each-tick run (b .sound) (λ step. lateIn (Event.tick (tickSays (step .answer)) (step .late) ∷ es) ≡ lateIn es + step .late)
       (λ last. absurd (omega arith))
-      (λ h none. refl)
-      (λ h some. refl)
+      (λ h takes. refl)
+      (λ h free none. refl)
+      (λ h free some. refl)
 
   -- The job that a tick finishes is recorded behind the jobs that finished before.
   finish-told : finishesIn (eventOf run Call.tick ∷ es) ≡ finishesIn es ++ finishedBy run
   unfolding told
   finish-told = each-tick run (b .sound) (λ step. finishesIn (Event.tick (tickSays (step .answer)) (step .late) ∷ es) ≡ finishesIn es ++ finishedBy run)
       (λ last. absurd (omega arith))
-      (λ h none. rw none)
-      (λ h some.
+      (λ h takes. rw takes)
+      (λ h free none. rw (free, none))
+      (λ h free some.
       let j = first b some in
       let found : jobOfSerial (j .serial .0) (jobsOfTrace es) ≡ jobOf j = found-by-serial (jobOf j) (b .distinct) (pending-is-owed b j (first-pending b some) .was-accepted) in
       by-test (lastUnit (firstJob (run .pending)))
-      (λ last. rw (last, lt-ltb 0 (run .pending .count) some, first-stands b some, found, b .same-clock, add-one))
-      (λ more. rw (more, lt-ltb 0 (run .pending .count) some)))
-
-  -- A tick before the clock 2^40 is not refused.
-  tick-not-refused : ¬ Refused (eventOf run Call.tick)
-  tick-not-refused = each-tick run (b .sound) (λ step. ¬ Refused (Event.tick (tickSays (step .answer)) (step .late)))
-      (λ last refused. absurd (omega arith))
-      (λ h none refused. absurd (omega (arith, ap (λ (u : Told). u .clock) (refused (told [])))))
-      (λ h some refused. absurd (omega (arith, ap (λ (u : Told). u .clock) (refused (told [])))))
+      (λ last. rw (free, last, lt-ltb 0 (run .pending .count) some, first-stands b some, found, b .same-clock, add-one))
+      (λ more. rw (free, more, lt-ltb 0 (run .pending .count) some)))
 
 -- ---- what a release's answer tells
 

@@ -2,9 +2,9 @@
 -- included. (6.25)
 use Prim.Native.Nat.{ℕ, _+_, _≤_, _<_}
 use mathlib.Core.Path.{_≡_, refl, ap}
+use mathlib.Core.Bool.{true, false}
 use mathlib.Core.List.{List, [], _∷_}
 use native.Mathlib.Omega.{arith}
-use native.Mathlib.Decide.{decLt, decLe}
 use Rattle.kinds.specs.declared.Tick.{Tick}
 use Rattle.kinds.specs.Numbering.{maxTime, refusalNumber}
 use Rattle.numbers.specs.SpelledNumbers.{Bytes}
@@ -28,18 +28,18 @@ use Rattle.run.specs.declared.Accepted.{Accepted}
 use Rattle.run.specs.declared.Released.the-variants as answer
 use Rattle.run.specs.Runs.{rowAt, started}
 use Rattle.run.specs.Release.{newJob, withJob, released}
-use Rattle.run.specs.Ticking.{runWith, idleTick, busyTick, ticked}
+use Rattle.run.specs.Ticking.{runWith, isTaken, takenTick, idleTick, busyTick, ticked}
 use Rattle.run.specs.History.{GaveDue}
 use Rattle.run.proofs.Fresh.{started-is-sound}
 use Rattle.run.proofs.Release.{Passed, each-release, release-keeps-sound, fresh-has-no-history, due-by-whole-history}
-use Rattle.run.proofs.Ticking.{Good, facts, counted, tick-too-late, tick-idle, tick-busy, idle-keeps, busy-keeps}
-use Rattle.run.specs.Answers.{accepted, releaseSays, TickSays, idle, tickSays}
+use Rattle.run.proofs.Ticking.{Good, facts, counted, taken-keeps, idle-keeps, busy-keeps}
+use Rattle.run.specs.Answers.{accepted, releaseSays, TickSays, idle, taken, tickSays}
 use Rattle.run.specs.Answers as says
 use Rattle.promise.specs.Traces.{Call, Event, runAt, trace, told, clockOf, jobsOfTrace}
 use Rattle.promise.specs.Link.{Follows, RunsFollowTheTheory}
 use Rattle.promise.proofs.RunAndTrace.{Bridge}
-use Rattle.promise.proofs.Waiting.{follows-refused-release, follows-refused-tick, follows-accepted, follows-idle, follows-ran}
-use Rattle.promise.proofs.Ticks.{no-job-by-a-tick}
+use Rattle.promise.proofs.Waiting.{follows-refused-release, follows-refused-tick, follows-accepted, follows-taken, follows-idle, follows-ran}
+use Rattle.promise.proofs.Ticks.{no-job-by-a-tick, each-tick}
 use Rattle.promise.proofs.Histories.{duesOf, dues-with, latest-by, by-rule-with}
 
 module _ {t : Table} {run : Run} {es : List Event} (b : Bridge t run es) where
@@ -85,9 +85,7 @@ module _ {t : Table} {run : Run} {es : List Event} (b : Bridge t run es) where
     job-waits : Follows next longer
     job-waits =
         let form : WellFormed (run .pending) = record { all-places = b .whole .all-places; in-places = facts run good .few-pending } in
-        let clock : run .clock .0 ≡ clockOf es = b .same-clock in
-        follows-accepted (b .follows) next row cost (run .next .0) (due .0) (newJob run row cost due) (p .some-cost) (rw clock)
-        (put-adds-one (run .pending) (newJob run row cost due) form (p .room))
+        follows-accepted (b .follows) row cost due (p .some-cost) (b .same-clock) (put-adds-one (run .pending) (newJob run row cost due) form (p .room))
 
     -- The accepted job comes next in its row by the rule of due times.
     job-by-rule : (i : ℕ) → row ≡ i → GaveDue run (duesOf (jobsOfTrace es)) row (due .0) next
@@ -156,34 +154,40 @@ module _ {t : Table} {run : Run} {es : List Event} (b : Bridge t run es) where
       tick-keeps (run .clock .0) (run .pending) _ 0 good (b .same-clock) (follows-refused-tick (b .follows) number place 0)
 
   module _ (in-time : run .clock .0 < maxTime) where
-    -- An idle tick keeps the bridge: the clock goes up by one, and nothing is pending.
-    idle-tick-keeps : run .pending .count ≡ 0 → Bridge t (idleTick run .run) (Event.tick idle 0 ∷ es)
+    -- A taken tick keeps the bridge: the clock goes up by one, and every pending job stays as it was.
+    taken-tick-keeps : isTaken run ≡ true → Bridge t (takenTick run .run) (Event.tick taken (takenTick run .late) ∷ es)
     unfolding told
-    idle-tick-keeps none =
-        tick-keeps (run .clock .0 + 1) (run .pending) idle 0 (idle-keeps run good in-time) (omega (arith, b .same-clock))
-        (follows-idle (b .follows) (run .clock .0 + 1) 0 (rw none))
+    taken-tick-keeps takes =
+        tick-keeps (run .clock .0 + 1) (run .pending) taken _ (taken-keeps run good in-time) (omega (arith, b .same-clock))
+        (follows-taken (b .follows) (run .clock .0 + 1) _ (rw (b .same-clock) at takes))
 
-    -- A tick that gives a unit to the job that goes first keeps the bridge.
-    busy-tick-keeps : 1 ≤ run .pending .count → Bridge t (busyTick run .run) (Event.tick (tickSays (busyTick run .answer)) (busyTick run .late) ∷ es)
-    unfolding told
-    busy-tick-keeps some =
-        let p = run .pending in
-        let at = firstPlace (jobsOf p) in
-        let first : IsFirst (jobsOf p) at = choice-is-first (jobsOf p) (omega (arith, counted run good)) in
-        let left = facts run good .jobs at (first .inside) .some-left in
-        rw (place-holds-job p at (first .inside))
-        (tick-keeps (run .clock .0 + 1) (oneTick p) _ _ (busy-keeps run good in-time some) (omega (arith, b .same-clock))
-        (follows-ran (b .follows) (run .clock .0 + 1) _ (oneTick p) at _ first left (after-a-unit p at (first .inside))))
+    module _ (free : isTaken run ≡ false) where
+      -- An idle tick keeps the bridge: the clock goes up by one, and nothing is pending.
+      idle-tick-keeps : run .pending .count ≡ 0 → Bridge t (idleTick run .run) (Event.tick idle 0 ∷ es)
+      unfolding told
+      idle-tick-keeps none =
+          tick-keeps (run .clock .0 + 1) (run .pending) idle 0 (idle-keeps run good in-time) (omega (arith, b .same-clock))
+          (follows-idle (b .follows) (run .clock .0 + 1) 0 (rw (b .same-clock) at free) (rw none))
+
+      -- A tick that gives a unit to the job that goes first keeps the bridge.
+      busy-tick-keeps : 1 ≤ run .pending .count → Bridge t (busyTick run .run) (Event.tick (tickSays (busyTick run .answer)) (busyTick run .late) ∷ es)
+      unfolding told
+      busy-tick-keeps some =
+          let p = run .pending in
+          let at = firstPlace (jobsOf p) in
+          let first : IsFirst (jobsOf p) at = choice-is-first (jobsOf p) (omega (arith, counted run good)) in
+          let left = facts run good .jobs at (first .inside) .some-left in
+          rw (place-holds-job p at (first .inside))
+          (tick-keeps (run .clock .0 + 1) (oneTick p) _ _ (busy-keeps run good in-time some) (omega (arith, b .same-clock))
+          (follows-ran (b .follows) (run .clock .0 + 1) _ (rw (b .same-clock) at free) (oneTick p) at _ first left (after-a-unit p at (first .inside))))
 
   -- The bridge holds after a tick, whatever its answer is.
   pub tick-keeps-bridge : Bridge t (ticked run .run) (Event.tick (tickSays (ticked run .answer)) (ticked run .late) ∷ es)
-  tick-keeps-bridge = elim (decLt (run .clock .0) maxTime) [
-    | no l ↦ rw (tick-too-late run (b .sound) (omega arith)) (refused-tick-keeps _ _)
-    | yes l ↦ elim (decLe 1 (run .pending .count)) [
-      | no m ↦ rw (tick-idle run (b .sound) l (omega arith)) (idle-tick-keeps l (omega arith))
-      | yes m ↦ rw (tick-busy run (b .sound) l m) (busy-tick-keeps l m)
-    ]
-  ]
+  tick-keeps-bridge = each-tick run (b .sound) (λ step. Bridge t (step .run) (Event.tick (tickSays (step .answer)) (step .late) ∷ es))
+      (λ last. refused-tick-keeps _ _)
+      taken-tick-keeps
+      idle-tick-keeps
+      busy-tick-keeps
 
 -- ---- every point of every trace
 
@@ -192,6 +196,7 @@ table-of-sound : (run : Run) → Good run → InRange (run .table)
 table-of-sound run still =
     let sound = facts run still in
     record {
+      good-timer = sound .good-timer;
       few-rows = sound .few-rows;
       all-places = still .1 .all-rows;
       rows-in-range = λ i h. in-range-means (rowAt (run .table) i) .1 (sound .rows i h);

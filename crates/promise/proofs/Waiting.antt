@@ -1,17 +1,18 @@
 -- Waiting jobs: the pending jobs in the theory's terms, and the theory's trace one event longer. A job that is put in comes last. A job that gets a unit leaves
--- its place, or goes back to it with one unit less to get. (6.7, 6.10, 6.13)
+-- its place, or goes back to it with one unit less to get. In a taken tick every job stays where it is. (6.5, 6.7, 6.10, 6.13)
 use Prim.Native.Nat.{ℕ, zero, suc, _-_, _≤_, _<_, suc-le-suc}
 use mathlib.Core.Path.{_≡_, refl}
-use mathlib.Core.Bool.{Bool}
+use mathlib.Core.Bool.{Bool, true, false}
 use mathlib.Core.List.{List, [], _∷_, _++_, map, map-append}
 use native.Mathlib.Nat.{not-suc-le-zero, le-of-suc-le-suc}
 use native.Mathlib.Omega.{arith}
 use native.Mathlib.Decide.{decLe}
 use lib.ListN.{length, set, getD}
 use borrow.Author.Tests.{le-leb, lt-leb}
+use Rattle.kinds.specs.declared.Tick.{Tick}
 use Rattle.theory.specs.Lists.{All, Insert, here, there}
 use Rattle.theory.specs.Jobs.{Job}
-use Rattle.theory.specs.Trace.{Waiting, Onward, done, on, accept, serve, ServesEarliestDue, NeverIdlesInVain}
+use Rattle.theory.specs.Trace.{Waiting, Onward, done, on, accept, lost, serve, ServesEarliestDue, NeverIdlesInVain}
 use Rattle.theory.specs.Trace as theory
 use Rattle.jobs.specs.declared.Job.{Job as PendingJob}
 use Rattle.jobs.specs.declared.Pending.{Pending}
@@ -19,11 +20,12 @@ use Rattle.jobs.specs.Places.{noJob, jobsOf, without}
 use Rattle.jobs.specs.Units.{worked}
 use Rattle.jobs.specs.JobChanges.{IsFirst, unitAt}
 use Rattle.run.specs.declared.Run.{Run}
+use Rattle.run.specs.Release.{newJob, withJob}
 use Rattle.run.specs.Ticking.{runWith}
-use Rattle.run.specs.Answers.{accepted, idle, ran}
+use Rattle.run.specs.Answers.{accepted, idle, ran, taken}
 use Rattle.run.specs.Answers as says
 use Rattle.promise.specs.Traces.{Event, told, clockOf}
-use Rattle.promise.specs.Link.{waitingOf, waitingIn, Follows}
+use Rattle.promise.specs.Link.{waitingOf, waitingIn, takenOn, Follows}
 
 -- ---- an element and its place
 
@@ -114,32 +116,39 @@ module _ {run : Run} {es : List Event} (f : Follows run es) where
   follows-refused-tick number place late = record { events = f .events; earliest-due = f .earliest-due; never-idle = f .never-idle }
 
   -- An accepted job is put behind the pending jobs, released at the clock, with all of its cost left.
-  pub follows-accepted : (next : Run) (row cost serial due : ℕ) (j : PendingJob) → 1 ≤ cost
-      → waitingOf j ≡ record { job = record { name = serial; source = row; release = clockOf es; due = due; cost = cost }; left = cost }
-      → jobsOf (next .pending) ≡ jobsOf (run .pending) ++ (j ∷ []) → Follows next (Event.release row cost (accepted serial due) ∷ es)
+  pub follows-accepted : (row cost : ℕ) (due : Tick) → 1 ≤ cost → run .clock .0 ≡ clockOf es
+      → jobsOf (withJob run row cost due .pending) ≡ jobsOf (run .pending) ++ (newJob run row cost due ∷ [])
+      → Follows (withJob run row cost due) (Event.release row cost (accepted (run .next .0) (due .0)) ∷ es)
   unfolding told ServesEarliestDue NeverIdlesInVain
-  follows-accepted next row cost serial due j some-cost its jobs =
-      let job : Job = record { name = serial; source = row; release = clockOf es; due = due; cost = cost } in
-      let put : Insert (record { job = job; left = cost }) (waitingIn run) (waitingIn next) = rw (jobs, ← its) (waits-last (jobsOf (run .pending)) j) in
+  follows-accepted row cost due some-cost clock jobs =
+      let job : Job = record { name = run .next .0; source = row; release = clockOf es; due = due .0; cost = cost } in
+      let put : Insert (record { job = job; left = cost }) (waitingIn run) (waitingIn (withJob run row cost due)) =
+      rw (jobs, ← clock) (waits-last (jobsOf (run .pending)) (newJob run row cost due)) in
       record { events = accept (f .events) job refl some-cost put; earliest-due = f .earliest-due; never-idle = f .never-idle }
 
   module _ (clock late : ℕ) where
-    -- A tick idles where nothing waits.
-    pub follows-idle : waitingIn run ≡ [] → Follows (runWith run clock (run .pending)) (Event.tick idle late ∷ es)
+    -- A tick that the timer takes is lost, and what waits waits on.
+    pub follows-taken : takenOn (run .table) (clockOf es) ≡ true → Follows (runWith run clock (run .pending)) (Event.tick taken late ∷ es)
     unfolding told ServesEarliestDue NeverIdlesInVain
-    follows-idle none = record { events = theory.Trace.idle (f .events) refl; earliest-due = f .earliest-due; never-idle = (none, f .never-idle) }
+    follows-taken takes = record { events = lost (f .events) takes; earliest-due = f .earliest-due; never-idle = f .never-idle }
 
-    -- A tick goes to the job at a place that comes after none of the others.
-    pub follows-ran : (p : Pending) (at : ℕ) (finished : Bool) → IsFirst (jobsOf (run .pending)) at → 1 ≤ getD (jobsOf (run .pending)) at noJob .left
-        → jobsOf p ≡ unitAt (jobsOf (run .pending)) at
-        → Follows (runWith run clock p) (Event.tick (ran (getD (jobsOf (run .pending)) at noJob .serial .0) finished) late ∷ es)
-    unfolding told ServesEarliestDue NeverIdlesInVain
-    follows-ran p at finished first some-left jobs =
-        let js = jobsOf (run .pending) in
-        let goes : Onward (waitingOf (its js at) .job) (left js at) (map waitingOf (without js at)) (map waitingOf (jobsOf p)) =
-        rw jobs (onward js at (first .inside) some-left) in
-        record {
-          events = serve (f .events) refl (waitingOf (its js at) .job) (left js at) (waited js at (first .inside) some-left) goes;
-          earliest-due = (due-first js at first, f .earliest-due);
-          never-idle = f .never-idle;
-        }
+    module _ (free : takenOn (run .table) (clockOf es) ≡ false) where
+      -- A free tick idles where nothing waits.
+      pub follows-idle : waitingIn run ≡ [] → Follows (runWith run clock (run .pending)) (Event.tick idle late ∷ es)
+      unfolding told ServesEarliestDue NeverIdlesInVain
+      follows-idle none = record { events = theory.Trace.idle (f .events) free; earliest-due = f .earliest-due; never-idle = (none, f .never-idle) }
+
+      -- A free tick goes to the job at a place that comes after none of the others.
+      pub follows-ran : (p : Pending) (at : ℕ) (finished : Bool) → IsFirst (jobsOf (run .pending)) at → 1 ≤ getD (jobsOf (run .pending)) at noJob .left
+          → jobsOf p ≡ unitAt (jobsOf (run .pending)) at
+          → Follows (runWith run clock p) (Event.tick (ran (getD (jobsOf (run .pending)) at noJob .serial .0) finished) late ∷ es)
+      unfolding told ServesEarliestDue NeverIdlesInVain
+      follows-ran p at finished first some-left jobs =
+          let js = jobsOf (run .pending) in
+          let goes : Onward (waitingOf (its js at) .job) (left js at) (map waitingOf (without js at)) (map waitingOf (jobsOf p)) =
+          rw jobs (onward js at (first .inside) some-left) in
+          record {
+            events = serve (f .events) free (waitingOf (its js at) .job) (left js at) (waited js at (first .inside) some-left) goes;
+            earliest-due = (due-first js at first, f .earliest-due);
+            never-idle = f .never-idle;
+          }

@@ -13,6 +13,7 @@ use Rattle.table.specs.Tables.{tableRead}
 use Rattle.replay.specs.Outcome.{replayOf, replaySays}
 use Rattle.host.specs.Answer.{VerdictAnswered}
 use Rattle.host.specs.Buffers.{Filled, ReplayLeaves}
+use Rattle.promise.specs.Link.{takenOn}
 use Rattle.promise.specs.InTime.{SaidFeasible}
 use Rattle.promise.specs.NoOrder.{namedJobs, Serves}
 
@@ -42,9 +43,9 @@ AtHostCalls = (table script : List ℕ) → Bytes table → Bytes script
     → (log answer : List ℕ) (status : ℕ) (after left : List ℕ) → ReplayLeaves table script log answer status after left
     → CallNotLate (length script) status after
 
--- Where `verdict` returns 21 for a table, nobody serves the jobs that the length L in the answer buffer names. L and the demand are the buffer's two numbers,
--- and L has at most 64 bits. (5.11, 9.5)
+-- Where `verdict` returns 21 for a table, nobody serves the jobs that the length L in the answer buffer names on the ticks that the timer leaves free. L and
+-- the demand are the buffer's two numbers, and L has at most 64 bits. (5.11, 9.5)
 abbrev pub NoOrderAtHostCalls : Type 0
 NoOrderAtHostCalls = (table : List ℕ) → Bytes table → (lent written : List ℕ) → VerdictAnswered table lent 21 written
     → (L demand : ℕ) → L < 2 ^ 64 → Filled (record { number = 21; first = L; second = demand }) written
-    → (who : ℕ → Option ℕ) → ¬ Serves who (namedJobs (tableRead table .table) L)
+    → (who : ℕ → Option ℕ) → ¬ Serves (takenOn (tableRead table .table)) who (namedJobs (tableRead table .table) L)

@@ -1,5 +1,5 @@
--- The examples of the rules, V1 to V8 and D1 to D3, as one list under one claim. For a feasible table the claim is that every length fits, however long. D1 to
--- D3 are claimed for every cost c in range. (4.8, 5.13)
+-- The examples of the rules, V1 to V8, T1 to T7 and D1 to D3, as one list under one claim. For a feasible table the claim is that every length fits, however
+-- long. D1 to D3 are claimed for every cost c in range. (4.8, 5.13, 5.15)
 use Prim.Native.Nat.{ℕ, _≤_}
 use mathlib.Core.Path.{_≡_}
 use mathlib.Core.List.{List, [], _∷_}
@@ -7,7 +7,7 @@ use Rattle.kinds.specs.Numbering.{Said}
 use Rattle.theory.specs.Lists.{All}
 use Rattle.table.specs.declared.Row.{Row}
 use Rattle.table.specs.Limits.{maxC}
-use Rattle.table.specs.Content.{rowsAlone}
+use Rattle.table.specs.Content.{Content, rowsAlone}
 use Rattle.table.specs.Tables.{tableRead}
 use Rattle.table.specs.SpelledTables.{spelledTable}
 use Rattle.due.specs.declared.Kept.{Kept}
@@ -17,7 +17,8 @@ use Rattle.verdict.specs.Demand.{tableDemand}
 use Rattle.verdict.specs.Verdict.{Judged, verdictSays}
 use Rattle.promise.specs.NoOrder.{dueAt}
 
--- An example is a table's bytes and what their verdict says, or a table's demand in a length, or releases of a row with their due times. (4.8, 5.13)
+-- An example is a table's bytes and what their verdict says, or a table's demand in a length, or releases of a row with their due times. (4.8, 5.13,
+-- 5.15)
 pub data Example : Type 0 where
   verdict : (bytes : List ℕ) → Said → Example
   demand : (bytes : List ℕ) (L units : ℕ) → Example
@@ -51,17 +52,25 @@ feasible = record { number = 20; first = 0; second = 0 }
 abbrev pub overloaded : (length units : ℕ) → Said
 overloaded length units = record { number = 21; first = length; second = units }
 
--- V1 is spelled `00`. V1 and V2 are written here by their bytes, and the other tables by their rows. (5.13)
+-- `timed` is a table's content by its timer's s and p and its rows. (1.2, 3.16)
+abbrev timed : (s p : ℕ) → List Row → Content
+timed s p rows = record { s = s; p = p; rows = rows }
+
+-- V1 is spelled `00 01 00`. V1 and V2 are written here by their bytes, and the other tables by their rows. (5.13)
 abbrev pub v1 : List ℕ
-v1 = 0x00 ∷ []
+v1 = 0x00 ∷ 0x01 ∷ 0x00 ∷ []
 
--- V2 is spelled `01 01 02 06 01`. (5.13)
+-- V2 is spelled `00 01 01 01 02 06 01`. (5.13)
 abbrev pub v2 : List ℕ
-v2 = 0x01 ∷ 0x01 ∷ 0x02 ∷ 0x06 ∷ 0x01 ∷ []
+v2 = 0x00 ∷ 0x01 ∷ 0x01 ∷ 0x01 ∷ 0x02 ∷ 0x06 ∷ 0x01 ∷ []
 
--- V3 has the rows (1, 4, 4, 2) and (1, 6, 6, 3). (5.13)
+-- V3 has these rows: (1, 4, 4, 2) and (1, 6, 6, 3). (5.13)
+abbrev pub rowsOfV3 : List Row
+rowsOfV3 = row 1 4 4 2 ∷ row 1 6 6 3 ∷ []
+
+-- V3 has its rows alone. (5.13)
 abbrev pub v3 : List ℕ
-v3 = spelledTable (rowsAlone (row 1 4 4 2 ∷ row 1 6 6 3 ∷ []))
+v3 = spelledTable (rowsAlone rowsOfV3)
 
 -- V4 has the rows (1, 4, 3, 2) and (1, 6, 5, 3). (5.13)
 abbrev pub v4 : List ℕ
@@ -83,7 +92,36 @@ v7 = spelledTable (rowsAlone (row 2 1 1 1 ∷ []))
 abbrev pub v8 : List ℕ
 v8 = spelledTable (rowsAlone (row 1 2 10 3 ∷ []))
 
--- The list has V1 to V8 with their verdicts, the demand of V3 in 12 ticks, and D1 to D3 with their due times. (4.8, 5.13)
+-- T1 is spelled `01 04 00`. T1 and T2 are written here by their bytes. (5.15)
+abbrev pub t1 : List ℕ
+t1 = 0x01 ∷ 0x04 ∷ 0x00 ∷ []
+
+-- T2 is spelled `01 04 01 01 04 04 03`. (5.15)
+abbrev pub t2 : List ℕ
+t2 = 0x01 ∷ 0x04 ∷ 0x01 ∷ 0x01 ∷ 0x04 ∷ 0x04 ∷ 0x03 ∷ []
+
+-- T3 has the rows of V3, and a timer with s = 0 and p = 12, which takes no tick. (5.15)
+abbrev pub t3 : List ℕ
+t3 = spelledTable (timed 0 12 rowsOfV3)
+
+-- T4 has the rows of V3, and a timer that takes one tick of every 12. (5.15)
+abbrev pub t4 : List ℕ
+t4 = spelledTable (timed 1 12 rowsOfV3)
+
+-- T5 has the row (1, 4, 3, 1), and a timer that takes three ticks of every 4. (5.15)
+abbrev pub t5 : List ℕ
+t5 = spelledTable (timed 3 4 (row 1 4 3 1 ∷ []))
+
+-- T6 has the row (1, 10, 7, 4), and a timer that takes two ticks of every 5. (5.15)
+abbrev pub t6 : List ℕ
+t6 = spelledTable (timed 2 5 (row 1 10 7 4 ∷ []))
+
+-- T7 has the row (1, 2, 10, 2), and a timer that takes every other tick. (5.15)
+abbrev pub t7 : List ℕ
+t7 = spelledTable (timed 1 2 (row 1 2 10 2 ∷ []))
+
+-- The list has V1 to V8 and T1 to T7 with their verdicts, the demand of V3 and T3 in 12 ticks and of T2 in 4, and D1 to D3 with their due times.
+-- (4.8, 5.13, 5.15)
 abbrev pub examples : List Example
 examples =
     verdict v1 feasible
@@ -95,12 +133,21 @@ examples =
     ∷ verdict v6 (overloaded 5 6)
     ∷ verdict v7 (overloaded 1 2)
     ∷ verdict v8 (overloaded 26 27)
+    ∷ verdict t1 feasible
+    ∷ verdict t2 feasible
+    ∷ demand t2 4 4
+    ∷ verdict t3 feasible
+    ∷ demand t3 12 12
+    ∷ verdict t4 (overloaded 12 13)
+    ∷ verdict t5 (overloaded 3 4)
+    ∷ verdict t6 (overloaded 7 8)
+    ∷ verdict t7 (overloaded 18 19)
     -- These three are D1 to D3.
     ∷ due-times 1 2 6 (0 ∷ 0 ∷ 0 ∷ 3 ∷ 3 ∷ 6 ∷ []) (6 ∷ 8 ∷ 10 ∷ 12 ∷ 14 ∷ 16 ∷ [])
     ∷ due-times 3 6 6 (0 ∷ 0 ∷ 0 ∷ 3 ∷ 3 ∷ 6 ∷ []) (6 ∷ 6 ∷ 6 ∷ 12 ∷ 12 ∷ 12 ∷ [])
     ∷ due-times 1 2 6 (0 ∷ 20 ∷ []) (6 ∷ 26 ∷ [])
     ∷ []
 
--- Every example of the rules holds. (4.8, 5.13)
+-- Every example of the rules holds. (4.8, 5.13, 5.15)
 abbrev pub ExamplesHold : Type 0
 ExamplesHold = All ExampleHolds examples

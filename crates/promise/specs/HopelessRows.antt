@@ -10,10 +10,11 @@ use Rattle.kinds.specs.Numbering.{refusalAt, refusedWith}
 use Rattle.numbers.specs.SpelledNumbers.{Bytes}
 use Rattle.table.specs.declared.Row.{Row}
 use Rattle.table.specs.Limits.{maxRows}
-use Rattle.table.specs.Content.{rowsAlone}
+use Rattle.table.specs.Content.{Content}
+use Rattle.table.specs.Timer.{GoodTimer}
 use Rattle.table.specs.Tables.{rowsOf, tableRead}
 use Rattle.table.specs.SpelledTables.{WithinLimits, spelledTable}
-use Rattle.table.specs.Refusals.{HopelessRowAt}
+use Rattle.table.specs.Refusals.{HopelessRowIn}
 use Rattle.verdict.specs.declared.Verdict.{Verdict}
 use Rattle.verdict.specs.Verdict.{Judged, verdictSays}
 use Rattle.run.specs.declared.Run.{Run}
@@ -32,24 +33,25 @@ use Rattle.host.specs.Buffers.{Filled, ReplayLeaves}
 -- The verdict says 16 at a place exactly when the c of a hopeless row begins there and no test before it refuses. (3.3, 10.3)
 abbrev pub VerdictSaysHopeless : Type 0
 VerdictSaysHopeless = (table : List ℕ) (v : Verdict) (place : ℕ) → Bytes table → Judged table v
-    → (verdictSays v ≡ refusalAt 16 place) ↔ HopelessRowAt table 0 place
+    → (verdictSays v ≡ refusalAt 16 place) ↔ HopelessRowIn table place
 
 -- A start says 16 at a place exactly when the c of a hopeless row begins there and no test before it refuses. (3.3, 6.4)
 abbrev pub StartSaysHopeless : Type 0
-StartSaysHopeless = (table : List ℕ) (place : ℕ) → Bytes table → (startSays (started table .answer) ≡ refusedWith 16 place) ↔ HopelessRowAt table 0 place
+StartSaysHopeless = (table : List ℕ) (place : ℕ) → Bytes table → (startSays (started table .answer) ≡ refusedWith 16 place) ↔ HopelessRowIn table place
 
 -- A replay says 16 at a place exactly when the c of a hopeless row of its table begins there and no test before it refuses, whatever the script is. (3.3, 8.1)
 abbrev pub ReplaySaysHopeless : Type 0
 ReplaySaysHopeless = (table script : List ℕ) (room place : ℕ) → Bytes table → Bytes script
-    → (replaySays (replayOf table script room) ≡ refusalAt 16 place) ↔ HopelessRowAt table 0 place
+    → (replaySays (replayOf table script room) ≡ refusalAt 16 place) ↔ HopelessRowIn table place
 
 -- ---- never a verdict
 
--- Where the values of all rows are in range and a row's c is above its d, the spelling of the rows has a hopeless row before which no test refuses, whatever
--- bytes follow it. So the verdict, a start and a replay all say 16 for these bytes. (3.3)
+-- Where the timer and the values of all rows are in range and a row's c is above its d, the spelling of the table has a hopeless row before which no test
+-- refuses, whatever bytes follow it. So the verdict, a start and a replay all say 16 for these bytes. (3.3)
 abbrev pub HopelessIsRefused : Type 0
-HopelessIsRefused = (rows : List Row) (more : List ℕ) → length rows ≤ maxRows → ((r : Row) → List·Memᴰ r rows → WithinLimits r)
-    → (r : Row) → List·Memᴰ r rows → r .d < r .c → (place : ℕ) × HopelessRowAt (spelledTable (rowsAlone rows) ++ more) 0 place
+HopelessIsRefused = (content : Content) (more : List ℕ) → GoodTimer (content .s) (content .p)
+    → length (content .rows) ≤ maxRows → ((r : Row) → List·Memᴰ r (content .rows) → WithinLimits r)
+    → (r : Row) → List·Memᴰ r (content .rows) → r .d < r .c → (place : ℕ) × HopelessRowIn (spelledTable content ++ more) place
 
 -- No table that gets a verdict has a row with c above d. (3.3)
 abbrev pub NoHopelessRowIsJudged : Type 0
@@ -67,7 +69,7 @@ HopelessRunIsRefused = (run : Run) → Whole run → (i : ℕ) → i < run .tabl
 -- An answer buffer holds the place of the c of a hopeless row, and 0. (9.5)
 pub record HopelessAt (table after : List ℕ) : Type 0 where
   pub place : ℕ
-  pub hopeless : HopelessRowAt table 0 place
+  pub hopeless : HopelessRowIn table place
   pub told : Filled (refusalAt 16 place) after
 
 -- Where `verdict` may return 16 for a table, the answer buffer points at the c of a hopeless row. (9.5, 10.3)

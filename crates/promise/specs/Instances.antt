@@ -1,19 +1,20 @@
 -- The promises at work. The first instance is a feasible table of two rows, with a trace of releases, refusals and ticks to which *In time* and *Share* apply.
--- The second is an overloaded table, with the jobs that its witness names. This page promises nothing new: it shows that the promises are not empty.
-use Prim.Native.Nat.{ℕ, zero, suc, _+_, _≤_}
+-- The second is an overloaded table, with the jobs that its witness names. The third is a feasible table with a timer, and the fourth a table on which a job
+-- becomes late in a taken tick. This page promises nothing new: it shows that the promises are not empty.
+use Prim.Native.Nat.{ℕ, zero, suc, _+_}
 use mathlib.Core.Path.{_≡_}
 use mathlib.Core.Bool.{true, false}
 use mathlib.Core.Option.{Option, none, some}
 use mathlib.Core.List.{List, [], _∷_, map}
-use Rattle.theory.specs.Lists.{All}
 use Rattle.theory.specs.Jobs.{Job}
 use Rattle.table.specs.Tables.{tableRead}
-use Rattle.run.specs.Answers.{accepted, idle, ran}
+use Rattle.run.specs.Answers.{accepted, idle, ran, taken}
 use Rattle.run.specs.Answers as says
 use Rattle.promise.specs.Traces.{Call, Event, trace, clockOf, jobsOfTrace, unitsOf}
 use Rattle.promise.specs.Share.{costsIn, consumedIn}
-use Rattle.promise.specs.NoOrder.{namedJobs, unitsBy, Serves}
-use Rattle.promise.specs.Examples.{v3, v4}
+use Rattle.promise.specs.Link.{takenOn}
+use Rattle.promise.specs.NoOrder.{namedJobs, Serves}
+use Rattle.promise.specs.Examples.{v3, v4, t6}
 
 -- The calls on V3 are a release of each row, two releases that are refused, four ticks, one more release, and four ticks. Like every list of calls they stand
 -- newest first.
@@ -64,7 +65,7 @@ NamedByV4 = namedJobs (tableRead v4 .table) 11
 -- The five jobs that the witness of V4 names cost 12 units in 11 ticks, so nobody can serve them. (5.11)
 abbrev pub NobodyServesV4 : Type 0
 NobodyServesV4 = (who : ℕ → Option ℕ)
-    → ¬ All (λ j. j .cost ≤ unitsBy (j .due) who (j .name)) (job 2 0 0 11 2 ∷ job 1 0 0 7 2 ∷ job 0 0 0 3 2 ∷ job 4 1 0 11 3 ∷ job 3 1 0 5 3 ∷ [])
+    → ¬ Serves (takenOn (tableRead v4 .table)) who (job 2 0 0 11 2 ∷ job 1 0 0 7 2 ∷ job 0 0 0 3 2 ∷ job 4 1 0 11 3 ∷ job 3 1 0 5 3 ∷ [])
 
 -- `oneLater` is a job that is due one tick later, and else the same.
 abbrev pub oneLater : Job → Job
@@ -79,4 +80,61 @@ inThisOrder (n ∷ ns) (suc t) = inThisOrder ns t
 -- If each of the five jobs were due one tick later, this order would serve them all. So it is not the way of counting units that makes V4 impossible.
 abbrev pub SomebodyServesV4Later : Type 0
 SomebodyServesV4Later =
-    Serves (inThisOrder (0 ∷ 0 ∷ 3 ∷ 3 ∷ 3 ∷ 1 ∷ 1 ∷ 2 ∷ 2 ∷ 4 ∷ 4 ∷ 4 ∷ [])) (map oneLater (namedJobs (tableRead v4 .table) 11))
+    Serves (takenOn (tableRead v4 .table)) (inThisOrder (0 ∷ 0 ∷ 3 ∷ 3 ∷ 3 ∷ 1 ∷ 1 ∷ 2 ∷ 2 ∷ 4 ∷ 4 ∷ 4 ∷ []))
+    (map oneLater (namedJobs (tableRead v4 .table) 11))
+
+-- ---- with a timer
+
+-- The witness of T6 has length 7 and demand 8: one job of 4 units, and the 4 ticks that the timer takes. (5.10, 5.15)
+abbrev pub NamedByT6 : Type 0
+NamedByT6 = namedJobs (tableRead t6 .table) 7 ≡ job 0 0 0 7 4 ∷ []
+
+-- Of the first 7 ticks of T6 the timer leaves three free, so nobody can serve a job of 4 units that is due at 7. (5.11)
+abbrev pub NobodyServesT6 : Type 0
+NobodyServesT6 = (who : ℕ → Option ℕ) → ¬ Serves (takenOn (tableRead t6 .table)) who (job 0 0 0 7 4 ∷ [])
+
+-- If the job were due one tick later, whoever gives it every tick would serve it: four of the first 8 ticks are free. (5.11)
+abbrev pub SomebodyServesT6Later : Type 0
+SomebodyServesT6Later = Serves (takenOn (tableRead t6 .table)) (λ t. some 0) (job 0 0 0 8 4 ∷ [])
+
+-- The table of R2 has s = 1 and p = 4, and the rows (1, 8, 6, 2) and (1, 8, 8, 3). (8.19)
+abbrev pub r2 : List ℕ
+r2 = 0x01 ∷ 0x04 ∷ 0x02 ∷ 0x01 ∷ 0x08 ∷ 0x06 ∷ 0x02 ∷ 0x01 ∷ 0x08 ∷ 0x08 ∷ 0x03 ∷ []
+
+-- The calls on the table of R2 are a release of each row and eight ticks, newest first.
+abbrev pub timedCalls : List Call
+timedCalls =
+    Call.tick ∷ Call.tick ∷ Call.tick ∷ Call.tick ∷ Call.tick ∷ Call.tick ∷ Call.tick ∷ Call.tick
+    ∷ Call.release 1 3 ∷ Call.release 0 2
+    ∷ []
+
+-- The ticks at 0 and 4 are taken, though jobs wait. The tick at 7 is idle: it is free, and nothing waits. (6.12, 8.19)
+abbrev pub TimedAnswers : Type 0
+TimedAnswers = trace r2 timedCalls
+    ≡ Event.tick idle 0 ∷ Event.tick (ran 1 true) 0 ∷ Event.tick (ran 1 false) 0 ∷ Event.tick taken 0
+    ∷ Event.tick (ran 1 false) 0 ∷ Event.tick (ran 0 true) 0 ∷ Event.tick (ran 0 false) 0 ∷ Event.tick taken 0
+    ∷ Event.release 1 3 (accepted 1 8) ∷ Event.release 0 2 (accepted 0 6)
+    ∷ []
+
+-- The table of R2 is feasible, so *In time* applies to these calls: with the clock at 8, both jobs have had their cost. (6.26)
+abbrev pub TimedInTime : Type 0
+TimedInTime = (unitsOf 0 (trace r2 timedCalls) ≡ 2) × (unitsOf 1 (trace r2 timedCalls) ≡ 3)
+
+-- This table has s = 2 and p = 4, and the row (1, 4, 5, 3). It is overloaded.
+abbrev pub dueInATakenStretch : List ℕ
+dueInATakenStretch = 0x02 ∷ 0x04 ∷ 0x01 ∷ 0x01 ∷ 0x04 ∷ 0x05 ∷ 0x03 ∷ []
+
+-- The calls on that table are a release and seven ticks, newest first.
+abbrev pub lateCalls : List Call
+lateCalls =
+    Call.tick ∷ Call.tick ∷ Call.tick ∷ Call.tick ∷ Call.tick ∷ Call.tick ∷ Call.tick
+    ∷ Call.release 0 3
+    ∷ []
+
+-- The job is due at 5, inside a taken stretch. The taken tick that takes the clock to 5 counts it as late. (6.14)
+abbrev pub LateInATakenTick : Type 0
+LateInATakenTick = trace dueInATakenStretch lateCalls
+    ≡ Event.tick (ran 0 true) 0 ∷ Event.tick taken 0 ∷ Event.tick taken 1
+    ∷ Event.tick (ran 0 false) 0 ∷ Event.tick (ran 0 false) 0 ∷ Event.tick taken 0 ∷ Event.tick taken 0
+    ∷ Event.release 0 3 (accepted 0 5)
+    ∷ []

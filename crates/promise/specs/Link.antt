@@ -1,12 +1,14 @@
--- The link to the theory. After any calls the answers are a trace in the sense of `theory`, one that serves the earliest due job first and never idles while a
--- job waits. The jobs that wait in it are the run's pending jobs, each with the units that it has left. So what the theory proves about such traces holds for
--- every run. (6.5, 6.11, 6.12)
+-- The link to the theory. After any calls the answers are a trace in the sense of `theory`, one that loses the ticks that the timer takes and no others, serves
+-- the earliest due job first, and never idles while a job waits. The jobs that wait in it are the run's pending jobs, each with the units that it has left. So
+-- what the theory proves about such traces holds for every run. (6.5, 6.11, 6.12)
 use Prim.Native.Nat.{ℕ}
+use mathlib.Core.Bool.{Bool}
 use mathlib.Core.List.{List, [], map}
 use Rattle.numbers.specs.SpelledNumbers.{Bytes}
 use Rattle.theory.specs.Jobs.{Job}
-use Rattle.theory.specs.Ticks.{noneTaken}
+use Rattle.theory.specs.Ticks.{timer}
 use Rattle.theory.specs.Trace.{Waiting, Trace, ServesEarliestDue, NeverIdlesInVain}
+use Rattle.table.specs.declared.Table.{Table}
 use Rattle.jobs.specs.declared.Job.{Job as PendingJob}
 use Rattle.jobs.specs.Places.{jobsOf}
 use Rattle.run.specs.declared.Run.{Run}
@@ -24,9 +26,14 @@ waitingOf j = record { job = jobOf j; left = j .left }
 abbrev pub waitingIn : Run → List Waiting
 waitingIn run = map waitingOf (jobsOf (run .pending))
 
--- A run and its answers so far follow the theory. No tick is taken away from the jobs, and no job leaves before it has had its cost. (6.5, 6.11, 6.12)
+-- The ticks that a table's timer takes: the tick at t is taken when t mod p < s. (6.5)
+abbrev pub takenOn : Table → ℕ → Bool
+takenOn t = timer (t .s) (t .p)
+
+-- A run and its answers so far follow the theory. The ticks that the timer takes are lost, and no others, and no job leaves before it has had its cost.
+-- (6.5, 6.11, 6.12)
 pub record Follows (run : Run) (es : List Event) : Type 0 where
-  pub events : Trace noneTaken (clockOf es) (waitingIn run) (jobsOfTrace es) (ticksOf es) []
+  pub events : Trace (takenOn (run .table)) (clockOf es) (waitingIn run) (jobsOfTrace es) (ticksOf es) []
   pub earliest-due : ServesEarliestDue events
   pub never-idle : NeverIdlesInVain events
 

@@ -1,7 +1,7 @@
 -- The jobs that a length names are the paper's. Of each row there are as many as the row's demand in this length counts. All are released at zero and at full
--- cost, and they are due as the paper's recurrence (1) says, within the length. Together they cost the table's demand. So no due time among them stands for a
--- refused one. (5.1, 5.10)
-use Prim.Native.Nat.{ℕ, _≤_, _<_}
+-- cost, and they are due as the paper's recurrence (1) says, within the length. Together with the ticks that the timer takes they make up the table's demand.
+-- So no due time among them stands for a refused one. (5.1, 5.3, 5.10)
+use Prim.Native.Nat.{ℕ, _+_, _≤_, _<_}
 use mathlib.Core.Path.{_≡_}
 use mathlib.Core.List.{List}
 use lib.ListN.{length}
@@ -9,6 +9,7 @@ use Rattle.kinds.specs.Numbering.{maxTime}
 use Rattle.numbers.specs.SpelledNumbers.{Bytes}
 use Rattle.theory.specs.Lists.{All, total}
 use Rattle.theory.specs.Jobs.{Job, DistinctNames}
+use Rattle.theory.specs.Ticks.{timerTakes}
 use Rattle.theory.specs.Demand.{rowJobs}
 use Rattle.theory.specs.DueTimes.{RecurrenceOne, jth, dues}
 use Rattle.theory.specs.Sources.{own}
@@ -30,12 +31,13 @@ pub record NamedOfRow (r : Row) (L : ℕ) (js : List Job) : Type 0 where
   pub by-the-recurrence : RecurrenceOne (r .x) (r .y) (r .d) (length js) (λ _. 0) (jth (dues js))
   pub due-within : All (λ j. j .due ≤ L) js
 
--- These are the jobs of a table that a length L names. No two have the same name, and together they cost the table's demand in L. (5.3, 5.10)
+-- These are the jobs of a table that a length L names. No two have the same name. What they cost together, and the ticks that the timer takes in L, make up the
+-- table's demand in L. (5.3, 5.10)
 pub record Named (t : Table) (L : ℕ) (js : List Job) : Type 0 where
   pub of-its-rows : All (λ j. j .source < t .count) js
   pub of-each-row : (row : ℕ) → row < t .count → NamedOfRow (rowAt t row) L (own row js)
   pub distinct : DistinctNames js
-  pub cost-the-demand : total (λ j. j .cost) js ≡ tableDemand t L
+  pub cost-the-demand : total (λ j. j .cost) js + timerTakes (t .s) (t .p) L ≡ tableDemand t L
 
 -- For any table and every length up to 2^40, the jobs that the length names are as `Named` says: as many as 5.10 counts, and due as the paper says. (5.10)
 abbrev pub NamedJobsAreThePapers : Type 0

@@ -1,9 +1,10 @@
 -- No order. On a table that `judge` finds overloaded, the witness of length L names, of each row with d ≤ L, its first (floor((L − d)/y) + 1) · x jobs, all
--- released at zero and at full cost. It names them all, however many places they would need in a run. They can't be run in time in any order by anybody.
--- (1.20, 5.10, 5.11)
+-- released at zero and at full cost. It names them all, however many places they would need in a run. They can't be run in time in any order by anybody:
+-- whoever tries has only the ticks that the timer leaves free, counted from zero. (1.20, 5.10, 5.11)
 use Prim.Native.Nat.{ℕ, zero, suc, _+_, _≤_, _<_}
 use mathlib.Core.Path.{_≡_}
 use mathlib.Core.Logic.{_↔_}
+use mathlib.Core.Bool.{Bool, false, cond}
 use mathlib.Core.Option.{Option, some}
 use mathlib.Core.List.{List, [], _∷_, flatten}
 use lib.ListN.{length}
@@ -24,6 +25,7 @@ use Rattle.due.specs.declared.Due.the-variants as due
 use Rattle.due.specs.Kept.{nothingKept, dueOf, keptWith}
 use Rattle.verdict.specs.declared.Verdict.{Verdict}
 use Rattle.verdict.specs.Verdict.{Judged, verdictSays}
+use Rattle.promise.specs.Link.{takenOn}
 
 -- ---- the jobs that a witness names
 
@@ -51,34 +53,35 @@ namedJobs t L = flatten (inTurn (λ source first r. firstJobs source first r (ro
 
 -- ---- anybody's order
 
--- An assignment is any function from ticks to an optional job. It may idle, name other jobs, or give too much. A unit counts for a job only where its tick ends
--- at the due time or before: tick t ends at t + 1. `unitsBy` is the number of units that count for the job named n. (1.8)
-unfoldable pub unitsBy : (due : ℕ) (who : ℕ → Option ℕ) (n : ℕ) → ℕ
-unitsBy zero who n = 0
-unitsBy (suc t) who n = had n (who t) + unitsBy t who n
+-- An assignment is any function from ticks to an optional job. It may idle, name other jobs, or give too much. A unit counts for a job only where its tick is
+-- free, and ends at the due time or before: tick t ends at t + 1. `unitsBy` is the number of units that count for the job named n. (1.8, 6.5)
+unfoldable pub unitsBy : (taken : ℕ → Bool) (due : ℕ) (who : ℕ → Option ℕ) (n : ℕ) → ℕ
+unitsBy taken zero who n = 0
+unitsBy taken (suc t) who n = cond (taken t) 0 (had n (who t)) + unitsBy taken t who n
 
 -- An assignment serves jobs when each of them has its cost in units that count. (1.8)
-abbrev pub Serves : (who : ℕ → Option ℕ) → List Job → Type 0
-Serves who js = All (λ j. j .cost ≤ unitsBy (j .due) who (j .name)) js
+abbrev pub Serves : (taken : ℕ → Bool) (who : ℕ → Option ℕ) → List Job → Type 0
+Serves taken who js = All (λ j. j .cost ≤ unitsBy taken (j .due) who (j .name)) js
 
 -- These ticks all come before a time, and are listed latest first.
 abbrev pub LatestFirst : (before : ℕ) → List ℕ → Type 0
 LatestFirst before [] = Unit {0}
 LatestFirst before (t ∷ ts) = (t < before) × LatestFirst t ts
 
--- An assignment gives a job its ticks: there are at least as many ticks before its due time as the job costs, and all of them go to the job.
-pub record GivenItsTicks (who : ℕ → Option ℕ) (j : Job) : Type 0 where
+-- An assignment gives a job its ticks: there are at least as many free ticks before its due time as the job costs, and all of them go to the job.
+pub record GivenItsTicks (taken : ℕ → Bool) (who : ℕ → Option ℕ) (j : Job) : Type 0 where
   pub ticks : List ℕ
   pub in-time : LatestFirst (j .due) ticks
+  pub all-free : All (λ t. taken t ≡ false) ticks
   pub given : All (λ t. who t ≡ some (j .name)) ticks
   pub enough : j .cost ≤ length ticks
 
 -- An assignment serves jobs exactly when it gives each of them its ticks.
 abbrev pub ServedMeansGivenTicks : Type 0
-ServedMeansGivenTicks = (who : ℕ → Option ℕ) (js : List Job) → Serves who js ↔ All (GivenItsTicks who) js
+ServedMeansGivenTicks = (taken : ℕ → Bool) (who : ℕ → Option ℕ) (js : List Job) → Serves taken who js ↔ All (GivenItsTicks taken who) js
 
--- No assignment serves all the jobs that the witness names. This is the third promise of demand 3. (1.20, 5.11)
+-- No assignment serves all the jobs that the witness names on the ticks that the table's timer leaves free. This is the third promise of demand 3. (1.20, 5.11)
 abbrev pub NoOrder : Type 0
 NoOrder = (bytes : List ℕ) → Bytes bytes → (v : Verdict) → Judged bytes v
     → (L demand : ℕ) → verdictSays v ≡ record { number = 21; first = L; second = demand } → (who : ℕ → Option ℕ)
-    → ¬ All (λ j. j .cost ≤ unitsBy (j .due) who (j .name)) (namedJobs (tableRead bytes .table) L)
+    → ¬ Serves (takenOn (tableRead bytes .table)) who (namedJobs (tableRead bytes .table) L)

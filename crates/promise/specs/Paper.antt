@@ -1,5 +1,6 @@
--- The paper. The verdict is the paper's Theorem 4.2, with the demand of its Lemma 4.1. Due times are those of its recurrence (1). (1.19, 4.2, 4.3, 5.2, 5.4)
-use Prim.Native.Nat.{ℕ, _≤_, _<_}
+-- The paper. The verdict is the paper's Theorem 4.2, with the demand of its Lemma 4.1, and with the ticks that the timer takes beside it. Due times are those
+-- of its recurrence (1). (1.19, 4.2, 4.3, 5.2 to 5.4)
+use Prim.Native.Nat.{ℕ, _+_, _≤_, _<_}
 use mathlib.Core.Path.{_≡_}
 use mathlib.Core.Logic.{_↔_}
 use mathlib.Core.List.{List, [], _∷_}
@@ -7,6 +8,7 @@ use lib.ListN.{length}
 use Rattle.kinds.specs.Numbering.{values}
 use Rattle.numbers.specs.SpelledNumbers.{Bytes}
 use Rattle.theory.specs.Lists.{total}
+use Rattle.theory.specs.Ticks.{timerTakes}
 use Rattle.theory.specs.Paper.{paperDemand}
 use Rattle.theory.specs.DueTimes.{RecurrenceOne, jth, releases, dues}
 use Rattle.theory.specs.Sources.{own}
@@ -19,13 +21,16 @@ use Rattle.verdict.specs.Verdict.{Judged, verdictSays}
 use Rattle.run.specs.Runs.{rowAt}
 use Rattle.promise.specs.Traces.{Call, trace, jobsOfTrace}
 
--- The paper's condition is that, for every L above 0, the sum over the rows of f(floor((L − d + y)/y)) · x · c is at most L. `paperDemand` is that expression
--- of its Lemma 4.1. (5.2, 5.4)
-abbrev pub Theorem42 : Table → Type 0
-Theorem42 t = (L : ℕ) → 0 < L → total (λ (r : Row). paperDemand (r .x) (r .y) (r .d) (r .c) L) (rowsOf t) ≤ L
+-- `paperSum` is the paper's sum in a length L: f(floor((L − d + y)/y)) · x · c over all rows. `paperDemand` is that expression of its Lemma 4.1. (5.2)
+abbrev pub paperSum : Table → (L : ℕ) → ℕ
+paperSum t L = total (λ (r : Row). paperDemand (r .x) (r .y) (r .d) (r .c) L) (rowsOf t)
 
--- For an accepted table, `judge` says feasible exactly when the paper's condition holds. (A table is accepted where reading it answers its period h.)
--- (5.2, 5.4)
+-- The paper's condition is that, for every L above 0, its sum is at most L. Here the ticks that the timer takes, floor(L/p) · s + min(s, L mod p), stand beside
+-- the sum: what they take is not there for jobs. (5.2 to 5.4)
+abbrev pub Theorem42 : Table → Type 0
+Theorem42 t = (L : ℕ) → 0 < L → paperSum t L + timerTakes (t .s) (t .p) L ≤ L
+
+-- For an accepted table, `judge` says feasible exactly when this condition holds. (A table is accepted where reading it answers its period h.) (5.2 to 5.4)
 abbrev pub FeasibleIsTheorem42 : Type 0
 FeasibleIsTheorem42 = (bytes : List ℕ) → Bytes bytes → (h : ℕ) → tableSays (tableRead bytes .answer) ≡ values (h ∷ []) → (v : Verdict) → Judged bytes v
     → (verdictSays v .number ≡ 20) ↔ Theorem42 (tableRead bytes .table)

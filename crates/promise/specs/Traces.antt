@@ -14,7 +14,7 @@ use Rattle.run.specs.declared.Run.{Run}
 use Rattle.run.specs.Runs.{started}
 use Rattle.run.specs.Release.{released}
 use Rattle.run.specs.Ticking.{ticked}
-use Rattle.run.specs.Answers.{ReleaseSays, accepted, releaseSays, TickSays, idle, ran, tickSays}
+use Rattle.run.specs.Answers.{ReleaseSays, accepted, releaseSays, TickSays, idle, ran, taken, tickSays}
 use Rattle.run.specs.Answers as says
 
 -- ---- calls and their answers
@@ -95,8 +95,8 @@ withReleased row cost serial due t = record {
   finishes = t .finishes;
 }
 
--- A tick went by, and the clock is one higher. The job with this serial had the unit, or nobody had it. So many jobs became late, and these finished.
--- (6.10, 6.12, 6.14)
+-- A tick went by, and the clock is one higher. The job with this serial had the unit, or nobody had it, as in an idle and in a taken tick. So many jobs became
+-- late, and these finished. (6.10, 6.12, 6.14)
 abbrev pub withTick : Option ℕ → (late : ℕ) → List Finish → Told → Told
 withTick who late finished t = record {
   clock = suc (t .clock);
@@ -116,6 +116,7 @@ tell (Event.release row cost (accepted serial due)) t = withReleased row cost se
 tell (Event.release row cost (says.ReleaseSays.refused n place)) t = t
 tell (Event.tick idle late) t = withTick none late [] t
 tell (Event.tick (ran serial finished) late) t = withTick (some serial) late (finishedNow finished serial t) t
+tell (Event.tick taken late) t = withTick none late [] t
 tell (Event.tick (says.TickSays.refused n place) late) t = t
 
 -- `told` is what all events of a trace tell. The events are listed newest first.

@@ -1,5 +1,6 @@
 pub mod Writing
 pub mod Logging
+pub mod FreeTicks
 pub mod Strides
 pub mod Ticking
 pub mod OneRecord

@@ -13,6 +13,7 @@ use Rattle.due.specs.declared.Due.the-variants as due
 use Rattle.due.specs.Kept.{dueOf}
 use Rattle.jobs.specs.declared.Job.{Job}
 use Rattle.jobs.specs.Places.{jobsOf}
+use Rattle.jobs.specs.Late.{lateCount}
 use Rattle.jobs.specs.JobChanges.{WellFormed}
 use Rattle.jobs.proofs.Changes.{put-adds-one}
 use Rattle.columns.specs.Columns.{Columns, putIn}
@@ -20,12 +21,12 @@ use Rattle.columns.proofs.Holding as columns
 use Rattle.run.specs.declared.Released.the-variants as release
 use Rattle.run.specs.declared.ReleaseStep.{ReleaseStep}
 use Rattle.run.specs.Runs.{rowAt, keptOf}
-use Rattle.run.specs.Ticking.{runWith}
+use Rattle.run.specs.Ticking.{runWith, isTaken}
 use Rattle.run.specs.Release.{newJob, withJob, released}
 use Rattle.run.specs.ManyTicks.{SoFar, oneMore, ticks, ticksWhilePending}
 use Rattle.run.proofs.Release.{Passed, due-settles}
-use Rattle.run.proofs.Ticking.{Good, facts, tick-idle, idle-keeps, tick-keeps-good}
-use Rattle.replay.specs.Arrays.{TickArrays, tickArrays, ArraysHoldRun, LeadsTo}
+use Rattle.run.proofs.Ticking.{Good, facts, tick-taken, tick-idle, idle-keeps, tick-keeps-good}
+use Rattle.replay.specs.Arrays.{TickArrays, tickArrays, ArraysHoldRun, HasTimer, LeadsTo}
 use Rattle.play.proofs.SingleTicks.{TicksFrom, tick-clock, ticks-keep}
 use Rattle.play.proofs.OnItsWay.{on-its-way-ticked, release-adds-one, releasedOn, on-its-way-released}
 
@@ -35,10 +36,13 @@ use Rattle.play.proofs.OnItsWay.{on-its-way-ticked, release-adds-one, releasedO
 abbrev pub atTime : (time : ℕ) → SoFar → SoFar
 atTime time s = record { run = runWith (s .run) time (s .run .pending); late = s .late; finishes = s .finishes }
 
--- Where nothing is pending, a tick takes the clock up by one and does nothing else.
+-- Where nothing is pending, a tick takes the clock up by one and does nothing else, whether it is taken or free.
 idle-tick : (s : SoFar) → Good (s .run) → s .run .clock .0 < maxTime → s .run .pending .count ≡ 0 → oneMore s ≡ atTime (s .run .clock .0 + 1) s
+unfolding lateCount
 idle-tick s good in-time none =
-    rw (tick-idle (s .run) (good .0) in-time none, le-ltb 0 (s .run .pending .count) (omega arith), add-zero, append-nil)
+    by-test (isTaken (s .run))
+    (λ taken. rw (tick-taken (s .run) (good .0) in-time taken, taken, none, add-zero, append-nil))
+    (λ free. rw (tick-idle (s .run) (good .0) in-time free none, free, le-ltb 0 (s .run .pending .count) (omega arith), add-zero, append-nil))
 
 -- Where nothing is pending, n ticks take the clock up by n and do nothing else.
 idle-ticks : (n : ℕ) (s : SoFar) → Good (s .run) → s .run .clock .0 + n ≤ maxTime → s .run .pending .count ≡ 0
@@ -86,9 +90,9 @@ module _ {s : SoFar} {log₀ : List ℕ} {h : TickArrays} (w : ArraysHoldRun s l
       ∙ ap (λ (t : ℕ). atTime t (ticksWhilePending (time - s .run .clock .0) s)) there)
 
   -- If the arrays hold the play after its ticks until nothing is pending, they hold it at the time once the clock is set to it.
-  pub stands-arrived : {g : TickArrays} → LeadsTo time h g → ArraysHoldRun arrived log₀ (heldAt time g)
-  stands-arrived led =
-      let last = led s log₀ w in
+  pub stands-arrived : {ts tp : ℕ} {g : TickArrays} → HasTimer ts tp (s .run) → LeadsTo ts tp time h g → ArraysHoldRun arrived log₀ (heldAt time g)
+  stands-arrived has led =
+      let last = led s log₀ has w in
       record {
         on-its-way = on-its-way-ticked (w .on-its-way) arrived-keeps;
         counts = rw arrived-so (last .counts);

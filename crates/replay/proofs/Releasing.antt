@@ -44,8 +44,9 @@ not-full count room {answer} says r =
     let done : answer ≡ put.Count (count + 1) = says ∙ rw (lt-ltb count maxPlaces room) in
     impossible cc
 
-module _ {p : Progress} {log₀ : List ℕ} {l : Lists} {g : Going} (w : ArraysHoldPlay p log₀ l g) {ready : Ready} {row : Row} (may : MayRelease p ready row)
-    (in-time : ready .time .0 ≤ maxTime) {h : TickArrays} (led : LeadsTo (ready .time .0) (tickArraysIn l g) h) (place : ℕ) where
+module _ {p : Progress} {log₀ : List ℕ} {l : Lists} {g : Going} (w : ArraysHoldPlay p log₀ l g) {ts tp : ℕ} {ready : Ready} {row : Row}
+    (may : MayRelease ts tp p ready row) (in-time : ready .time .0 ≤ maxTime) {h : TickArrays} (led : LeadsTo ts tp (ready .time .0) (tickArraysIn l g) h)
+    (place : ℕ) where
   -- `there` is the play at the record's script time, and `run` is its run.
   abbrev there : Progress
   there = tickedTo (ready .time .0) p
@@ -57,7 +58,7 @@ module _ {p : Progress} {log₀ : List ℕ} {l : Lists} {g : Going} (w : ArraysH
   ahead = omega (arith, w .stands .clocks, may .ahead)
 
   stands-there : ArraysHoldRun (there .so-far) log₀ (heldAt (ready .time .0) h)
-  stands-there = stands-arrived (w .stands) ahead in-time led
+  stands-there = stands-arrived (w .stands) ahead in-time (may .its-timer) led
 
   keeps : TicksFrom (p .so-far) (there .so-far)
   keeps = arrived-keeps (w .stands) ahead in-time

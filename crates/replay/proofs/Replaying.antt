@@ -15,6 +15,7 @@ use Rattle.numbers.specs.SpelledNumbers.{Bytes}
 use Rattle.table.specs.declared.Row.{Row}
 use Rattle.table.specs.declared.Table.{Table}
 use Rattle.table.specs.Limits.{maxRows}
+use Rattle.table.specs.Timer.{GoodTimer}
 use Rattle.table.specs.Tables.{noRow, rowsOf}
 use Rattle.table.specs.declared.CostLimit.{CostLimit}
 use Rattle.table.specs.Costs.{csOf, costLimits, limitOf, costAnswer}
@@ -53,7 +54,7 @@ use Rattle.replay.specs.declared.Going.{Going}
 use Rattle.replay.specs.declared.RecordStep.{RecordStep}
 use Rattle.replay.specs.declared.RecordStep.the-variants as step
 use Rattle.replay.specs.Outcome.{finishedIn, replayOutcome, replayOf, logAfter}
-use Rattle.replay.specs.Arrays.{Logs, TickArrays, InBounds, ArraysHoldRun, LeadsTo, LeftIn}
+use Rattle.replay.specs.Arrays.{Logs, TickArrays, InBounds, ArraysHoldRun, HasTimer, LeadsTo, LeftIn}
 use Rattle.replay.specs.Arrays.{Lists, lists, columnsIn, tickArraysIn, CanGo, ArraysHoldPlay, MayRelease, SteppedTo, RecordPlayed}
 use Rattle.replay.proofs.Logging.{logs-none, late-are-few, answers-full, answers-in-time, answers-late}
 
@@ -150,6 +151,13 @@ module _ {s : List ℕ} {t : Table} {log₀ : List ℕ} {l : Lists} {g : Going} 
   good : Good reached
   good = w .stands .stands .on-its-way .good
 
+  -- The run that was reached has the table's timer, and the timer is in range.
+  its-timer : HasTimer (t .s) (t .p) reached
+  its-timer = record { same-s = ap (λ (u : Table). u .s) (w .same-table); same-p = ap (λ (u : Table). u .p) (w .same-table) }
+
+  pub good-timer : GoodTimer (t .s) (t .p)
+  good-timer = rw (← w .same-table) (facts reached good .good-timer)
+
   pub plays-in-bounds : InBounds (tickArraysIn l g)
   plays-in-bounds = stands-in-bounds (w .stands .stands)
 
@@ -217,13 +225,14 @@ module _ {s : List ℕ} {t : Table} {log₀ : List ℕ} {l : Lists} {g : Going} 
           (spelled .forward, spelled .within)
 
       -- A record that passed its tests may be released.
-      may-release : {row : Row} → row ≡ getD (t .rows) (r .row .0) noRow → MayRelease (w .progress) r row
+      may-release : {row : Row} → row ≡ getD (t .rows) (r .row .0) noRow → MayRelease (t .s) (t .p) (w .progress) r row
       may-release its =
           let limits-there = costLimits (reached .table) in
           let row = ap (λ (x : Ready). x .row .0) (passed .asks-for) in
           let cost = ap (λ (x : Ready). x .cost) (passed .asks-for) in
           let time = ap (λ (x : Ready). x .time .0) (passed .asks-for) in
           record {
+            its-timer = its-timer;
             its-row = rw (w .same-table) its;
             in-use = row-in-use;
             allowed =
@@ -237,7 +246,8 @@ module _ {s : List ℕ} {t : Table} {log₀ : List ℕ} {l : Lists} {g : Going} 
       unfolding stepped
       released-so = rw (on-run ∙ ready)
 
-      module _ {row : Row} (its : row ≡ getD (t .rows) (r .row .0) noRow) (after : Lists) (x : RecordStep) (done : RecordPlayed at r row l g after x) where
+      module _ {row : Row} (its : row ≡ getD (t .rows) (r .row .0) noRow) (after : Lists) (x : RecordStep)
+          (done : RecordPlayed (t .s) (t .p) at r row l g after x) where
         done-here : SteppedTo (releasedAt at r (tickedTo (r .time .0) (w .progress))) (r .next) log₀ after x
         done-here = done (w .progress) log₀ (w .stands) (may-release its)
 
@@ -262,14 +272,14 @@ module _ {s : List ℕ} {t : Table} {log₀ : List ℕ} {l : Lists} {g : Going} 
             }
 
   -- From here on the place is the script's end, and the final ticks have been given.
-  module _ (ended : length s ≤ at) {h : TickArrays} (led : LeadsTo maxTime (tickArraysIn l g) h) where
+  module _ (ended : length s ≤ at) {h : TickArrays} (led : LeadsTo (t .s) (t .p) maxTime (tickArraysIn l g) h) where
     abbrev last : Progress
     last = record { so-far = ticksWhilePending (maxTime - reached .clock .0) (w .progress .so-far); accepted = w .progress .accepted }
 
     pub stands-last : ArraysHoldRun (last .so-far) log₀ h
     stands-last =
         let many : maxTime - reached .clock .0 ≡ maxTime - g .clock .0 = ap (λ (clock : ℕ). maxTime - clock) (w .stands .stands .clocks) in
-        rw many (led (w .progress .so-far) log₀ (w .stands .stands))
+        rw many (led (w .progress .so-far) log₀ its-timer (w .stands .stands))
 
     the-end : playedOn s (freshRun t) ≡ endedAt (length s) last
     unfolding finalTicks

@@ -1,5 +1,5 @@
--- Ticks on pending jobs in arrays are the ticks of the run that the arrays hold, and each job that finishes is logged. (docs/RULES.md, sections 6.10 to 6.17,
--- 8.2 and 8.3.)
+-- Free ticks on pending jobs in arrays are the ticks of the run that the arrays hold, and each job that finishes is logged. (docs/RULES.md, sections 6.5, 6.10 to
+-- 6.17, and 8.2 to 8.4.)
 use Prim.Native.Nat.{ℕ, _+_, _-_, _≤_}
 use mathlib.Core.Path.{_≡_, refl, sym, ap, subst, _∙_}
 use mathlib.Core.Bool.{true}
@@ -8,14 +8,18 @@ use native.Mathlib.Omega.{arith}
 use lib.ListN.{length}
 use Rattle.kinds.specs.Numbering.{maxTime}
 use Rattle.kinds.specs.declared.Finish.{Finish}
+use Rattle.theory.specs.Ticks.{freeBefore, timer, freeTickAt}
+use Rattle.theory.proofs.Ticks.{free-before-grows}
+use Rattle.table.specs.Timer.{GoodTimer}
 use Rattle.jobs.specs.declared.Job.{Job}
 use Rattle.jobs.specs.Places.{jobsOf}
 use Rattle.columns.specs.declared.Worked.{Worked}
 use Rattle.columns.specs.declared.WorkAnswer.the-variants as work
 use Rattle.columns.specs.Columns.{Columns, AllColumnPlaces}
 use Rattle.columns.specs.Columns as places
+use Rattle.columns.specs.Outcomes.{OneFinished}
 use Rattle.columns.specs.Ticks.{Reached, workedFor, workedOf, Works}
-use Rattle.columns.proofs.Strides.{nobody-means, finished-means}
+use Rattle.columns.proofs.Strides.{finished-means}
 use Rattle.columns.proofs.Holding.{held-are-counted, always-held}
 use Rattle.columns.proofs.WorkContract.{work-holds}
 use Rattle.run.specs.ManyTicks.{SoFar, ticksWhilePending}
@@ -24,32 +28,43 @@ use Rattle.log.specs.Log.{valuesOf, allInRange}
 use Rattle.play.proofs.SingleTicks.{no-more}
 use Rattle.play.proofs.OnItsWay.{on-its-way-ticked}
 use Rattle.replay.specs.declared.Logged.{Logged}
-use Rattle.replay.specs.Arrays.{OneLogged, Logs, TickArrays, tickArrays, InBounds, ArraysHoldRun, LeadsTo}
+use Rattle.replay.specs.Arrays.{OneLogged, Logs, TickArrays, tickArrays, InBounds, ArraysHoldRun, HasTimer, LeadsTo}
 use Rattle.replay.proofs.Logging.{logs-one-more}
-use Rattle.replay.proofs.Strides.{finishesIn, Strode, strides-until}
+use Rattle.replay.proofs.FreeTicks.{free-after, ended-by}
+use Rattle.replay.proofs.Strides.{finishedAtTime, finishesIn, timeOf, Strode, same-timer, strides-until}
 
 -- A play has had some of its ticks until a time: the arrays hold it, and with the ticks that are still to come it comes to the same as from the start.
-pub record Came (until : ℕ) (s : SoFar) (log₀ : List ℕ) (h₀ h : TickArrays) : Type 0 where
+pub record Came (s p until : ℕ) (x : SoFar) (log₀ : List ℕ) (h₀ h : TickArrays) : Type 0 where
   pub by-now : SoFar
+  pub has : HasTimer s p (by-now .run)
   pub stands : ArraysHoldRun by-now log₀ h
-  pub leads-on : ticksWhilePending (until - h .clock) by-now ≡ ticksWhilePending (until - h₀ .clock) s
+  pub leads-on : ticksWhilePending (until - h .clock) by-now ≡ ticksWhilePending (until - h₀ .clock) x
 
--- Every play that the arrays held at first has had some of its ticks until a time, and the arrays hold it now. Their numbers are in bounds, and the log buffer
--- is as long as before.
-pub record TicksOn (until : ℕ) (h₀ h : TickArrays) : Type 0 where
+-- Every play with this timer that the arrays held at first has had some of its ticks until a time, and the arrays hold it now. Their numbers are in bounds, the
+-- log buffer is as long as before, and the clock is not past the time.
+pub record TicksOn (s p until : ℕ) (h₀ h : TickArrays) : Type 0 where
   pub in-bounds : InBounds h
   pub same-length : length (h .log) ≡ length (h₀ .log)
-  pub came : (s : SoFar) (log₀ : List ℕ) → ArraysHoldRun s log₀ h₀ → Came until s log₀ h₀ h
+  pub not-past : h .clock ≤ until
+  pub came : (x : SoFar) (log₀ : List ℕ) → HasTimer s p (x .run) → ArraysHoldRun x log₀ h₀ → Came s p until x log₀ h₀ h
 
-pub no-ticks-yet : (until : ℕ) (h : TickArrays) → InBounds h → TicksOn until h h
-no-ticks-yet until h bounds = record {
+pub no-ticks-yet : (s p until : ℕ) (h : TickArrays) → InBounds h → h .clock ≤ until → TicksOn s p until h h
+no-ticks-yet s p until h bounds early = record {
   in-bounds = bounds;
   same-length = refl;
-  came = λ s log₀ w. record { by-now = s; stands = w; leads-on = refl };
+  not-past = early;
+  came = λ x log₀ has w. record { by-now = x; has = has; stands = w; leads-on = refl };
 }
 
-module _ {until : ℕ} {h₀ h : TickArrays} (t : TicksOn until h₀ h) (soon : until ≤ maxTime) (some : 1 ≤ h .jobs .count) {after : Columns} {r : Worked}
-    (w : Works (h .jobs) (h .clock) until after r) where
+-- With the time reached already, no tick is given.
+pub no-ticks-due : (s p until : ℕ) (h : TickArrays) → until ≤ h .clock → LeadsTo s p until h h
+unfolding ticksWhilePending
+no-ticks-due s p until h late x log₀ has w = let none : until - h .clock ≡ 0 = omega arith in rw none w
+
+-- `n` free ticks have gone by, and `m` will have gone by at the time `until`. The call of `work` gets these for its clock and its time.
+module _ {s p until : ℕ} (good-timer : GoodTimer s p) {h₀ h : TickArrays} (t : TicksOn s p until h₀ h) (soon : until ≤ maxTime) (some : 1 ≤ h .jobs .count)
+    {n m : ℕ} (n-so : n ≡ freeBefore (timer s p) (h .clock)) (m-so : m ≡ freeBefore (timer s p) until) {after : Columns} {r : Worked}
+    (w : Works (h .jobs) n m after r) where
   -- `here` are the jobs that the arrays hold, and `came-to` is what the ticks on them come to.
   abbrev here : List Job
   here = always-held (h .jobs) (t .in-bounds .all-places) .jobs
@@ -58,7 +73,7 @@ module _ {until : ℕ} {h₀ h : TickArrays} (t : TicksOn until h₀ h) (soon : 
   here-held = always-held (h .jobs) (t .in-bounds .all-places) .held
 
   abbrev came-to : Reached
-  came-to = workedFor (until - h .clock) (h .clock) here
+  came-to = workedFor (m - n) n here
 
   many-here : length here ≡ h .jobs .count
   many-here = omega (arith, held-are-counted (h .jobs) here here-held, t .in-bounds .few-pending)
@@ -69,72 +84,93 @@ module _ {until : ℕ} {h₀ h : TickArrays} (t : TicksOn until h₀ h) (soon : 
   counts-so : r .count ≡ length (came-to .jobs)
   counts-so = ap (λ (x : Worked). x .count) (w here here-held .says)
 
+  clock-here : r .clock .0 ≡ came-to .clock
+  clock-here = ap (λ (x : Worked). x .clock .0) (w here here-held .says)
+
   -- After the ticks the arrays have all their places.
   pub places-after : AllColumnPlaces after
-  places-after = work-holds (h .jobs) after (h .clock) until r here w here-held .all-places
+  places-after = work-holds (h .jobs) after n m r here w here-held .all-places
 
-  -- Where a job finished, one job fewer is pending.
-  pub one-less : {f : Finish} → r .answer ≡ work.Finished f → r .count + 1 ≡ h .jobs .count
-  one-less {f} e =
-      let less = finished-means (until - h .clock) (h .clock) here f (answers-so ∙ e) .one-less in
-      omega (arith, counts-so, many-here)
+  module _ {f : Finish} (e : r .answer ≡ work.Finished f) where
+    one-finished-here : OneFinished (m - n) n here f came-to
+    one-finished-here = finished-means (m - n) n here f (answers-so ∙ e)
+
+    -- Where a job finished, one job fewer is pending.
+    pub one-less : r .count + 1 ≡ h .jobs .count
+    one-less = omega (arith, one-finished-here .one-less, counts-so, many-here)
+
+    -- Where a job finished, at least one free tick has gone by, and at most those before the time.
+    pub some-free : 1 ≤ r .clock .0
+    some-free = omega (arith, one-finished-here .later, clock-here)
+
+    pub free-in-time : r .clock .0 ≤ m
+    free-in-time =
+        let grows : n ≤ m = omega (arith, n-so, m-so, free-before-grows (timer s p) (h .clock) until (t .not-past)) in
+        omega (arith, one-finished-here .in-time, clock-here, grows)
+
+    -- The free ticks that have gone by are those before the finish.
+    pub free-so : r .clock .0 ≡ freeBefore (timer s p) (freeTickAt s p (r .clock .0 - 1) + 1)
+    free-so = sym (free-after s p (good-timer .s-below-p) (r .clock .0) some-free)
 
   -- If the arrays hold a play before these ticks, they hold it with these ticks afterwards.
-  module _ {b : SoFar} {log₀ : List ℕ} (stands : ArraysHoldRun b log₀ h) where
-    strode : Strode until b (workedFor (until - h .clock) (h .clock) (jobsOf (b .run .pending)))
-    strode =
-        subst (λ c. Strode until b (workedFor (until - c) c (jobsOf (b .run .pending)))) (stands .clocks) (strides-until until b (stands .on-its-way .good) soon)
+  module _ {b : SoFar} {log₀ : List ℕ} (has : HasTimer s p (b .run)) (stands : ArraysHoldRun b log₀ h) where
+    abbrev there : Reached
+    there = workedFor (m - n) n (jobsOf (b .run .pending))
 
-    says-so : r ≡ workedOf (workedFor (until - h .clock) (h .clock) (jobsOf (b .run .pending)))
+    strode : Strode s p until b there
+    strode =
+        let free : freeBefore (timer s p) (b .run .clock .0) ≡ n = ap (freeBefore (timer s p)) (stands .clocks) ∙ sym n-so in
+        subst (λ (k : ℕ). Strode s p until b (workedFor (m - k) k (jobsOf (b .run .pending)))) free
+        (subst (λ (k : ℕ). Strode s p until b (workedFor (k - freeBefore (timer s p) (b .run .clock .0)) (freeBefore (timer s p) (b .run .clock .0)) (jobsOf (b .run .pending)))) (sym m-so)
+        (strides-until s p (good-timer .s-below-p) until b (stands .on-its-way .good) has (omega (arith, stands .counts)) (omega (arith, stands .clocks, t .not-past)) soon))
+
+    says-so : r ≡ workedOf there
     says-so = w (jobsOf (b .run .pending)) (stands .jobs-held) .says
 
-    answer-so : workedFor (until - h .clock) (h .clock) (jobsOf (b .run .pending)) .answer ≡ r .answer
-    answer-so = sym (ap (λ (x : Worked). x .answer) says-so)
+    -- `time` is the time that the ticks have come to.
+    abbrev time : ℕ
+    time = timeOf s p until (r .clock .0) (r .answer)
 
-    clock-so : workedFor (until - h .clock) (h .clock) (jobsOf (b .run .pending)) .clock ≡ r .clock .0
-    clock-so = sym (ap (λ (x : Worked). x .clock .0) says-so)
+    time-so : timeOf s p until (there .clock) (there .answer) ≡ time
+    time-so = sym (ap (λ (x : Worked). timeOf s p until (x .clock .0) (x .answer)) says-so)
+
+    clock-so : strode .by-now .run .clock .0 ≡ time
+    clock-so = strode .clock ∙ time-so
+
+    finishes-so : strode .by-now .finishes ≡ b .finishes ++ finishesIn time (r .answer)
+    finishes-so =
+        strode .finishes ∙ sym (ap (λ (x : Worked). b .finishes ++ finishesIn (timeOf s p until (x .clock .0) (x .answer)) (x .answer)) says-so)
 
     -- After the ticks the arrays hold the jobs that are still pending.
     stands-after : {log : List ℕ} {l : Logged} → after .count ≡ r .count → Logs (strode .by-now .finishes) log₀ log l
-        → ArraysHoldRun (strode .by-now) log₀ (tickArrays after log (r .clock .0) l)
+        → ArraysHoldRun (strode .by-now) log₀ (tickArrays after log time l)
     stands-after same logs = record {
       on-its-way = on-its-way-ticked (stands .on-its-way) (strode .keeps);
       counts = sym (counted (strode .by-now .run) (strode .keeps .good)) ∙ ap length (strode .jobs) ∙ sym (ap (λ (x : Worked). x .count) says-so) ∙ sym same;
-      clocks = strode .clock ∙ clock-so;
-      jobs-held = rw (strode .jobs) (work-holds (h .jobs) after (h .clock) until r (jobsOf (b .run .pending)) w (stands .jobs-held));
+      clocks = clock-so;
+      jobs-held = rw (strode .jobs) (work-holds (h .jobs) after n m r (jobsOf (b .run .pending)) w (stands .jobs-held));
       logs = logs;
     }
 
     -- With the ticks that are still to come, the play comes to the same as before these ticks.
-    leads-after : ticksWhilePending (until - r .clock .0) (strode .by-now) ≡ ticksWhilePending (until - h .clock) b
+    leads-after : ticksWhilePending (until - time) (strode .by-now) ≡ ticksWhilePending (until - h .clock) b
     leads-after =
         ap (λ (c : ℕ). ticksWhilePending (until - c) (strode .by-now)) (sym clock-so)
         ∙ sym (strode .leads-on)
         ∙ ap (λ (c : ℕ). ticksWhilePending (until - c) b) (stands .clocks)
 
-    -- A job that finished is put behind the finished jobs, and its numbers have spellings.
-    one-finished : {f : Finish} → r .answer ≡ work.Finished f → strode .by-now .finishes ≡ b .finishes ++ (f ∷ [])
-    one-finished e = strode .finishes ∙ ap (λ a. b .finishes ++ finishesIn a) (answer-so ∙ e)
-
-    its-numbers : {f : Finish} → r .answer ≡ work.Finished f → allInRange (valuesOf f) ≡ true
+    -- The numbers of a job that finished have spellings.
+    its-numbers : {f : Finish} → r .answer ≡ work.Finished f → allInRange (valuesOf (finishedAtTime time f)) ≡ true
     its-numbers {f} e =
         let all = strode .keeps .in-range (stands .on-its-way .in-range) in
-        (rw (one-finished e) at all) f (Memᴰ·append-right (b .finishes) (List·Memᴰ·head refl))
+        let one : strode .by-now .finishes ≡ b .finishes ++ (finishedAtTime time f ∷ []) = finishes-so ∙ ap (λ a. b .finishes ++ finishesIn time a) e in
+        (rw one at all) (finishedAtTime time f) (Memᴰ·append-right (b .finishes) (List·Memᴰ·head refl))
 
-    none-finished : r .answer ≡ work.Nobody → strode .by-now .finishes ≡ b .finishes
-    none-finished e = strode .finishes ∙ ap (λ a. b .finishes ++ finishesIn a) (answer-so ∙ e) ∙ append-nil (b .finishes)
-
-    -- Where no job finished, the time is reached.
-    time-is-up : r .answer ≡ work.Nobody → until - r .clock .0 ≡ 0
-    time-is-up e =
-        let busy : 1 ≤ length (jobsOf (b .run .pending)) = omega (arith, counted (b .run) (stands .on-its-way .good), stands .counts) in
-        let so = nobody-means (until - h .clock) (h .clock) (jobsOf (b .run .pending)) (answer-so ∙ e) .by-n busy in
-        omega (arith, clock-so)
-
-  -- Where a job finishes, it is logged, and the ticks go on.
+  -- Where a job finishes, it is logged with its finish, and the ticks go on.
   pub finished-on : {f : Finish} → r .answer ≡ work.Finished f → after .count ≡ r .count → {log : List ℕ} {l : Logged}
-      → OneLogged (h .logged) f (h .log) log l → TicksOn until h₀ (tickArrays after log (r .clock .0) l)
-  finished-on {f} e same o =
+      → OneLogged (h .logged) (finishedAtTime (freeTickAt s p (r .clock .0 - 1) + 1) f) (h .log) log l
+      → TicksOn s p until h₀ (tickArrays after log (freeTickAt s p (r .clock .0 - 1) + 1) l)
+  finished-on {f} e same {log} {l} o =
       let bounds = t .in-bounds in
       record {
         in-bounds = record {
@@ -144,29 +180,43 @@ module _ {until : ℕ} {h₀ h : TickArrays} (t : TicksOn until h₀ h) (soon : 
           few-late = omega (arith, one-less e, o .few-late, bounds .few-late);
         };
         same-length = o .same-length ∙ t .same-length;
-        came = λ s log₀ first.
-            let k = t .came s log₀ first in
+        not-past = ended-by s p (good-timer .s-below-p) (r .clock .0) until (some-free e) (omega (arith, free-in-time e, m-so));
+        came = λ x log₀ first-has first.
+            let k = t .came x log₀ first-has first in
             let st = k .stands in
+            let ks = k .has in
+            let now : time ks st ≡ freeTickAt s p (r .clock .0 - 1) + 1 = rw e in
+            let one : strode ks st .by-now .finishes ≡ k .by-now .finishes ++ (finishedAtTime (time ks st) f ∷ []) =
+            finishes-so ks st ∙ ap (λ a. k .by-now .finishes ++ finishesIn (time ks st) a) e in
+            let logged : Logs (strode ks st .by-now .finishes) log₀ log l =
+            rw (one, now, o .holds, o .says) (logs-one-more (st .logs) _ (rw now at (its-numbers ks st e))) in
             record {
-              by-now = strode st .by-now;
-              stands = stands-after st same (rw (one-finished st e, o .holds, o .says) (logs-one-more (st .logs) f (its-numbers st e)));
-              leads-on = leads-after st ∙ k .leads-on;
+              by-now = strode ks st .by-now;
+              has = same-timer (strode ks st .keeps) ks;
+              stands = rw now at (stands-after ks st {log = log} {l = l} same logged);
+              leads-on = (rw now at (leads-after ks st)) ∙ k .leads-on;
             };
       }
 
   -- Where no job finishes, the time is reached, and all ticks have been given.
-  pub nobody-on : r .answer ≡ work.Nobody → after .count ≡ r .count → LeadsTo until h₀ (tickArrays after (h .log) (r .clock .0) (h .logged))
+  pub nobody-on : r .answer ≡ work.Nobody → after .count ≡ r .count → LeadsTo s p until h₀ (tickArrays after (h .log) until (h .logged))
   unfolding ticksWhilePending
-  nobody-on e same s log₀ first =
-      let k = t .came s log₀ first in
+  nobody-on e same x log₀ first-has first =
+      let k = t .came x log₀ first-has first in
       let st = k .stands in
-      let ended : strode st .by-now ≡ ticksWhilePending (until - h₀ .clock) s = (rw (time-is-up st e) at (leads-after st)) ∙ k .leads-on in
-      rw (← ended) (stands-after st same (rw (none-finished st e) (st .logs)))
+      let ks = k .has in
+      let now : time ks st ≡ until = rw e in
+      let none : until - time ks st ≡ 0 = omega arith in
+      let ended : strode ks st .by-now ≡ ticksWhilePending (until - h₀ .clock) x = (rw none at (leads-after ks st)) ∙ k .leads-on in
+      let no-finish : strode ks st .by-now .finishes ≡ k .by-now .finishes =
+      finishes-so ks st ∙ ap (λ a. k .by-now .finishes ++ finishesIn (time ks st) a) e ∙ append-nil (k .by-now .finishes) in
+      let logged : Logs (strode ks st .by-now .finishes) log₀ (h .log) (h .logged) = rw no-finish (st .logs) in
+      rw (← ended) (rw now at (stands-after ks st {log = h .log} {l = h .logged} same logged))
 
 -- Where nothing is pending, all ticks have been given.
-pub nothing-pending : {until : ℕ} {h₀ h : TickArrays} → TicksOn until h₀ h → h .jobs .count ≡ 0 → LeadsTo until h₀ h
-nothing-pending {until} {h₀} {h} t none s log₀ w =
-    let k = t .came s log₀ w in
-    let same : k .by-now ≡ ticksWhilePending (until - h₀ .clock) s =
+pub nothing-pending : {s p until : ℕ} {h₀ h : TickArrays} → TicksOn s p until h₀ h → h .jobs .count ≡ 0 → LeadsTo s p until h₀ h
+nothing-pending {until = until} {h₀ = h₀} {h = h} t none x log₀ has w =
+    let k = t .came x log₀ has w in
+    let same : k .by-now ≡ ticksWhilePending (until - h₀ .clock) x =
     sym (no-more (until - h .clock) (k .by-now) (k .stands .counts ∙ none)) ∙ k .leads-on in
     rw (← same) (k .stands)

@@ -17,6 +17,7 @@ use Rattle.columns.specs.Columns.{Columns, columns, AllColumnPlaces}
 use Rattle.columns.specs.Columns as places
 use Rattle.rings.specs.Rings.{Rings, rings}
 use Rattle.rings.specs.RingShapes.{RingsHold}
+use Rattle.run.specs.declared.Run.{Run}
 use Rattle.run.specs.Runs.{rowAt}
 use Rattle.run.specs.ManyTicks.{SoFar, ticksWhilePending}
 use Rattle.log.specs.Log.{writtenRecord, restAfter}
@@ -109,9 +110,16 @@ pub record ArraysHoldRun (s : SoFar) (log₀ : List ℕ) (h : TickArrays) : Type
   pub jobs-held : places.ColumnsHold (h .jobs) (jobsOf (s .run .pending))
   pub logs : Logs (s .finishes) log₀ (h .log) (h .logged)
 
--- If the arrays hold a play before the call, they hold it afterwards with its ticks until the time `until`, or until nothing is pending. (8.2, 8.3)
-abbrev pub LeadsTo : (until : ℕ) → TickArrays → TickArrays → Type 0
-LeadsTo until h g = (s : SoFar) (log₀ : List ℕ) → ArraysHoldRun s log₀ h → ArraysHoldRun (ticksWhilePending (until - h .clock) s) log₀ g
+-- The timer of the run has this s and p. (3.16, 6.1)
+pub record HasTimer (s p : ℕ) (run : Run) : Type 0 where
+  pub same-s : run .table .s ≡ s
+  pub same-p : run .table .p ≡ p
+
+-- If the arrays hold a play whose run has this timer before the call, they hold it afterwards with its ticks until the time `until`, or until nothing is
+-- pending. (8.2, 8.3)
+abbrev pub LeadsTo : (s p until : ℕ) → TickArrays → TickArrays → Type 0
+LeadsTo s p until h g = (x : SoFar) (log₀ : List ℕ) → HasTimer s p (x .run) → ArraysHoldRun x log₀ h
+    → ArraysHoldRun (ticksWhilePending (until - h .clock) x) log₀ g
 
 -- ---- a record on arrays
 
@@ -167,8 +175,9 @@ pub record ArraysHoldPlay (p : Progress) (log₀ : List ℕ) (l : Lists) (g : Go
   pub same-next : p .so-far .run .next ≡ g .next
 
 -- A record passed its tests at the point that a play has reached: `row` is its row, which is in use, its cost is allowed, and the clock is not past its script
--- time. (8.5, steps 4 and 6)
-pub record MayRelease (p : Progress) (ready : Ready) (row : Row) : Type 0 where
+-- time. The run has the timer that is handed in. (8.5, steps 4 and 6)
+pub record MayRelease (ts tp : ℕ) (p : Progress) (ready : Ready) (row : Row) : Type 0 where
+  pub its-timer : HasTimer ts tp (p .so-far .run)
   pub its-row : row ≡ rowAt (p .so-far .run .table) (ready .row .0)
   pub in-use : ready .row .0 < p .so-far .run .table .count
   pub allowed : costAnswer (limitOf (costLimits (p .so-far .run .table)) (ready .row .0)) (ready .cost) ≡ cost.Allowed
@@ -181,8 +190,8 @@ SteppedTo x next log₀ after (step.Refused r) = x ≡ stops r
 
 -- If the arrays hold a play before the call and the record passed its tests, they hold it afterwards with the ticks until the record's script time and the
 -- record's release, or the answer is the refusal that stops the play. (8.2)
-abbrev pub RecordPlayed : (place : ℕ) → Ready → Row → Lists → Going → Lists → RecordStep → Type 0
-RecordPlayed place ready row l g after r = (p : Progress) (log₀ : List ℕ) → ArraysHoldPlay p log₀ l g → MayRelease p ready row
+abbrev pub RecordPlayed : (ts tp place : ℕ) → Ready → Row → Lists → Going → Lists → RecordStep → Type 0
+RecordPlayed ts tp place ready row l g after r = (p : Progress) (log₀ : List ℕ) → ArraysHoldPlay p log₀ l g → MayRelease ts tp p ready row
     → SteppedTo (releasedAt place ready (tickedTo (ready .time .0) p)) (ready .next) log₀ after r
 
 -- ---- the log that a play leaves

@@ -89,6 +89,8 @@ fn play(table: Table, script: &[u8], log: &mut [u8]) -> Replayed
 {
     let limits = table.cost_limits();
     let in_use = table.count;
+    let s = table.s;
+    let p = table.p;
     let mut serials: [u64; Pending::PLACES] = [0; Pending::PLACES];
     let mut rows: [u64; Pending::PLACES] = [0; Pending::PLACES];
     let mut releases: [u64; Pending::PLACES] = [0; Pending::PLACES];
@@ -128,6 +130,8 @@ fn play(table: Table, script: &[u8], log: &mut [u8]) -> Replayed
             going,
             ready,
             row,
+            s,
+            p,
             at,
         );
         going = match step {
@@ -154,6 +158,8 @@ fn play(table: Table, script: &[u8], log: &mut [u8]) -> Replayed
         count,
         clock,
         last,
+        s,
+        p,
         logged,
     );
     if 0 < reached.count {

@@ -16,10 +16,12 @@ use table::Row;
 use table::Table;
 ghost use mathlib.Core.Path.{_≡_};
 ghost use lib.ListN.{length};
+ghost use Rattle.table.specs.Timer.{GoodTimer};
 ghost use Rattle.replay.specs.Arrays.{lists, CanGo, RecordPlayed};
 
 // Plays a record whose numbers passed their tests: it ticks until the record's script time, and then releases the record's job. Time in which nothing is
-// pending is crossed in one go. `row` is the record's row, and `place` is the record's start, at which 8 and 9 are refused. (8.2, 8.4, 8.5)
+// pending is crossed in one go. `row` is the record's row, s and p are the table's timer, and `place` is the record's start, at which 8 and 9 are refused.
+// (8.2, 8.4, 8.5)
 pub(crate) fn play_record(
     serials: &mut [u64; Pending::PLACES],
     rows: &mut [u64; Pending::PLACES],
@@ -33,11 +35,14 @@ pub(crate) fn play_record(
     going: Going,
     ready: Ready,
     row: Row,
+    s: u64,
+    p: u64,
     place: usize,
 ) -> RecordStep
-    requires { ⌜ CanGo (lists (now serials) (now rows) (now releases) (now dues) (now left) (now times) (now many) (now oldest) (now log)) going ready ⌝ }
+    requires { ⌜ GoodTimer s p
+        × CanGo (lists (now serials) (now rows) (now releases) (now dues) (now left) (now times) (now many) (now oldest) (now log)) going ready ⌝ }
     ensures { λ r. ⌜ (length (now (log .exit)) ≡ length (now (log .entry)))
-        × RecordPlayed place ready row
+        × RecordPlayed s p place ready row
         (lists (now (serials .entry)) (now (rows .entry)) (now (releases .entry)) (now (dues .entry)) (now (left .entry)) (now (times .entry))
         (now (many .entry)) (now (oldest .entry)) (now (log .entry))) going
         (lists (now (serials .exit)) (now (rows .exit)) (now (releases .exit)) (now (dues .exit)) (now (left .exit)) (now (times .exit))
@@ -61,6 +66,8 @@ pub(crate) fn play_record(
         count,
         clock,
         time,
+        s,
+        p,
         logged,
     );
     let pending = reached.count;
@@ -90,7 +97,8 @@ pub(crate) fn play_record(
     match answer {
         PutAnswer::Refused(refusal) => RecordStep::Refused(RefusedAt { refusal, place }),
         PutAnswer::Count(more) => {
-            let next = Serial(serial.0 + 1);
+            let after = serial.0 + 1;
+            let next = Serial(after);
             RecordStep::Next(Going {
                 count: more,
                 clock: time,

@@ -1,4 +1,5 @@
-// Ticks on pending jobs that stand in arrays. Each job that finishes gets its record in the log. (docs/RULES.md, 6.10 to 6.13 and 8.8 to 8.13.)
+// Ticks on pending jobs that stand in arrays. Each job that finishes gets its record in the log. Jobs get free ticks alone, so these are counted, and the ticks
+// that the timer takes are crossed in one go. (docs/RULES.md, 6.5, 6.10 to 6.13, 8.4 and 8.8 to 8.13.)
 use crate::Logged;
 use crate::Reached;
 use columns::WorkAnswer;
@@ -7,9 +8,11 @@ use kinds::Finish;
 use kinds::Tick;
 use numbers::Written;
 ghost use mathlib.Core.Path.{_≡_};
-ghost use Prim.Native.Nat.{_+_, _^_, _≤_};
+ghost use Prim.Native.Nat.{_+_, _-_, _^_, _≤_, _<_};
 ghost use lib.ListN.{length};
 ghost use Rattle.kinds.specs.Numbering.{maxTime};
+ghost use Rattle.theory.specs.Ticks.{freeBefore, timer, freeTickAt};
+ghost use Rattle.table.specs.Timer.{GoodTimer};
 ghost use Rattle.columns.specs.Columns.{columns};
 ghost use Rattle.replay.specs.Arrays.{OneLogged, tickArrays, InBounds, LeadsTo, loggedBy};
 
@@ -45,7 +48,38 @@ fn log_finish(log: &mut [u8], logged: Logged, job: Finish) -> Logged
     }
 }
 
-// Ticks until the clock is at `until`, or until nothing is pending, whichever comes first. Each job that finishes is logged. (8.2, 8.3)
+// How many of the ticks before a time are free: the timer takes the first s of every p. (6.5)
+fn free_before(s: u64, p: u64, time: u64) -> u64
+    requires { ⌜ s < p ⌝ }
+    ensures { λ r. ⌜ r ≡ freeBefore (timer s p) time ⌝ }
+{
+    if s == 0 {
+        return time;
+    }
+    let rest = time % p;
+    let whole = time / p * s;
+    if rest < s {
+        return time - whole - rest;
+    }
+    time - whole - s
+}
+
+// The time right after the n-th free tick, counted from 1: the finish of a job that has this tick for its last unit. (6.5, 6.13)
+fn after_free(s: u64, p: u64, n: u64) -> u64
+    requires { ⌜ GoodTimer s p × (1 ≤ n) × (n ≤ maxTime) ⌝ }
+    ensures { λ r. ⌜ r ≡ freeTickAt s p (n - 1) + 1 ⌝ }
+{
+    if s == 0 {
+        return n;
+    }
+    let earlier = n - 1;
+    let free = p - s;
+    let start = earlier / free * p;
+    start + s + earlier % free + 1
+}
+
+// Ticks until the clock is at `until`, or until nothing is pending, whichever comes first. Each job that finishes is logged. The timer takes the first s ticks
+// of every p. `columns::work` gets the number of free ticks before the clock for its clock, since jobs get these ticks and no others. (6.5, 8.2 to 8.4)
 pub(crate) fn run_until(
     serials: &mut [u64; Pending::PLACES],
     rows: &mut [u64; Pending::PLACES],
@@ -56,12 +90,14 @@ pub(crate) fn run_until(
     count: usize,
     clock: Tick,
     until: Tick,
+    s: u64,
+    p: u64,
     logged: Logged,
 ) -> Reached
-    requires { ⌜ (until .0 ≤ maxTime)
+    requires { ⌜ (until .0 ≤ maxTime) × GoodTimer s p
         × InBounds (tickArrays (columns (now serials) (now rows) (now releases) (now dues) (now left) count) (now log) (clock .0) logged) ⌝ }
     ensures { λ r. ⌜ (length (now (log .exit)) ≡ length (now (log .entry)))
-        × LeadsTo (until .0)
+        × LeadsTo s p (until .0)
         (tickArrays (columns (now (serials .entry)) (now (rows .entry)) (now (releases .entry)) (now (dues .entry)) (now (left .entry)) count)
         (now (log .entry)) (clock .0) logged)
         (tickArrays (columns (now (serials .exit)) (now (rows .exit)) (now (releases .exit)) (now (dues .exit)) (now (left .exit)) (r .count))
@@ -70,16 +106,47 @@ pub(crate) fn run_until(
     let mut count = count;
     let mut clock = clock;
     let mut logged = logged;
+    if until.0 <= clock.0 {
+        return Reached {
+            count,
+            clock,
+            length: logged.length,
+            late: logged.late,
+            full: logged.full,
+        };
+    }
+    let end = Tick(free_before(s, p, until.0));
+    let mut free = Tick(free_before(s, p, clock.0));
     while 0 < count {
-        let worked = columns::work(serials, rows, releases, dues, left, count, clock, until);
+        let worked = columns::work(serials, rows, releases, dues, left, count, free, end);
         let answer = worked.answer;
         count = worked.count;
-        clock = worked.clock;
+        free = worked.clock;
         let job = match answer {
             WorkAnswer::Finished(job) => job,
-            WorkAnswer::Nobody => break,
+            WorkAnswer::Nobody => {
+                return Reached {
+                    count,
+                    clock: until,
+                    length: logged.length,
+                    late: logged.late,
+                    full: logged.full,
+                };
+            }
         };
-        logged = log_finish(log, logged, job);
+        let serial = job.serial;
+        let row = job.row;
+        let release = job.release;
+        let due = job.due;
+        clock = Tick(after_free(s, p, free.0));
+        let finished = Finish {
+            serial,
+            row,
+            release,
+            due,
+            finish: clock,
+        };
+        logged = log_finish(log, logged, finished);
     }
     Reached {
         count,

@@ -25,6 +25,7 @@ release-never-zero (release.Refused r) number place e = let its : refusalNumber 
 tick-never-zero : (a : Ticked) (number place : ℕ) → tickSays a ≡ TickSays.refused number place → 1 ≤ number
 tick-never-zero tick.Idle number place e = impossible cc
 tick-never-zero (tick.Ran r) number place e = impossible cc
+tick-never-zero tick.Taken number place e = impossible cc
 tick-never-zero (tick.Refused r) number place e = let its : refusalNumber r ≡ number = cc in rw (sym its) (never-zero r)
 
 pub runs-never-zero : RunsNeverZero
@@ -49,14 +50,21 @@ tick-apart : (a b : Ticked) → tickSays a ≡ tickSays b → a ≡ b
 tick-apart tick.Idle tick.Idle e = refl
 tick-apart tick.Idle (tick.Ran r) e = impossible cc
 tick-apart tick.Idle (tick.Refused r) e = impossible cc
+tick-apart tick.Idle tick.Taken e = impossible cc
 tick-apart (tick.Ran q) tick.Idle e = impossible cc
 tick-apart (tick.Ran q) (tick.Ran r) e =
     let serial : q .serial .0 ≡ r .serial .0 = cc in
     ap₂ (λ (s : ℕ) (f : Finished). tick.Ran (record { serial = record { 0 = s }; finished = f })) serial (finished-apart (q .finished) (r .finished) cc)
 tick-apart (tick.Ran q) (tick.Refused r) e = impossible cc
+tick-apart (tick.Ran q) tick.Taken e = impossible cc
 tick-apart (tick.Refused q) tick.Idle e = impossible cc
 tick-apart (tick.Refused q) (tick.Ran r) e = impossible cc
 tick-apart (tick.Refused q) (tick.Refused r) e = ap tick.Refused (numbers-differ q r cc)
+tick-apart (tick.Refused q) tick.Taken e = impossible cc
+tick-apart tick.Taken tick.Idle e = impossible cc
+tick-apart tick.Taken (tick.Ran r) e = impossible cc
+tick-apart tick.Taken (tick.Refused r) e = impossible cc
+tick-apart tick.Taken tick.Taken e = refl
 
 pub runs-said-apart : RunsSaidApart
 runs-said-apart = (start-apart, release-apart, tick-apart)
@@ -77,6 +85,9 @@ release-refused-says r = refl
 
 pub idle-tick-says : says.IdleTickSays
 idle-tick-says = refl
+
+pub taken-tick-says : says.TakenTickSays
+taken-tick-says = refl
 
 pub finished-tick-says : says.FinishedTickSays
 finished-tick-says serial = refl

@@ -31,6 +31,7 @@ module _ (t : Table) (in-range : InRange t) where
   -- The facts about a sound run hold for a fresh run.
   fresh-facts : Sound (freshRun t)
   fresh-facts = record {
+    good-timer = in-range .good-timer;
     few-rows = in-range .few-rows;
     clock-in-time = omega arith;
     few-pending = omega arith;

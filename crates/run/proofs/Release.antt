@@ -18,6 +18,7 @@ use Rattle.theory.proofs.Cases.{by-lt, by-eq, by-test}
 use Rattle.table.specs.declared.Row.{Row}
 use Rattle.table.specs.Limits.{maxRows}
 use Rattle.table.specs.Rows.{rowInRange}
+use Rattle.table.specs.Timer.{timerInRange}
 use Rattle.table.specs.declared.CostAnswer.{CostAnswer}
 use Rattle.table.specs.declared.CostAnswer.the-variants as cost-answer
 use Rattle.table.specs.declared.CostLimit.{CostLimit}
@@ -62,7 +63,7 @@ bounded run e =
     let places = both-true _ _ (both-true _ _ (both-true _ _ (both-true _ _ (serials .0) .0) .0) .0) in
     let clock = both-true _ _ (places .0) in
     record {
-      few-rows = leb-true _ _ (clock .0);
+      few-rows = leb-true _ _ (both-true (timerInRange (run .table .s) (run .table .p)) _ (clock .0) .1);
       clock-in-time = leb-true _ _ (clock .1);
       few-pending = leb-true _ _ (places .1);
       serials = leb-true _ _ (serials .1);
@@ -264,6 +265,7 @@ module _ {run : Run} {row cost : ℕ} (t : Tick) (whole : Whole run) (p : Passed
   -- The run is sound after the release.
   sound-after : soundOf next ≡ true
   sound-after = sound-means next whole-after .1 record {
+    good-timer = sound-before .good-timer;
     few-rows = sound-before .few-rows;
     clock-in-time = sound-before .clock-in-time;
     few-pending = put-keeps-form (run .pending) job well-formed .in-places;

@@ -23,9 +23,11 @@ use Rattle.table.specs.Costs.{csOf, costLimits, limitOf, costAnswer}
 use Rattle.table.specs.declared.Table.{Table}
 use Rattle.table.specs.Limits.{maxRows}
 use Rattle.table.specs.Rows.{fromOneTo, rowAcceptable}
+use Rattle.table.specs.Timer.{timerInRange, GoodTimer}
 use Rattle.table.specs.Tables.{noRow, rowsOf}
 use Rattle.table.proofs.CostLimits.{CostTested, not-in-use, out-of-range, allowed, cost-tested, limits-are-the-first, one-limit-for-each-row, limit-is-its-c}
 use Rattle.table.proofs.Ranges.{both-true, acceptable-means}
+use Rattle.table.proofs.Timers.{timer-in-range-means}
 use Rattle.due.specs.declared.Kept.{Kept}
 use Rattle.due.specs.Kept.{noKept, keptSound}
 use Rattle.due.proofs.NewestKept.{kept-sound-means as kept-means}
@@ -153,9 +155,13 @@ one-of-two-fails false one two after e = refl
 
 -- A run that fails one of the tests is not sound.
 module _ (run : Run) where
+  pub timer-out-of-range : timerInRange (run .table .s) (run .table .p) ≡ false → false ≡ soundOf run
+  unfolding soundOf
+  timer-out-of-range h = simp h
+
   pub too-many-rows : maxRows < run .table .count → false ≡ soundOf run
   unfolding soundOf
-  too-many-rows h = simp (lt-leb (run .table .count) maxRows h)
+  too-many-rows h = simp (lt-leb (run .table .count) maxRows h, and-false)
 
   pub clock-too-late : maxTime < run .clock .0 → false ≡ soundOf run
   unfolding soundOf
@@ -173,7 +179,7 @@ module _ (run : Run) where
   unfolding soundOf
   jobs-unsound h =
       let js = jobsOf (run .pending) in
-      let counts = leb (run .table .count) maxRows && leb (run .clock .0) maxTime && leb (run .pending .count) maxPlaces in
+      let counts = timerInRange (run .table .s) (run .table .p) && leb (run .table .count) maxRows && leb (run .clock .0) maxTime && leb (run .pending .count) maxPlaces in
       one-of-two-fails (counts && rowsSound (rowsOf (run .table)) (run .kept))
       (jobsSound (costLimits (run .table)) (run .clock .0) (run .next .0) js) (distinctSerials js) (leb (run .next .0) (serialBound run)) h
 
@@ -187,6 +193,7 @@ jobs-tested run all e r h =
 
 -- The run passes all tests but the last, which is the bound of the next serial.
 pub record AllBefore (run : Run) : Type 0 where
+  pub timer : timerInRange (run .table .s) (run .table .p) ≡ true
   pub few-rows : run .table .count ≤ maxRows
   pub clock-in-time : run .clock .0 ≤ maxTime
   pub few-pending : run .pending .count ≤ maxPlaces
@@ -200,6 +207,7 @@ bound-settles run a =
     let js = jobsOf (run .pending) in
     let jobs = both-true (jobsSound (costLimits (run .table)) (run .clock .0) (run .next .0) js) (distinctSerials js) (a .jobs) in
     simp (
+      a .timer,
       le-leb (run .table .count) maxRows (a .few-rows),
       le-leb (run .clock .0) maxTime (a .clock-in-time),
       le-leb (run .pending .count) maxPlaces (a .few-pending),
@@ -247,8 +255,10 @@ module _ (run : Run) (whole : Whole run) where
       let rows = both-true _ _ (jobs .0) in
       let places = both-true _ _ (rows .0) in
       let clock = both-true _ _ (places .0) in
-      let few = leb-true (table .count) maxRows (clock .0) in
+      let timed = both-true _ _ (clock .0) in
+      let few = leb-true (table .count) maxRows (timed .1) in
       record {
+        good-timer = timer-in-range-means (table .s) (table .p) .0 (timed .0);
         few-rows = few;
         clock-in-time = leb-true _ _ (clock .1);
         few-pending = leb-true _ _ (places .1);
@@ -269,6 +279,7 @@ module _ (run : Run) (whole : Whole run) where
         kept-means (keptOf run i) (rowAt table i) .1 (s .kept i h),
       ) in
       let before : AllBefore run = record {
+        timer = timer-in-range-means (table .s) (table .p) .1 (s .good-timer);
         few-rows = s .few-rows;
         clock-in-time = s .clock-in-time;
         few-pending = s .few-pending;

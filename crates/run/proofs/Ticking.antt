@@ -1,6 +1,8 @@
--- One tick: what each of its cases answers, that it is one turn of the pending jobs, and that a sound run stays sound. (docs/RULES.md, sections 6.10 to 6.17.)
-use Prim.Native.Nat.{ℕ, zero, suc, _+_, _-_, _≤_, _<_, suc-le-suc}
+-- One tick: what each of its cases answers, that it is one turn of the pending jobs, and that a sound run stays sound. (docs/RULES.md, sections 6.5 and 6.10 to
+-- 6.17.)
+use Prim.Native.Nat.{ℕ, zero, suc, _+_, _-_, _%_, _≤_, _<_, suc-le-suc}
 use mathlib.Core.Path.{_≡_, refl}
+use mathlib.Core.Logic.{_↔_}
 use mathlib.Core.Bool.{Bool, true, false}
 use mathlib.Core.List.{List, [], _∷_}
 use native.Mathlib.Nat.{not-suc-le-zero, le-of-suc-le-suc}
@@ -8,9 +10,10 @@ use native.Mathlib.Decide.{decLe, decLt}
 use native.Mathlib.Omega.{arith}
 use lib.ListN.{length, set, getD, length-set}
 use lib.Seq.{length-take-le}
-use borrow.Author.Tests.{le-leb, lt-leb, lt-ltb, le-ltb, eq-eqb, ne-eqb}
+use borrow.Author.Tests.{ltb-true, le-leb, lt-leb, lt-ltb, le-ltb, eq-eqb, ne-eqb}
 use Rattle.kinds.specs.Numbering.{maxTime}
 use Rattle.kinds.specs.declared.Refusal.the-variants.{RunNotSound, TimeTooLate}
+use Rattle.kinds.proofs.Apart.{impossible}
 use Rattle.jobs.specs.declared.Job.{Job}
 use Rattle.jobs.specs.declared.Pending.{Pending}
 use Rattle.jobs.specs.declared.Turn.{Turn}
@@ -29,8 +32,9 @@ use Rattle.run.specs.declared.Ticked.{Ticked}
 use Rattle.run.specs.declared.Ticked.the-variants as answer
 use Rattle.run.specs.declared.TickStep.{TickStep}
 use Rattle.run.specs.Sound.{soundOf, SoundJob, Sound, Whole}
-use Rattle.run.specs.Ticking.{refusedTick, runWith, idleTick, busyTick, ticked}
-use Rattle.run.specs.RunLaws.{ClockGrows, TickGivesOneUnit, TickKeepsSound}
+use Rattle.run.specs.Ticking.{refusedTick, runWith, isTaken, takenTick, idleTick, busyTick, ticked}
+use Rattle.run.specs.Answers.{idle, taken, tickSays}
+use Rattle.run.specs.RunLaws.{ClockGrows, TickGivesOneUnit, TickKeepsSound, TakenMeans, IdleMeans, TakenTickChangesNothingElse, TickWithoutTimer}
 use Rattle.run.proofs.Sound.{sound-means}
 
 -- ---- the answers, one by one
@@ -46,13 +50,18 @@ module _ (run : Run) where
     tick-too-late h = rw (sound, le-ltb (run .clock .0) maxTime h)
 
     module _ (in-time : run .clock .0 < maxTime) where
-      pub tick-idle : run .pending .count ≡ 0 → ticked run ≡ idleTick run
+      pub tick-taken : isTaken run ≡ true → ticked run ≡ takenTick run
       unfolding ticked
-      tick-idle e = rw (sound, lt-ltb (run .clock .0) maxTime in-time, eq-eqb (run .pending .count) 0 e)
+      tick-taken e = rw (sound, lt-ltb (run .clock .0) maxTime in-time, e)
 
-      pub tick-busy : 1 ≤ run .pending .count → ticked run ≡ busyTick run
-      unfolding ticked
-      tick-busy h = rw (sound, lt-ltb (run .clock .0) maxTime in-time, ne-eqb (run .pending .count) 0 (λ e. omega arith))
+      module _ (free : isTaken run ≡ false) where
+        pub tick-idle : run .pending .count ≡ 0 → ticked run ≡ idleTick run
+        unfolding ticked
+        tick-idle e = rw (sound, lt-ltb (run .clock .0) maxTime in-time, free, eq-eqb (run .pending .count) 0 e)
+
+        pub tick-busy : 1 ≤ run .pending .count → ticked run ≡ busyTick run
+        unfolding ticked
+        tick-busy h = rw (sound, lt-ltb (run .clock .0) maxTime in-time, free, ne-eqb (run .pending .count) 0 (λ e. omega arith))
 
 -- ---- lists of jobs with one taken out or replaced
 
@@ -132,6 +141,7 @@ module _ (run : Run) (good : Good run) where
       let whole : Whole next = record { all-rows = good .1 .all-rows; all-kept = good .1 .all-kept; all-places = l .form .all-places } in
       let as-many : used p ≡ p .count = length-take-le (p .count) (p .places) (omega (arith, l .form .in-places, l .form .all-places)) in (
         sound-means next whole .1 record {
+          good-timer = facts .good-timer;
           few-rows = facts .few-rows;
           clock-in-time = omega arith;
           few-pending = l .form .in-places;
@@ -145,7 +155,7 @@ module _ (run : Run) (good : Good run) where
         whole,
       )
 
-  -- After an idle tick the pending jobs are as needed.
+  -- After a tick that is idle or taken the pending jobs are as needed.
   later-same : Later (run .pending)
   later-same = record {
     form = formed;
@@ -192,6 +202,9 @@ module _ (run : Run) (good : Good run) where
   first-there h = first-is-there (run .pending) (omega (arith, counted))
 
   module _ (in-time : run .clock .0 < maxTime) where
+    pub taken-keeps : Good (takenTick run .run)
+    taken-keeps = later-sound in-time (run .pending) later-same
+
     pub idle-keeps : Good (idleTick run .run)
     idle-keeps = later-sound in-time (run .pending) later-same
 
@@ -200,36 +213,88 @@ module _ (run : Run) (good : Good run) where
 
 -- ---- the laws
 
--- A property of the four cases of a tick is a property of every tick.
-by-answer : (P : TickStep → Type 0) (run : Run) → P (refusedTick run RunNotSound) → P (refusedTick run TimeTooLate)
-    → (run .clock .0 < maxTime → P (idleTick run)) → (run .clock .0 < maxTime → 1 ≤ run .pending .count → P (busyTick run))
+-- The timer takes the tick at the run's clock t exactly when t mod p < s.
+pub taken-where : (run : Run) → (isTaken run ≡ true) ↔ (run .clock .0 % run .table .p < run .table .s)
+taken-where run = (ltb-true _ _, lt-ltb _ _)
+
+-- A property of the five cases of a tick is a property of every tick.
+by-answer : (P : TickStep → Type 0) (run : Run)
+    → (soundOf run ≡ false → P (refusedTick run RunNotSound))
+    → (maxTime ≤ run .clock .0 → P (refusedTick run TimeTooLate))
+    → (soundOf run ≡ true → run .clock .0 < maxTime → isTaken run ≡ true → P (takenTick run))
+    → (soundOf run ≡ true → run .clock .0 < maxTime → isTaken run ≡ false → run .pending .count ≡ 0 → P (idleTick run))
+    → (run .clock .0 < maxTime → isTaken run ≡ false → 1 ≤ run .pending .count → P (busyTick run))
     → P (ticked run)
-by-answer P run unsound late idle busy = by-sound (soundOf run) refl
+by-answer P run unsound late takes idles busy = by-sound (soundOf run) refl
   where
+    by-timer : soundOf run ≡ true → run .clock .0 < maxTime → (b : Bool) → isTaken run ≡ b → P (ticked run)
+    by-timer e l true t = rw (tick-taken run e l t) (takes e l t)
+    by-timer e l false t = elim (decLe 1 (run .pending .count)) [
+      | no m ↦ let none : run .pending .count ≡ 0 = omega arith in rw (tick-idle run e l t none) (idles e l t none)
+      | yes m ↦ rw (tick-busy run e l t m) (busy l t m)
+    ]
+
     by-sound : (b : Bool) → soundOf run ≡ b → P (ticked run)
-    by-sound false e = rw (tick-unsound run e) unsound
+    by-sound false e = rw (tick-unsound run e) (unsound e)
     by-sound true e = elim (decLt (run .clock .0) maxTime) [
-      | no l ↦ rw (tick-too-late run e (omega arith)) late
-      | yes l ↦ elim (decLe 1 (run .pending .count)) [
-        | no m ↦ rw (tick-idle run e l (omega arith)) (idle l)
-        | yes m ↦ rw (tick-busy run e l m) (busy l m)
-      ]
+      | no l ↦ let past : maxTime ≤ run .clock .0 = omega arith in rw (tick-too-late run e past) (late past)
+      | yes l ↦ by-timer e l (isTaken run) refl
     ]
 
 pub tick-keeps-good : (run : Run) → Good run → Good (ticked run .run)
-tick-keeps-good run good = by-answer (λ t. Good (t .run)) run good good (λ l. idle-keeps run good l) (λ l m. busy-keeps run good l m)
+tick-keeps-good run good =
+    by-answer (λ t. Good (t .run)) run (λ e. good) (λ h. good) (λ e l t. taken-keeps run good l) (λ e l t m. idle-keeps run good l)
+    (λ l t m. busy-keeps run good l m)
 
 pub tick-keeps-sound : TickKeepsSound
 tick-keeps-sound run whole sound = tick-keeps-good run (sound, whole)
 
 pub clock-grows : ClockGrows
-clock-grows run = by-answer (λ t. run .clock .0 ≤ t .run .clock .0) run (omega arith) (omega arith) (λ l. omega arith) (λ l m. omega arith)
+clock-grows run =
+    by-answer (λ t. run .clock .0 ≤ t .run .clock .0) run (λ e. omega arith) (λ h. omega arith) (λ e l t. omega arith) (λ e l t m. omega arith)
+    (λ l t m. omega arith)
 
 pub tick-gives-one-unit : TickGivesOneUnit
-tick-gives-one-unit run whole sound in-time h =
-    rw (tick-busy run sound in-time h) (after-a-unit (run .pending) (firstPlace (jobsOf (run .pending))) (first-there run (sound, whole) h))
+tick-gives-one-unit run whole sound in-time free h =
+    rw (tick-busy run sound in-time free h) (after-a-unit (run .pending) (firstPlace (jobsOf (run .pending))) (first-there run (sound, whole) h))
 
--- ---- a tick is one turn
+pub taken-means : TakenMeans
+taken-means run = (
+  by-answer
+      (λ t. tickSays (t .answer) ≡ taken → (soundOf run ≡ true) × (run .clock .0 < maxTime) × (run .clock .0 % run .table .p < run .table .s))
+      run
+      (λ e f. impossible cc)
+      (λ h f. impossible cc)
+      (λ e l t f. (e, l, taken-where run .0 t))
+      (λ e l t m f. impossible cc)
+      (λ l t m f. impossible cc),
+  λ h. rw (tick-taken run (h .0) (h .1) (taken-where run .1 (h .2))) refl,
+)
+
+pub idle-means : IdleMeans
+idle-means run = (
+  by-answer
+      (λ t. tickSays (t .answer) ≡ idle → (soundOf run ≡ true) × (run .clock .0 < maxTime) × (isTaken run ≡ false) × (run .pending .count ≡ 0))
+      run
+      (λ e f. impossible cc)
+      (λ h f. impossible cc)
+      (λ e l t f. impossible cc)
+      (λ e l t m f. (e, l, t, m))
+      (λ l t m f. impossible cc),
+  λ h. rw (tick-idle run (h .0) (h .1) (h .2) (h .3)) refl,
+)
+
+pub taken-tick-changes-nothing-else : TakenTickChangesNothingElse
+taken-tick-changes-nothing-else run said =
+    let h = taken-means run .0 said in
+    rw (tick-taken run (h .0) (h .1) (taken-where run .1 (h .2))) (refl, refl)
+
+pub tick-without-timer : TickWithoutTimer
+unfolding ticked
+tick-without-timer run none =
+    let free : isTaken run ≡ false = le-ltb (run .clock .0 % run .table .p) (run .table .s) (omega arith) in rw free
+
+-- ---- a free tick is one turn
 
 -- What a tick answers where the pending jobs had this turn.
 abbrev pub answerOf : Turn → Ticked
@@ -240,10 +305,11 @@ answerOf (turn.Ran r) = answer.Ran r
 abbrev pub stepOf : Run → Turned → TickStep
 stepOf run t = record { run = runWith run (run .clock .0 + 1) (t .pending); answer = answerOf (t .turn); late = t .late }
 
-pub tick-is-a-turn : (run : Run) → Good run → run .clock .0 < maxTime → stepOf run (turned (run .pending) (run .clock .0 + 1)) ≡ ticked run
-tick-is-a-turn run good in-time =
+pub tick-is-a-turn : (run : Run) → Good run → run .clock .0 < maxTime → isTaken run ≡ false
+    → stepOf run (turned (run .pending) (run .clock .0 + 1)) ≡ ticked run
+tick-is-a-turn run good in-time free =
     let p = run .pending in
     elim (decLe 1 (p .count)) [
-      | yes h ↦ rw (turned-busy p (run .clock .0 + 1) (omega (arith, counted run good)), tick-busy run (good .0) in-time h)
-      | no h ↦ rw (turned-idle p (run .clock .0 + 1) (omega (arith, counted run good)), tick-idle run (good .0) in-time (omega arith))
+      | yes h ↦ rw (turned-busy p (run .clock .0 + 1) (omega (arith, counted run good)), tick-busy run (good .0) in-time free h)
+      | no h ↦ rw (turned-idle p (run .clock .0 + 1) (omega (arith, counted run good)), tick-idle run (good .0) in-time free (omega arith))
     ]

@@ -29,16 +29,19 @@ abbrev pub releaseSays : Released → ReleaseSays
 releaseSays (release.Accepted a) = accepted (a .serial .0) (a .due .0)
 releaseSays (release.Refused r) = refused (refusalNumber r) 0
 
--- What a tick can say: that it was idle, the serial of the job that had the unit and whether it finished, or a refusal's number and place. (1.17, 6.12, 6.16)
+-- What a tick can say: that it was idle, the serial of the job that had the unit and whether it finished, that it was taken, or a refusal's number and place.
+-- (1.17, 6.12, 6.16)
 pub data TickSays : Type 0 where
   idle : TickSays
   ran : (serial : ℕ) (finished : Bool) → TickSays
+  taken : TickSays
   refused : (number place : ℕ) → TickSays
 
 -- What each answer of a tick says. Its refusals name no place, so the place is 0. (1.17, 10.2)
 abbrev pub tickSays : Ticked → TickSays
 tickSays tick.Idle = idle
 tickSays (tick.Ran r) = ran (r .serial .0) (hasFinished (r .finished))
+tickSays tick.Taken = taken
 tickSays (tick.Refused r) = refused (refusalNumber r) 0
 
 -- ---- what is proved (proofs/Answers.antt)
@@ -78,6 +81,10 @@ ReleaseRefusedSays = (r : Refusal) → releaseSays (release.Refused r) ≡ Relea
 -- An idle tick says that it was idle. (6.12)
 abbrev pub IdleTickSays : Type 0
 IdleTickSays = tickSays tick.Idle ≡ idle
+
+-- A taken tick says that it was taken. (6.12)
+abbrev pub TakenTickSays : Type 0
+TakenTickSays = tickSays tick.Taken ≡ taken
 
 -- A tick that finishes a job says the job's serial, and that it finished. (6.12)
 abbrev pub FinishedTickSays : Type 0

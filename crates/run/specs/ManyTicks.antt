@@ -7,13 +7,14 @@ use Rattle.kinds.specs.declared.Finish.{Finish}
 use Rattle.jobs.specs.Units.{lastUnit}
 use Rattle.jobs.specs.Turns.{firstJob, finishAt}
 use Rattle.run.specs.declared.Run.{Run}
-use Rattle.run.specs.Ticking.{ticked}
+use Rattle.run.specs.Ticking.{isTaken, ticked}
 
--- The job that the next tick finishes, if there is one: the chosen job where it gets its last unit, with the new clock as its finish. This is meant for a sound
--- run with the clock below 2^40, where a tick is not refused. (6.13)
+-- The job that the next tick finishes, if there is one: the chosen job where it gets its last unit, with the new clock as its finish. No job finishes in a
+-- taken tick. This is meant for a sound run with the clock below 2^40, where a tick is not refused. (6.5, 6.13)
 abbrev pub finishedBy : Run → List Finish
 finishedBy run =
-    cond (ltb 0 (run .pending .count) && lastUnit (firstJob (run .pending))) (finishAt (run .clock .0 + 1) (firstJob (run .pending)) ∷ []) []
+    cond (isTaken run) []
+    (cond (ltb 0 (run .pending .count) && lastUnit (firstJob (run .pending))) (finishAt (run .clock .0 + 1) (firstJob (run .pending)) ∷ []) [])
 
 -- The run after some ticks, how many jobs became late in these ticks, and which jobs finished, in the order of finishing.
 pub record SoFar : Type 0 where

@@ -1,11 +1,13 @@
 -- The laws of runs: they stay sound, ticks and releases change what the rules say, and due times go by the whole history. (docs/RULES.md, sections 4 and 6.)
-use Prim.Native.Nat.{ℕ, _≤_, _<_}
+use Prim.Native.Nat.{ℕ, _+_, _%_, _≤_, _<_}
 use mathlib.Core.Path.{_≡_}
-use mathlib.Core.Bool.{true, cond}
+use mathlib.Core.Logic.{_↔_}
+use mathlib.Core.Bool.{true, false, cond}
 use mathlib.Core.List.{List, []}
+use lib.Dec.{ltb}
 use lib.ListN.{length}
 use Rattle.kinds.specs.Numbering.{maxTime}
-use Rattle.kinds.specs.declared.Refusal.the-variants.{NoSuchRow, CostOutOfRange}
+use Rattle.kinds.specs.declared.Refusal.the-variants.{NoSuchRow, CostOutOfRange, TimeTooLate, RunNotSound}
 use Rattle.numbers.specs.SpelledNumbers.{Bytes}
 use Rattle.table.specs.declared.Table.{Table}
 use Rattle.table.specs.declared.CostAnswer.the-variants as cost-answer
@@ -16,12 +18,13 @@ use Rattle.table.specs.Tables.{InRange}
 use Rattle.jobs.specs.Places.{jobsOf}
 use Rattle.jobs.specs.Choice.{firstPlace}
 use Rattle.jobs.specs.JobChanges.{unitAt}
+use Rattle.jobs.specs.Late.{lateCount}
 use Rattle.run.specs.declared.Run.{Run}
 use Rattle.run.specs.Runs.{freshRun, started, rowInUse, costLimit}
 use Rattle.run.specs.Sound.{soundOf, Whole}
 use Rattle.run.specs.Release.{released}
-use Rattle.run.specs.Ticking.{ticked}
-use Rattle.run.specs.Answers.{ReleaseSays, accepted, releaseSays}
+use Rattle.run.specs.Ticking.{refusedTick, runWith, isTaken, freeTick, ticked}
+use Rattle.run.specs.Answers.{ReleaseSays, accepted, releaseSays, idle, taken, tickSays}
 use Rattle.run.specs.History.{KeepsHistory, GaveDue}
 
 -- ---- what is proved (proofs/Fresh.antt, proofs/Release.antt, proofs/Ticking.antt)
@@ -43,11 +46,35 @@ ReleaseKeepsSound = (run : Run) (row cost : ℕ) → Whole run → soundOf run �
 abbrev pub TickKeepsSound : Type 0
 TickKeepsSound = (run : Run) → Whole run → soundOf run ≡ true → (soundOf (ticked run .run) ≡ true) × Whole (ticked run .run)
 
--- In a sound run with a job pending and the clock below 2^40 every tick is free for jobs: the chosen job gets one unit. No other job changes.
+-- In a sound run with a job pending and the clock below 2^40, a tick that is not taken gives one unit to the chosen job. No other job changes.
 -- (6.5, 6.10, 6.11, 6.17)
 abbrev pub TickGivesOneUnit : Type 0
-TickGivesOneUnit = (run : Run) → Whole run → soundOf run ≡ true → run .clock .0 < maxTime → 1 ≤ run .pending .count
+TickGivesOneUnit = (run : Run) → Whole run → soundOf run ≡ true → run .clock .0 < maxTime → isTaken run ≡ false → 1 ≤ run .pending .count
     → jobsOf (ticked run .run .pending) ≡ unitAt (jobsOf (run .pending)) (firstPlace (jobsOf (run .pending)))
+
+-- A tick answers taken exactly where the run is sound, the clock t is below 2^40, and t mod p < s. Whether a job is pending plays no part. (6.5, 6.12, 6.16)
+abbrev pub TakenMeans : Type 0
+TakenMeans = (run : Run)
+    → (tickSays (ticked run .answer) ≡ taken)
+    ↔ ((soundOf run ≡ true) × (run .clock .0 < maxTime) × (run .clock .0 % run .table .p < run .table .s))
+
+-- A tick answers idle exactly where the run is sound, the clock is below 2^40, the tick is not taken, and nothing is pending. (6.12, 6.16)
+abbrev pub IdleMeans : Type 0
+IdleMeans = (run : Run)
+    → (tickSays (ticked run .answer) ≡ idle)
+    ↔ ((soundOf run ≡ true) × (run .clock .0 < maxTime) × (isTaken run ≡ false) × (run .pending .count ≡ 0))
+
+-- A taken tick moves the clock up by one and changes nothing else: no job gets a unit. The late count beside it is the number of pending jobs whose due time is
+-- the new clock. (6.10, 6.14, 6.17)
+abbrev pub TakenTickChangesNothingElse : Type 0
+TakenTickChangesNothingElse = (run : Run) → tickSays (ticked run .answer) ≡ taken
+    → (ticked run .run ≡ runWith run (run .clock .0 + 1) (run .pending))
+    × (ticked run .late ≡ lateCount (run .clock .0 + 1) (jobsOf (run .pending)))
+
+-- A timer with s = 0 takes no tick: then a tick refuses with 11 or 10, is idle, or gives a unit. (3.16, 6.5)
+abbrev pub TickWithoutTimer : Type 0
+TickWithoutTimer = (run : Run) → run .table .s ≡ 0
+    → ticked run ≡ cond (soundOf run) (cond (ltb (run .clock .0) maxTime) (freeTick run) (refusedTick run TimeTooLate)) (refusedTick run RunNotSound)
 
 -- A tick never sets the clock back. (6.10)
 abbrev pub ClockGrows : Type 0

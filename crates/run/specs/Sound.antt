@@ -14,6 +14,7 @@ use Rattle.table.specs.declared.CostAnswer.{CostAnswer}
 use Rattle.table.specs.declared.CostAnswer.the-variants as answer
 use Rattle.table.specs.Costs.{costLimits, limitOf, costAnswer}
 use Rattle.table.specs.Rows.{fromOneTo, rowAcceptable}
+use Rattle.table.specs.Timer.{timerInRange, GoodTimer}
 use Rattle.table.specs.Tables.{rowsOf}
 use Rattle.table.specs.SpelledTables.{WithinLimits}
 use Rattle.due.specs.declared.Kept.{Kept}
@@ -55,15 +56,16 @@ rowsSound [] ks = true
 rowsSound (r ∷ rs) [] = true
 rowsSound (r ∷ rs) (k ∷ ks) = rowAcceptable r && keptSound k r && rowsSound rs ks
 
--- The most that the next serial may be: the clock plus the number of pending jobs. The job of each serial given out is pending or was finished by a tick.
--- (6.23)
+-- The most that the next serial may be: the clock plus the number of pending jobs. The job of each serial given out is pending or was finished by a tick, and
+-- no two were finished by the same tick. (6.23)
 abbrev pub serialBound : Run → ℕ
 serialBound run = run .clock .0 + run .pending .count
 
 -- A run is sound when all of these hold. The counts and the clock are tested before any place is looked at and before the clock is added to. (6.20 to 6.24)
 unfoldable pub soundOf : Run → Bool
 soundOf run =
-    leb (run .table .count) maxRows
+    timerInRange (run .table .s) (run .table .p)
+    && leb (run .table .count) maxRows
     && leb (run .clock .0) maxTime
     && leb (run .pending .count) maxPlaces
     && rowsSound (rowsOf (run .table)) (run .kept)
@@ -86,6 +88,7 @@ pub record SoundJob (t : Table) (clock next : ℕ) (j : Job) : Type 0 where
 
 -- The facts about a sound run. (6.20 to 6.24)
 pub record Sound (run : Run) : Type 0 where
+  pub good-timer : GoodTimer (run .table .s) (run .table .p)
   pub few-rows : run .table .count ≤ maxRows
   pub clock-in-time : run .clock .0 ≤ maxTime
   pub few-pending : run .pending .count ≤ maxPlaces

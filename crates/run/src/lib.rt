@@ -24,7 +24,7 @@ ghost use Rattle.run.specs.Sound.{soundOf, Whole};
 ghost use Rattle.run.specs.Release.{refusedRelease, released};
 ghost use Rattle.run.specs.Ticking.{ticked};
 
-// A run holds its rows, the clock, the pending jobs, the next serial, and the kept due times of each row. (6.1)
+// A run holds its table, which is the timer and the rows, the clock, the pending jobs, the next serial, and the kept due times of each row. (6.1)
 #[repr(C)]
 pub struct Run {
     pub table: Table,
@@ -64,10 +64,11 @@ pub struct ReleaseStep {
     pub answer: Released,
 }
 
-// The answer of a tick: it was idle, a job had the unit, or it was refused. (6.12, 6.16)
+// The answer of a tick: it was idle, a job had the unit, the timer took it, or it was refused. (6.12, 6.16)
 pub enum Ticked {
     Idle,
     Ran(Ran),
+    Taken,
     Refused(Refusal),
 }
 
@@ -131,6 +132,9 @@ impl Run {
         let kept = self.kept;
         let clock = self.clock;
         let next = self.next;
+        if !table::timer_in_range(table.s, table.p) {
+            return false;
+        }
         if Table::MAX_ROWS < table.count {
             return false;
         }
@@ -204,8 +208,8 @@ impl Run {
         }
     }
 
-    // Lets one tick go by. It gives one unit to the chosen job, if one is pending, or refuses with 11 or 10, in this order. A refused tick leaves the run
-    // unchanged. (6.5, 6.10 to 6.14, 6.16, 6.18)
+    // Lets one tick go by. It refuses with 11 or 10, in this order, and a refused tick leaves the run unchanged. A tick that the timer takes gives no unit, and
+    // any other gives one unit to the chosen job, if one is pending. (6.5, 6.10 to 6.14, 6.16, 6.18)
     pub fn tick(self) -> TickStep
         ensures { λ r. ⌜ r ≡ ticked self ⌝ }
     {
@@ -227,6 +231,17 @@ impl Run {
         }
         let later = Tick(clock.0 + 1);
         let pending = run.pending;
+        let s = run.table.s;
+        let p = run.table.p;
+        if clock.0 % p < s {
+            let late = pending.late(later);
+            run.clock = later;
+            return TickStep {
+                run,
+                answer: Ticked::Taken,
+                late,
+            };
+        }
         let turned = pending.tick(later);
         let left = turned.pending;
         let turn = turned.turn;

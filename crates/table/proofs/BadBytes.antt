@@ -10,8 +10,8 @@ use Rattle.numbers.proofs.Spellings.{spelled-rest}
 use Rattle.numbers.proofs.BadByte.{numbers-joined}
 use Rattle.table.specs.declared.Row.{Row}
 use Rattle.table.specs.SpelledTables.{WithinLimits, AcceptableRow, spelledRow}
-use Rattle.table.specs.Refusals.{PartStands, ValueNext, misspelled, out-of-range}
-use Rattle.table.specs.Refusals.{no-count, too-large-count, bad-value, hopeless-row, RefusedSo, bad-rows, bytes-after, long-period}
+use Rattle.table.specs.Refusals.{PartStands, ValueNext, misspelled, out-of-range, TimerEnds, no-s, bad-p, s-not-below}
+use Rattle.table.specs.Refusals.{no-count, too-large-count, bad-value, hopeless-row, RefusedSo, bad-timer, bad-rows, bytes-after, long-period}
 use Rattle.table.specs.Refusals.{RefusedAtTheFirstBadByte}
 use Rattle.table.proofs.Each.{each-head, each-tail}
 use Rattle.table.proofs.Spelling.{parted}
@@ -63,13 +63,25 @@ module _ {s : List ℕ} where
       numbers-joined (number-there (p .count) (omega (arith, p .few-rows)) (t .1))
       (numbers-joined (rows-there (p .rows) (p .rows-acceptable) (u .1)) (values-there (p .values) small (u .2)))
 
+  -- Where a timer ends, its two numbers stand before.
+  timer-there : {at ts tp : ℕ} → TimerEnds s at ts tp → NumbersBetween s 0 at
+  timer-there {ts = ts} {tp} e =
+      let w = e .good-timer in
+      let t = parted (spelling ts) (spelling tp) (e .before) in
+      numbers-joined (number-there ts (omega (arith, w .s-below-p, w .most-p)) (t .1)) (number-there tp (omega (arith, w .most-p)) (t .2))
+
   -- What is to be refused with 1 has its first bad byte there.
   first-bad : {number place : ℕ} → RefusedSo s number place → number ≡ 1 → FirstBadByte s place
-  first-bad (bad-rows (no-count p)) one = record { start = 0; before = nothing-between; bad = p }
-  first-bad (bad-rows (too-large-count n read many)) one = absurd (omega arith)
-  first-bad (bad-rows (bad-value {at} next (misspelled p))) one = record { start = at; before = numbers-before next; bad = p }
-  first-bad (bad-rows (bad-value next (out-of-range n p o))) one = absurd (omega arith)
-  first-bad (bad-rows (hopeless-row p)) one = absurd (omega arith)
+  first-bad (bad-timer (no-s w)) one = record { start = 0; before = nothing-between; bad = w }
+  first-bad (bad-timer (bad-p n stands (misspelled w))) one = record { start = n .next; before = number-first n stands nothing-between; bad = w }
+  first-bad (bad-timer (bad-p n stands (out-of-range m p o))) one = absurd (omega arith)
+  first-bad (bad-timer (s-not-below n m p q some most above)) one = absurd (omega arith)
+  first-bad (bad-rows {from = from} timed (no-count p)) one = record { start = from; before = timer-there timed; bad = p }
+  first-bad (bad-rows timed (too-large-count n read many)) one = absurd (omega arith)
+  first-bad (bad-rows timed (bad-value {at = at} next (misspelled p))) one =
+      record { start = at; before = numbers-joined (timer-there timed) (numbers-before next); bad = p }
+  first-bad (bad-rows timed (bad-value next (out-of-range n p o))) one = absurd (omega arith)
+  first-bad (bad-rows timed (hopeless-row p)) one = absurd (omega arith)
   first-bad (bytes-after p l) one = absurd (omega arith)
   first-bad (long-period p l) one = absurd (omega arith)
 

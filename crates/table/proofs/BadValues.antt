@@ -39,7 +39,7 @@ use Rattle.table.proofs.Spelling.{parted, joined, ends-inside, spelled-
 -- ---- a value
 
 -- What a value is answered with: itself, from 1 to its limit, or the refusal of what is wrong with it.
-data ValueAnswer (s : List ℕ) (at most : ℕ) : NumberRead → Type 0 where
+pub data ValueAnswer (s : List ℕ) (at most : ℕ) : NumberRead → Type 0 where
   good : {n : Number} → Spelled s at n → 1 ≤ n .value → n .value ≤ most → ValueAnswer s at most (number.Number n)
   bad : (r : RefusedAt) → BadValue s at most (refusalNumber (r .refusal)) (r .place) → ValueAnswer s at most (number.Refused r)
 
@@ -50,7 +50,7 @@ misspelled-refused most b p = simp (bad-read b p)
 
 module _ {s : List ℕ} {at most : ℕ} where
   -- A value in its range is answered.
-  good-value : {n : Number} → Spelled s at n → 1 ≤ n .value → n .value ≤ most → readValue (withinLimit most) s at ≡ number.Number n
+  pub good-value : {n : Number} → Spelled s at n → 1 ≤ n .value → n .value ≤ most → readValue (withinLimit most) s at ≡ number.Number n
   good-value {n} p l h = simp (spelled-read p, le-leb 1 (n .value) l, le-leb (n .value) most h)
 
   -- A value out of its range is refused with 3.
@@ -65,7 +65,7 @@ module _ {s : List ℕ} {at most : ℕ} where
       o
 
   -- Reading a value always answers as `ValueAnswer` says.
-  value-answer : Bytes s → at ≤ length s → ValueAnswer s at most (readValue (withinLimit most) s at)
+  pub value-answer : Bytes s → at ≤ length s → ValueAnswer s at most (readValue (withinLimit most) s at)
   value-answer b inside = go (readAt s at) refl
     where
       outside : (n : Number) → readAt s at ≡ number.Number n → (n .value ≡ 0) ⊎ (most < n .value) → ValueAnswer s at most (readValue (withinLimit most) s at)

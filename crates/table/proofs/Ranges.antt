@@ -22,7 +22,7 @@ nothing-wrong none e = refl
 nothing-wrong (some r) e = cc
 
 -- If a rule refuses exactly where a test fails, it is fine exactly where the test holds.
-fine-where : (t : Bool) (r : Refusal) → fine (cond t none (some r)) ≡ t
+pub fine-where : (t : Bool) (r : Refusal) → fine (cond t none (some r)) ≡ t
 fine-where true r = refl
 fine-where false r = refl
 

@@ -1,8 +1,9 @@
 -- What is known about rows that were read, and how a table is read from them. (docs/RULES.md, section 3.)
-use Prim.Native.Nat.{ℕ, zero, suc, _≤_, _<_}
+use Prim.Native.Nat.{ℕ, zero, suc, _+_, _≤_, _<_}
 use mathlib.Core.Path.{_≡_, refl, sym, ap, ap₂, _∙_}
 use mathlib.Core.Bool.{Bool, true, false, cond}
 use mathlib.Core.List.{List, [], _∷_}
+use native.Mathlib.Numerals.{add-one}
 use native.Mathlib.Omega.{arith}
 use lib.Dec.{leb}
 use lib.ListN.{length, take}
@@ -25,12 +26,16 @@ use Rattle.table.specs.declared.RowRead.{RowRead}
 use Rattle.table.specs.declared.RowRead.the-variants as row
 use Rattle.table.specs.declared.RowsRead.{RowsRead}
 use Rattle.table.specs.declared.RowsAnswer.the-variants as answer
+use Rattle.table.specs.declared.TimerAt.{TimerAt}
+use Rattle.table.specs.declared.TimerRead.the-variants as timer
 use Rattle.table.specs.declared.TableAnswer.the-variants.{Accepted}
 use Rattle.table.specs.Limits.{maxRows, maxPeriod}
-use Rattle.table.specs.Content.{rowsAlone}
-use Rattle.table.specs.Period.{ysOf, leastCommonMultiple}
+use Rattle.table.specs.Content.{Content}
+use Rattle.table.specs.Period.{ysOf, periodsOf, leastCommonMultiple}
 use Rattle.table.specs.Rows.{rowInRange, readRow}
-use Rattle.table.specs.Tables.{heldRows, Rows, rows, refused, inFront, afterRow, readRows, afterCount, rowsFrom, heldAs, tableOf, refusedTable, tableRead}
+use Rattle.table.specs.Timer.{readTimer}
+use Rattle.table.specs.Tables.{heldRows, Rows, rows, refused, inFront, afterRow, readRows, afterCount, rowsFrom, heldAs, tableOf, refusedTable}
+use Rattle.table.specs.Tables.{withRows, tableRead}
 use Rattle.table.specs.SpelledTables.{GoodRows}
 use Rattle.table.proofs.Each.{Each, each-none, each-cons, each-mapped}
 use Rattle.table.proofs.Columns.{map-take}
@@ -111,51 +116,67 @@ held-refused (refused q) read r is e = cc
 pub some-ys : (rs : List Row) → Each (λ r. rowInRange r ≡ true) rs → EachPositive (ysOf rs)
 some-ys rs h = each-mapped _ (λ (r : Row). r .y) rs (λ r m. limits-of r (h r m) .some-y)
 
-module _ (s : List ℕ) (rs : List Row) (next : ℕ) (read : rowsFrom s 0 ≡ rows rs next) (rest : length s ≤ next) where
-  -- With no extra bytes and an H within its limit, the table of the rows is accepted.
-  accepted-of : (h : ℕ) → periodWithin maxPeriod (ysOf rs) ≡ period.Ticks h → record { table = tableOf (rowsAlone rs); answer = Accepted h } ≡ tableRead s
-  accepted-of h e =
-      let means = period-means maxPeriod (ysOf rs) h .0 (ap periodSays e) in
-      let within : leastCommonMultiple (ysOf rs) ≤ maxPeriod = omega (arith, means .1, means .2) in
-      rw (read, le-ltb next (length s) rest, le-leb (leastCommonMultiple (ysOf rs)) maxPeriod within, means .1)
+-- Each number from which H is made is at least 1, where p is and the rows are in range.
+pub some-periods : (content : Content) → 1 ≤ content .p → Each (λ r. rowInRange r ≡ true) (content .rows) → EachPositive (periodsOf content)
+some-periods content some h = each-cons some (some-ys (content .rows) h)
 
-  -- With no extra bytes and an H above its limit, the table is refused.
-  too-long-of : (r : Refusal) → periodWithin maxPeriod (ysOf rs) ≡ period.Refused r → refusedTable (record { refusal = r; place = length s }) ≡ tableRead s
-  too-long-of r e =
-      let above = refused-above maxPeriod (ysOf rs) (some-ys rs (good-rows s 0 read .in-range)) r e in
-      rw (read, le-ltb next (length s) rest, above .0, lt-leb (leastCommonMultiple (ysOf rs)) maxPeriod (above .1))
+-- If the timer is refused, the table is refused so.
+pub timer-refused : (s : List ℕ) (r : RefusedAt) → timer.Refused r ≡ readTimer s → refusedTable r ≡ tableRead s
+timer-refused s r e = rw (← e)
 
-module _ (s : List ℕ) (read : RowsRead) (is : read ≡ heldAs (rowsFrom s 0)) where
-  -- If the rows are refused, the table is refused so.
-  pub table-refused : (r : RefusedAt) → read .answer ≡ answer.Refused r → refusedTable r ≡ tableRead s
-  table-refused r e = rw (held-refused (rowsFrom s 0) read r is e)
+module _ (s : List ℕ) (t : TimerAt) (timed : timer.Timer t ≡ readTimer s) where
+  module _ (rs : List Row) (next : ℕ) (read : rowsFrom s (t .next) ≡ rows rs next) (rest : length s ≤ next) where
+    -- With no extra bytes and an H within its limit, the table of the timer and the rows is accepted.
+    accepted-of : (h : ℕ) → periodWithin maxPeriod (periodsOf (withRows t rs)) ≡ period.Ticks h
+        → record { table = tableOf (withRows t rs); answer = Accepted h } ≡ tableRead s
+    accepted-of h e =
+        let ps = periodsOf (withRows t rs) in
+        let means = period-means maxPeriod ps h .0 (ap periodSays e) in
+        let within : leastCommonMultiple ps ≤ maxPeriod = omega (arith, means .1, means .2) in
+        rw (← timed, read, le-ltb next (length s) rest, le-leb (leastCommonMultiple ps) maxPeriod within, means .1)
 
-  module _ (next : ℕ) (until : read .answer ≡ answer.Until next) where
-    -- Extra bytes are refused at the first of them.
-    pub extra-bytes : next < length s → refusedTable (record { refusal = ExtraBytes; place = next }) ≡ tableRead s
-    extra-bytes h = let v = held-until (rowsFrom s 0) read next is until in rw (v .1, lt-ltb next (length s) h)
+    -- With no extra bytes and an H above its limit, the table is refused.
+    too-long-of : 1 ≤ t .p → (r : Refusal) → periodWithin maxPeriod (periodsOf (withRows t rs)) ≡ period.Refused r
+        → refusedTable (record { refusal = r; place = length s }) ≡ tableRead s
+    too-long-of some r e =
+        let ps = periodsOf (withRows t rs) in
+        let above = refused-above maxPeriod ps (some-periods (withRows t rs) some (good-rows s (t .next) read .in-range)) r e in
+        rw (← timed, read, le-ltb next (length s) rest, above .0, lt-leb (leastCommonMultiple ps) maxPeriod (above .1))
 
-    -- No more rows are in use than a table may have.
-    pub count-fits : read .count ≤ maxRows
-    count-fits = let v = held-until (rowsFrom s 0) read next is until in omega (arith, v .3, good-rows s 0 (v .1) .few-rows)
+  module _ (read : RowsRead) (is : read ≡ heldAs (rowsFrom s (t .next))) where
+    -- If the rows are refused, the table is refused so.
+    pub table-refused : (r : RefusedAt) → read .answer ≡ answer.Refused r → refusedTable r ≡ tableRead s
+    table-refused r e = rw (← timed, held-refused (rowsFrom s (t .next)) read r is e)
 
-    module _ (rest : length s ≤ next) {ys : List ℕ} (column : ys ≡ ysOf (read .rows)) where
-      -- H is made from the y of each row that was read.
-      joining : (rs : List Row) → read .rows ≡ heldRows rs → read .count ≡ length rs → take (read .count) ys ≡ ysOf rs
-      joining rs held many =
-          ap₂ take many (column ∙ ap ysOf held) ∙ sym (map-take (λ (r : Row). r .y) (length rs) (heldRows rs)) ∙ ap ysOf (take-append-seam rs _)
+    module _ (next : ℕ) (until : read .answer ≡ answer.Until next) where
+      -- Extra bytes are refused at the first of them.
+      pub extra-bytes : next < length s → refusedTable (record { refusal = ExtraBytes; place = next }) ≡ tableRead s
+      extra-bytes h = let v = held-until (rowsFrom s (t .next)) read next is until in rw (← timed, v .1, lt-ltb next (length s) h)
 
-      -- If its H is within the limit, the table is accepted.
-      pub accepted : (h : ℕ) → periodWithin maxPeriod (take (read .count) ys) ≡ period.Ticks h
-          → record { table = record { rows = read .rows; count = read .count }; answer = Accepted h } ≡ tableRead s
-      accepted h e =
-          let v = held-until (rowsFrom s 0) read next is until in
-          ap₂ (λ held many. record { table = record { rows = held; count = many }; answer = Accepted h }) (v .2) (v .3)
-          ∙ accepted-of s (v .0) next (v .1) rest h (rw (joining (v .0) (v .2) (v .3)) at e)
+      -- No more rows are in use than a table may have.
+      pub count-fits : read .count ≤ maxRows
+      count-fits = let v = held-until (rowsFrom s (t .next)) read next is until in omega (arith, v .3, good-rows s (t .next) (v .1) .few-rows)
 
-      -- If its H is above the limit, the table is refused.
-      pub period-too-long : (r : Refusal) → periodWithin maxPeriod (take (read .count) ys) ≡ period.Refused r
-          → refusedTable (record { refusal = r; place = length s }) ≡ tableRead s
-      period-too-long r e =
-          let v = held-until (rowsFrom s 0) read next is until in
-          too-long-of s (v .0) next (v .1) rest r (rw (joining (v .0) (v .2) (v .3)) at e)
+      module _ (rest : length s ≤ next) {ps : List ℕ} (column : ps ≡ t .p ∷ ysOf (read .rows)) where
+        -- H is made from p and the y of each row that was read.
+        joining : (rs : List Row) → read .rows ≡ heldRows rs → read .count ≡ length rs → take (read .count + 1) ps ≡ periodsOf (withRows t rs)
+        joining rs held many =
+            let first : take (read .count) (ysOf (read .rows)) ≡ ysOf rs =
+            ap₂ take many (ap ysOf held) ∙ sym (map-take (λ (r : Row). r .y) (length rs) (heldRows rs)) ∙ ap ysOf (take-append-seam rs _)
+            in
+            rw (column, add-one, first)
+
+        -- If its H is within the limit, the table is accepted.
+        pub accepted : (h : ℕ) → periodWithin maxPeriod (take (read .count + 1) ps) ≡ period.Ticks h
+            → record { table = record { s = t .s; p = t .p; rows = read .rows; count = read .count }; answer = Accepted h } ≡ tableRead s
+        accepted h e =
+            let v = held-until (rowsFrom s (t .next)) read next is until in
+            ap₂ (λ held many. record { table = record { s = t .s; p = t .p; rows = held; count = many }; answer = Accepted h }) (v .2) (v .3)
+            ∙ accepted-of (v .0) next (v .1) rest h (rw (joining (v .0) (v .2) (v .3)) at e)
+
+        -- If its H is above the limit, the table is refused.
+        pub period-too-long : 1 ≤ t .p → (r : Refusal) → periodWithin maxPeriod (take (read .count + 1) ps) ≡ period.Refused r
+            → refusedTable (record { refusal = r; place = length s }) ≡ tableRead s
+        period-too-long some r e =
+            let v = held-until (rowsFrom s (t .next)) read next is until in
+            too-long-of (v .0) next (v .1) rest some r (rw (joining (v .0) (v .2) (v .3)) at e)

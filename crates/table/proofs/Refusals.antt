@@ -1,4 +1,5 @@
--- Bytes are refused exactly as the rules say: for their row count, for a bad value, for a hopeless row, for bytes after the rows, or for their H. (docs/RULES.md, 3.3 and 3.7 to 3.12.)
+-- Bytes are refused exactly as the rules say: for their timer, for their row count, for a bad value, for a hopeless row, for bytes after the rows, or for
+-- their H. (docs/RULES.md, 3.3, 3.7 to 3.12 and 3.17.)
 use Prim.Native.Nat.{ℕ, _+_, _≤_}
 use native.Mathlib.Decide.{decLe}
 use native.Mathlib.Omega.{arith}
@@ -19,16 +20,23 @@ use Rattle.numbers.specs.Reading.{readAt}
 use Rattle.numbers.specs.SpelledNumbers.{Bytes}
 use Rattle.numbers.proofs.Spellings.{number-has-one-spelling, spelled-read}
 use Rattle.numbers.proofs.BadByte.{bad-read, refused-bad}
+use Rattle.table.specs.declared.TimerAt.{TimerAt}
+use Rattle.table.specs.declared.TimerRead.{TimerRead}
+use Rattle.table.specs.declared.TimerRead.the-variants as timer
 use Rattle.table.specs.declared.TableAnswer.the-variants.{Accepted, Refused}
 use Rattle.table.specs.Limits.{maxRows, maxPeriod}
 use Rattle.table.specs.Content.{Content}
 use Rattle.table.specs.Period.{periodOf}
-use Rattle.table.specs.Tables.{Rows, rows, refused, readRows, rowsFrom, afterCount, atEnd, afterRows, tableRead}
+use Rattle.table.specs.Timer.{readTimer}
+use Rattle.table.specs.Tables.{Rows, rows, refused, readRows, rowsFrom, afterCount, refusedTable, atEnd, withRows, afterRows, afterTimer, tableRead}
 use Rattle.table.specs.Answers.{tableSays}
 use Rattle.table.specs.SpelledTables.{spelledRow}
-use Rattle.table.specs.Refusals.{PartStands, valueLimits, ValueNext, RowsEnd, ContentEnds, BadValue, misspelled, out-of-range, HopelessRowAt, TableRefusal}
-use Rattle.table.specs.Refusals.{RowsRefusedSo, no-count, too-large-count, bad-value, hopeless-row, RefusedSo, bad-rows, bytes-after, long-period}
+use Rattle.table.specs.Refusals.{PartStands, valueLimits, ValueNext, RowsEnd, TimerEnds, ContentEnds, BadValue, misspelled, out-of-range}
+use Rattle.table.specs.Refusals.{HopelessRowIn, TableRefusal, RowsRefusedSo, no-count, too-large-count, bad-value, hopeless-row}
+use Rattle.table.specs.Refusals.{TimerRefusedSo, no-s, bad-p, s-not-below, RefusedSo, bad-timer, bad-rows, bytes-after, long-period}
 use Rattle.table.proofs.Spelling.{parted, joined, ends-inside, number-stands, RowsStand, count-then, rows-then, rows-end}
+use Rattle.table.proofs.Timers.{timer-then, timer-ends, timer-refused-if-so, timer-so-if-refused}
+use Rattle.table.proofs.SpelledTables.{content-then}
 use Rattle.table.proofs.BadValues.{RowsEndBadly, rows-end-badly, bad-refused, row-refused, rows-refused, RowEnds, badly, hopelessly, HopelessHere, hopeless-refused}
 
 -- ---- rows
@@ -140,17 +148,25 @@ rows-so-if-refused {s} from {r} b inside e = count (readAt s from) refl e
 
 -- If the rules refuse the bytes, the answer says so.
 pub says-refused-if-so : {s : List ℕ} {number place : ℕ} → Bytes s → RefusedSo s number place → tableSays (tableRead s .answer) ≡ refusedWith number place
-says-refused-if-so {s} b (bad-rows w) = let r = rows-refused-if-so b w in rw (r .answer, r .its-number, r .its-place)
-says-refused-if-so {s} b (bytes-after {at} p l) = rw (rows-then p, lt-ltb at (length s) l)
+says-refused-if-so {s} b (bad-timer w) = let r = timer-refused-if-so b w in rw (ap (afterTimer s) (r .answer), r .its-number, r .its-place)
+says-refused-if-so {s} b (bad-rows timed w) =
+    let r = rows-refused-if-so b w in
+    let read : tableRead s ≡ refusedTable (r .how) = ap (afterTimer s) (timer-then timed) ∙ ap (afterRows s _) (r .answer) in
+    rw (read, r .its-number, r .its-place)
+says-refused-if-so {s} b (bytes-after {at} p l) = rw (content-then p, lt-ltb at (length s) l)
 says-refused-if-so {s} b (long-period {content} p l) =
-    rw (rows-then p, le-ltb (length s) (length s) (omega arith), lt-leb (periodOf content) maxPeriod l)
+    rw (content-then p, le-ltb (length s) (length s) (omega arith), lt-leb (periodOf content) maxPeriod l)
+
+-- What stands before the end of a content ends inside the bytes.
+content-inside : {s : List ℕ} {at : ℕ} {content : Content} → ContentEnds s at content → at ≤ length s
+content-inside p = ends-inside (p .its-rows .before) (ends-inside (p .timer .before) (omega arith))
 
 -- After the rows, only extra bytes and an H above its limit are refused.
 refused-at-end : {s : List ℕ} {at : ℕ} {content : Content} {r : RefusedAt} → ContentEnds s at content → atEnd s content at .answer ≡ Refused r
     → RefusedSo s (refusalNumber (r .refusal)) (r .place)
 refused-at-end {s} {at} {content} {r} p e = elim (decLe (length s) at) [
   | yes l ↦
-      let end : at ≡ length s = omega (arith, ends-inside (p .before) (omega arith)) in
+      let end : at ≡ length s = omega (arith, content-inside p) in
       elim (decLe (periodOf content) maxPeriod) [
         | yes h ↦
             let z : Accepted (periodOf content) ≡ Refused r = simp (le-ltb at (length s) l, le-leb (periodOf content) maxPeriod h) at e in
@@ -168,22 +184,39 @@ refused-at-end {s} {at} {content} {r} p e = elim (decLe (length s) at) [
 
 -- If reading the bytes is refused, the rules refuse them so.
 pub so-if-refused : (s : List ℕ) (r : RefusedAt) → Bytes s → tableRead s .answer ≡ Refused r → RefusedSo s (refusalNumber (r .refusal)) (r .place)
-so-if-refused s r b e = after (rowsFrom s 0) refl e
+so-if-refused s r b e = first (readTimer s) refl e
   where
-    after : (v : Rows) → rowsFrom s 0 ≡ v → afterRows s v .answer ≡ Refused r → RefusedSo s (refusalNumber (r .refusal)) (r .place)
-    after (rows rs at) f g = refused-at-end {content = record { rows = rs }} (rows-end 0 b f) g
-    after (refused q) f g = let same : q ≡ r = cc in bad-rows (rows-so-if-refused 0 b (omega arith) (f ∙ ap refused same))
+    after : (t : TimerAt) → TimerEnds s (t .next) (t .s) (t .p) → (v : Rows) → rowsFrom s (t .next) ≡ v → afterRows s t v .answer ≡ Refused r
+        → RefusedSo s (refusalNumber (r .refusal)) (r .place)
+    after t timed (rows rs at) f g =
+        refused-at-end {content = withRows t rs} (record { from = t .next; timer = timed; its-rows = rows-end (t .next) b f }) g
+    after t timed (refused q) f g =
+        let same : q ≡ r = cc in
+        let inside : t .next ≤ length s = ends-inside (timed .before) (omega arith) in
+        bad-rows timed (rows-so-if-refused (t .next) b inside (f ∙ ap refused same))
+
+    first : (v : TimerRead) → readTimer s ≡ v → afterTimer s v .answer ≡ Refused r → RefusedSo s (refusalNumber (r .refusal)) (r .place)
+    first (timer.Timer t) f g = after t (timer-ends b f) (rowsFrom s (t .next)) refl g
+    first (timer.Refused q) f g = let same : q ≡ r = cc in bad-timer (timer-so-if-refused b (f ∙ ap timer.Refused same))
+
+-- A bad value is refused with 1 or 3.
+value-refusal : {s : List ℕ} {at most number place : ℕ} → BadValue s at most number place → (1 ≤ number) × (number ≤ 3)
+value-refusal (misspelled none) = (omega arith, omega arith)
+value-refusal (out-of-range n read outside) = (omega arith, omega arith)
+
+-- The rules refuse a timer with 1 or 3.
+timer-refusal : {s : List ℕ} {number place : ℕ} → TimerRefusedSo s number place → (1 ≤ number) × (number ≤ 3)
+timer-refusal (no-s none) = (omega arith, omega arith)
+timer-refusal (bad-p s stands bad) = value-refusal bad
+timer-refusal (s-not-below s p stands stands′ some most above) = (omega arith, omega arith)
 
 -- The rules refuse bytes with the numbers 1 to 5 and 16 only.
 pub table-refusal : {s : List ℕ} {number place : ℕ} → RefusedSo s number place → TableRefusal number
-table-refusal (bad-rows (no-count none)) = inl (omega arith, omega arith)
-table-refusal (bad-rows (too-large-count n read many)) = inl (omega arith, omega arith)
-table-refusal (bad-rows (bad-value next bad)) = of-a-value bad
-  where
-    of-a-value : {s : List ℕ} {at most number place : ℕ} → BadValue s at most number place → TableRefusal number
-    of-a-value (misspelled none) = inl (omega arith, omega arith)
-    of-a-value (out-of-range n read outside) = inl (omega arith, omega arith)
-table-refusal (bad-rows (hopeless-row p)) = inr refl
+table-refusal (bad-timer bad) = let n = timer-refusal bad in inl (n .0, omega (arith, n .1))
+table-refusal (bad-rows timed (no-count none)) = inl (omega arith, omega arith)
+table-refusal (bad-rows timed (too-large-count n read many)) = inl (omega arith, omega arith)
+table-refusal (bad-rows timed (bad-value next bad)) = let n = value-refusal bad in inl (n .0, omega (arith, n .1))
+table-refusal (bad-rows timed (hopeless-row p)) = inr refl
 table-refusal (bytes-after ended more) = inl (omega arith, omega arith)
 table-refusal (long-period ended long) = inl (omega arith, omega arith)
 
@@ -192,14 +225,12 @@ pub refused-as-a-table : (s : List ℕ) (r : RefusedAt) → Bytes s → tableRea
 refused-as-a-table s r bytes e = table-refusal (so-if-refused s r bytes e)
 
 -- The rules refuse bytes with 16 for a hopeless row only.
-pub sixteen-is-hopeless : {s : List ℕ} {number place : ℕ} → number ≡ 16 → RefusedSo s number place → HopelessRowAt s 0 place
-sixteen-is-hopeless e (bad-rows (no-count none)) = absurd (omega arith)
-sixteen-is-hopeless e (bad-rows (too-large-count n read many)) = absurd (omega arith)
-sixteen-is-hopeless {s} e (bad-rows (bad-value next bad)) = of-a-value e bad
-  where
-    of-a-value : {at most number place : ℕ} → number ≡ 16 → BadValue s at most number place → HopelessRowAt s 0 place
-    of-a-value f (misspelled none) = absurd (omega arith)
-    of-a-value f (out-of-range n read outside) = absurd (omega arith)
-sixteen-is-hopeless e (bad-rows (hopeless-row p)) = p
+pub sixteen-is-hopeless : {s : List ℕ} {number place : ℕ} → number ≡ 16 → RefusedSo s number place → HopelessRowIn s place
+sixteen-is-hopeless e (bad-timer bad) = absurd (omega (arith, timer-refusal bad))
+sixteen-is-hopeless e (bad-rows timed (no-count none)) = absurd (omega arith)
+sixteen-is-hopeless e (bad-rows timed (too-large-count n read many)) = absurd (omega arith)
+sixteen-is-hopeless e (bad-rows timed (bad-value next bad)) = absurd (omega (arith, value-refusal bad))
+sixteen-is-hopeless e (bad-rows {from = from} {ts = ts} {tp = tp} timed (hopeless-row p)) =
+    record { s = ts; p = tp; from = from; timer = timed; its-row = p }
 sixteen-is-hopeless e (bytes-after ended more) = absurd (omega arith)
 sixteen-is-hopeless e (long-period ended long) = absurd (omega arith)

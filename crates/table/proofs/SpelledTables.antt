@@ -3,7 +3,7 @@
 use Prim.Native.Nat.{ℕ, _≤_}
 use native.Mathlib.Omega.{arith}
 use mathlib.Core.Path.{_≡_, refl, sym, ap, _∙_}
-use mathlib.Core.List.{List, append-nil}
+use mathlib.Core.List.{List, _++_, append-nil, append-assoc}
 use mathlib.Core.Bool.{Bool, true, false, cond}
 use lib.Dec.{ltb, leb}
 use lib.ListN.{length, drop-of-length-le}
@@ -12,40 +12,65 @@ use borrow.Author.Tests.{le-leb, le-ltb, leb-true, ltb-false}
 use Rattle.kinds.specs.declared.RefusedAt.{RefusedAt}
 use Rattle.kinds.proofs.Apart.{impossible}
 use Rattle.periods.proofs.Multiples.{period-is-least}
+use Rattle.numbers.specs.Spelling.{spelling}
 use Rattle.numbers.specs.SpelledNumbers.{Bytes}
+use Rattle.numbers.proofs.Spellings.{spelling-last}
 use Rattle.table.specs.declared.Row.{Row}
+use Rattle.table.specs.declared.TimerAt.{TimerAt}
+use Rattle.table.specs.declared.TimerRead.{TimerRead}
+use Rattle.table.specs.declared.TimerRead.the-variants as timer
 use Rattle.table.specs.declared.TableRead.{TableRead}
 use Rattle.table.specs.declared.TableAnswer.the-variants.{Accepted}
 use Rattle.table.specs.Limits.{maxPeriod}
-use Rattle.table.specs.Content.{Content, rowsAlone}
+use Rattle.table.specs.Content.{Content}
 use Rattle.table.specs.Period.{periodsOf, periodOf}
-use Rattle.table.specs.Tables.{Rows, rows, refused, contentOf, tableOf, rowsFrom, refusedTable, afterRows, tableRead}
-use Rattle.table.specs.SpelledTables.{spelledTable, Acceptable, AcceptedAs, UsableContent}
-use Rattle.table.specs.TableLaws.{InRangeMeans, ContentOfTable, SpellingsOfTablesDiffer}
-use Rattle.table.specs.Refusals.{RowsEnd}
+use Rattle.table.specs.Timer.{readTimer}
+use Rattle.table.specs.Tables.{Rows, rows, refused, contentOf, tableOf, rowsFrom, refusedTable, atEnd, withRows, afterRows, afterTimer, tableRead}
+use Rattle.table.specs.SpelledTables.{spelledRows, spelledTable, Acceptable, AcceptedAs, UsableContent}
+use Rattle.table.specs.TableLaws.{InRangeMeans, ContentOfTable, RowsAloneAreSpelled, SpellingsOfTablesDiffer}
+use Rattle.table.specs.Refusals.{PartStands, TimerEnds, RowsEnd, ContentEnds}
 use Rattle.table.proofs.Ranges.{limits-of, in-range-of}
-use Rattle.table.proofs.ReadTables.{some-ys}
-use Rattle.table.proofs.Spelling.{stands-whole, rows-then, rows-end}
+use Rattle.table.proofs.ReadTables.{some-periods}
+use Rattle.table.proofs.Spelling.{stands-whole, parted, joined, rows-then, rows-end}
+use Rattle.table.proofs.Timers.{timer-then, timer-ends}
 
 pub in-range-means : InRangeMeans
 in-range-means r = (limits-of r, in-range-of r)
 
 pub content-of-table : ContentOfTable
-content-of-table content = ap rowsAlone (take-append-seam (content .rows) _)
+content-of-table content = ap (λ rs. record { s = content .s; p = content .p; rows = rs }) (take-append-seam (content .rows) _)
+
+pub rows-alone-are-spelled : RowsAloneAreSpelled
+rows-alone-are-spelled all = rw (spelling-last 0 (omega arith), spelling-last 1 (omega arith))
 
 -- ---- the spelling of a table
+
+-- If a content ends at a place in the sense of `ContentEnds`, its table is read up to that place, and the tests after the rows are left.
+pub content-then : {s : List ℕ} {at : ℕ} {content : Content} → ContentEnds s at content → tableRead s ≡ atEnd s content at
+content-then {s} e = ap (afterTimer s) (timer-then (e .timer)) ∙ ap (afterRows s _) (rows-then (e .its-rows))
+
+-- Where the spelling of an acceptable content is all there is, the content ends in the sense of `ContentEnds`.
+spelled-ends : (content : Content) → Acceptable content → ContentEnds (spelledTable content) (length (spelledTable content)) content
+spelled-ends content a =
+    let s = spelledTable content in
+    let first = parted (spelling (content .s)) (spelling (content .p) ++ spelledRows (content .rows)) (stands-whole s) in
+    let second = parted (spelling (content .p)) (spelledRows (content .rows)) (first .2) in
+    record {
+      from = second .0;
+      timer = record { good-timer = a .good-timer; before = joined (first .1) (second .1) };
+      its-rows = record {
+        few-rows = a .good-rows .few-rows;
+        rows-acceptable = λ r m. record { within-limits = limits-of r (a .good-rows .in-range r m); c-within-d = a .good-rows .c-within-d r m };
+        before = second .2;
+      };
+    }
 
 -- The spelling of an acceptable content is read as its table.
 pub spelled-is-read : (content : Content) → Acceptable content
     → tableRead (spelledTable content) ≡ record { table = tableOf content; answer = Accepted (periodOf content) }
 spelled-is-read content a =
     let s = spelledTable content in
-    let ended : RowsEnd s 0 (length s) (content .rows) = record {
-      few-rows = a .good-rows .few-rows;
-      rows-acceptable = λ r m. record { within-limits = limits-of r (a .good-rows .in-range r m); c-within-d = a .good-rows .c-within-d r m };
-      before = stands-whole s;
-    } in
-    ap (afterRows s) (rows-then ended) ∙ simp (le-ltb (length s) (length s) (omega arith), le-leb (periodOf content) maxPeriod (a .period-within))
+    content-then (spelled-ends content a) ∙ simp (le-ltb (length s) (length s) (omega arith), le-leb (periodOf content) maxPeriod (a .period-within))
 
 -- If a test refuses the table where it holds, and the table is accepted, then the test does not hold.
 refused-if : (t : Bool) (at : RefusedAt) (then : TableRead) {h : ℕ} → cond t (refusedTable at) then .answer ≡ Accepted h
@@ -59,39 +84,50 @@ refused-unless : (t : Bool) (at : RefusedAt) (then : TableRead) {h : ℕ} → co
 refused-unless true at then e = (refl, e)
 refused-unless false at then e = (cc, cc)
 
--- If a table is accepted, its rows were read, nothing follows them, and its H is within the limit.
-record RowsAccepted (s : List ℕ) (v : Rows) (h : ℕ) : Type 0 where
+-- If a table is accepted, its rows were read after its timer, nothing follows them, and its H is within the limit.
+record RowsAccepted (s : List ℕ) (t : TimerAt) (v : Rows) (h : ℕ) : Type 0 where
   all : List Row
   next : ℕ
   were-read : v ≡ rows all next
   nothing-after : length s ≤ next
-  period-within : periodOf (rowsAlone all) ≤ maxPeriod
-  period : h ≡ periodOf (rowsAlone all)
-  table : afterRows s v .table ≡ tableOf (rowsAlone all)
+  period-within : periodOf (withRows t all) ≤ maxPeriod
+  period : h ≡ periodOf (withRows t all)
+  table : afterRows s t v .table ≡ tableOf (withRows t all)
 
-rows-accepted : (s : List ℕ) (v : Rows) (h : ℕ) → afterRows s v .answer ≡ Accepted h → RowsAccepted s v h
-rows-accepted s (rows rs next) h e =
+rows-accepted : (s : List ℕ) (t : TimerAt) (v : Rows) (h : ℕ) → afterRows s t v .answer ≡ Accepted h → RowsAccepted s t v h
+rows-accepted s t (rows rs next) h e =
     let last = refused-if (ltb next (length s)) _ _ e in
-    let short = refused-unless (leb (periodOf (rowsAlone rs)) maxPeriod) _ _ (last .1) in
+    let short = refused-unless (leb (periodOf (withRows t rs)) maxPeriod) _ _ (last .1) in
     record {
       all = rs;
       next = next;
       were-read = refl;
       nothing-after = ltb-false next (length s) (last .0);
-      period-within = leb-true (periodOf (rowsAlone rs)) maxPeriod (short .0);
+      period-within = leb-true (periodOf (withRows t rs)) maxPeriod (short .0);
       period = cc (short .1);
       table = simp (last .0, short .0);
     }
-rows-accepted s (refused at) h e = impossible cc
+rows-accepted s t (refused at) h e = impossible cc
+
+-- If a table is accepted, its timer was read.
+timer-accepted : (s : List ℕ) (v : TimerRead) (h : ℕ) → afterTimer s v .answer ≡ Accepted h
+    → (t : TimerAt) × (v ≡ timer.Timer t) × (afterRows s t (rowsFrom s (t .next)) .answer ≡ Accepted h)
+timer-accepted s (timer.Timer t) h e = (t, refl, e)
+timer-accepted s (timer.Refused r) h e = impossible cc
 
 -- Bytes that are accepted are the spelling of an acceptable content.
 pub accepted-is-spelled : (s : List ℕ) (h : ℕ) → Bytes s → tableRead s .answer ≡ Accepted h → (content : Content) × AcceptedAs s h content
 accepted-is-spelled s h b e =
-    let r = rows-accepted s (rowsFrom s 0) h e in
-    let ended = rows-end 0 b (r .were-read) in (
-      rowsAlone (r .all),
+    let w = timer-accepted s (readTimer s) h e in
+    let t = w .0 in
+    let timed = timer-ends b (w .1) in
+    let r = rows-accepted s t (rowsFrom s (t .next)) h (w .2) in
+    let ended = rows-end (t .next) b (r .were-read) in
+    let whole = joined (timed .before) (ended .before) in (
+      withRows t (r .all),
       record {
         acceptable = record {
+          good-timer = timed .good-timer;
           good-rows = record {
             few-rows = ended .few-rows;
             in-range = λ q m. in-range-of q (ended .rows-acceptable q m .within-limits);
@@ -99,8 +135,8 @@ accepted-is-spelled s h b e =
           };
           period-within = r .period-within;
         };
-        spelled = ended .before .here ∙ rw (drop-of-length-le s (r .nothing-after), append-nil);
-        read-as = r .table;
+        spelled = whole .here ∙ rw (drop-of-length-le s (r .nothing-after), append-nil, append-assoc);
+        read-as = ap (λ v. afterTimer s v .table) (w .1) ∙ r .table;
         period = r .period;
       },
     )
@@ -120,9 +156,10 @@ accepted-as-read s h b e = let a = accepted-is-spelled s h b e in rw (a .1 .read
 usable-content : (s : List ℕ) (h : ℕ) (content : Content) → AcceptedAs s h content → UsableContent s h content
 usable-content s h content a =
     let good = a .acceptable .good-rows .in-range in
-    let least = period-is-least (periodsOf content) (some-ys (content .rows) good) in
+    let least = period-is-least (periodsOf content) (some-periods content (a .acceptable .good-timer .some-p) good) in
     record {
       accepted-as = a;
+      good-timer = a .acceptable .good-timer;
       within-limits = λ r m. limits-of r (good r m);
       c-within-d = a .acceptable .good-rows .c-within-d;
       some-period = rw (a .period) (least .positive);

@@ -48,5 +48,5 @@ refused-as-a-table s number place b e = table-refusal (refused-exactly s number 
 pub refused-with-sixteen : RefusedWithSixteen
 refused-with-sixteen s place b = (
   λ e. sixteen-is-hopeless refl (refused-exactly s 16 place b .0 e),
-  λ p. refused-exactly s 16 place b .1 (bad-rows (hopeless-row p)),
+  λ p. refused-exactly s 16 place b .1 (bad-rows (p .timer) (hopeless-row (p .its-row))),
 )

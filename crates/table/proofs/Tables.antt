@@ -14,12 +14,17 @@ use Rattle.kinds.proofs.Apart.{impossible}
 use Rattle.numbers.specs.SpelledNumbers.{Bytes}
 use Rattle.table.specs.declared.Row.{Row}
 use Rattle.table.specs.declared.Table.{Table}
+use Rattle.table.specs.declared.TimerAt.{TimerAt}
+use Rattle.table.specs.declared.TimerRead.{TimerRead}
+use Rattle.table.specs.declared.TimerRead.the-variants as timer
 use Rattle.table.specs.declared.TableRead.{TableRead}
 use Rattle.table.specs.declared.TableAnswer.the-variants.{Accepted, Refused}
 use Rattle.table.specs.Limits.{maxRows, maxPeriod}
 use Rattle.table.specs.Content.{Content, rowsAlone}
 use Rattle.table.specs.Period.{periodOf}
-use Rattle.table.specs.Tables.{InRange, Rows, rows, refused, noRow, heldRows, rowsOf, tableOf, emptyTable, rowsFrom, afterRows, tableRead}
+use Rattle.table.specs.Timer.{GoodTimer, readTimer}
+use Rattle.table.specs.Tables.{InRange, Rows, rows, refused, noRow, heldRows, rowsOf, tableOf, emptyTable, rowsFrom, withRows, afterRows, afterTimer}
+use Rattle.table.specs.Tables.{tableRead}
 use Rattle.table.specs.SpelledTables.{GoodRows}
 use Rattle.table.specs.TableLaws.{LimitsOfTables, ReadInRange, UnusedHoldZeros}
 use Rattle.table.proofs.Each.{stands-in, each-none}
@@ -54,13 +59,18 @@ unused-held rs i h =
 no-rows-good : GoodRows []
 no-rows-good = record { few-rows = omega arith; in-range = each-none _; c-within-d = each-none _ }
 
+-- A table may have the timer that takes no tick.
+no-timer-good : GoodTimer 0 1
+no-timer-good = record { some-p = omega arith; most-p = omega arith; s-below-p = omega arith }
+
 -- ---- tables in range
 
--- The table of a content with good rows is in range.
-good-in-range : (content : Content) → GoodRows (content .rows) → InRange (tableOf content)
-good-in-range content good =
+-- The table of a content with a good timer and good rows is in range.
+good-in-range : (content : Content) → GoodTimer (content .s) (content .p) → GoodRows (content .rows) → InRange (tableOf content)
+good-in-range content timed good =
     let rs = content .rows in
     record {
+      good-timer = timed;
       few-rows = good .few-rows;
       all-places = places-held rs good;
       rows-in-range = λ i h. rw (row-held rs i h) (good .in-range (getD rs i noRow) (stands-in rs i noRow h));
@@ -84,21 +94,29 @@ either true r q a b = a
 either false r q a b = b
 
 -- The answer after the rows is accepted or empty.
-after-rows : (s : List ℕ) (v : Rows) → AcceptedOrEmpty (afterRows s v)
-after-rows s (rows rs next) =
+after-rows : (s : List ℕ) (t : TimerAt) (v : Rows) → AcceptedOrEmpty (afterRows s t v)
+after-rows s t (rows rs next) =
     either (ltb next (length s)) _ _ (inr refl)
-    (either (leb (periodOf (rowsAlone rs)) maxPeriod) _ _ (inl (periodOf (rowsAlone rs), refl)) (inr refl))
-after-rows s (refused at) = inr refl
+    (either (leb (periodOf (withRows t rs)) maxPeriod) _ _ (inl (periodOf (withRows t rs), refl)) (inr refl))
+after-rows s t (refused at) = inr refl
 
--- Bytes are always read as the table of a content whose rows a table may have.
-read-as-content : (s : List ℕ) → Bytes s → (content : Content) × (tableRead s .table ≡ tableOf content) × GoodRows (content .rows)
+-- The answer after the timer is accepted or empty.
+after-timer : (s : List ℕ) (v : TimerRead) → AcceptedOrEmpty (afterTimer s v)
+after-timer s (timer.Timer t) = after-rows s t (rowsFrom s (t .next))
+after-timer s (timer.Refused at) = inr refl
+
+-- Bytes are always read as the table of a content whose timer and rows a table may have.
+read-as-content : (s : List ℕ) → Bytes s
+    → (content : Content) × (tableRead s .table ≡ tableOf content) × GoodTimer (content .s) (content .p) × GoodRows (content .rows)
 read-as-content s b = ⊎-elim
-    (λ accepted. let a = accepted-is-spelled s (accepted .0) b (accepted .1) in (a .0, a .1 .read-as, a .1 .acceptable .good-rows))
-    (λ empty. (rowsAlone [], empty, no-rows-good))
-    (after-rows s (rowsFrom s 0))
+    (λ accepted.
+    let a = accepted-is-spelled s (accepted .0) b (accepted .1) in
+    (a .0, a .1 .read-as, a .1 .acceptable .good-timer, a .1 .acceptable .good-rows))
+    (λ empty. (rowsAlone [], empty, no-timer-good, no-rows-good))
+    (after-timer s (readTimer s))
 
 pub read-in-range : ReadInRange
-read-in-range s b = let t = read-as-content s b in rw (t .1) (good-in-range (t .0) (t .2))
+read-in-range s b = let t = read-as-content s b in rw (t .1) (good-in-range (t .0) (t .2) (t .3))
 
 pub unused-hold-zeros : UnusedHoldZeros
 unused-hold-zeros s b i = let t = read-as-content s b in rw (t .1) (unused-held (t .0 .rows) i)
@@ -106,4 +124,4 @@ unused-hold-zeros s b i = let t = read-as-content s b in rw (t .1) (unused-held 
 -- Bytes that are refused are read as the empty table.
 pub refused-is-empty : (s : List ℕ) (r : RefusedAt) → tableRead s .answer ≡ Refused r → tableRead s .table ≡ emptyTable
 refused-is-empty s r e =
-    ⊎-elim (λ accepted. impossible (cc (accepted .1, e))) (λ empty. empty) (after-rows s (rowsFrom s 0))
+    ⊎-elim (λ accepted. impossible (cc (accepted .1, e))) (λ empty. empty) (after-timer s (readTimer s))

@@ -2,6 +2,7 @@ pub mod Limits
 pub mod Content
 pub mod Period
 pub mod Rows
+pub mod Timer
 pub mod Tables
 pub mod Costs
 pub mod Answers

@@ -22,10 +22,14 @@ maxD = 16384
 abbrev pub maxC : ℕ
 maxC = 4096
 
+-- The timer's p is at most this. (3.16)
+abbrev pub maxP : ℕ
+maxP = 4096
+
 -- H is at most this many ticks. (3.4)
 abbrev pub maxPeriod : ℕ
 maxPeriod = 1048576
 
--- `Table::limits` hands out all limits of a table in one record. (3.1, 3.2, 3.4)
+-- `Table::limits` hands out all limits of a table in one record. (3.1, 3.2, 3.4, 3.16)
 abbrev pub limits : Limits
-limits = record { rows = maxRows; x = maxX; y = maxY; d = maxD; c = maxC; period = maxPeriod }
+limits = record { p = maxP; rows = maxRows; x = maxX; y = maxY; d = maxD; c = maxC; period = maxPeriod }

@@ -1,5 +1,5 @@
 -- Which bytes are refused as a table, with which number and at which place. There is one case for each test, in the order of the tests. A case describes the
--- bytes before the place by their spelling, and not by what the reader does with them. (docs/RULES.md, 3.3 and 3.7 to 3.12.)
+-- bytes before the place by their spelling, and not by what the reader does with them. (docs/RULES.md, 3.3, 3.7 to 3.12 and 3.17.)
 use Prim.Native.Nat.{ℕ, _+_, _≤_, _<_}
 use mathlib.Core.Path.{_≡_}
 use mathlib.Core.Logic.{_↔_, _⊎_}
@@ -10,9 +10,10 @@ use Rattle.numbers.specs.SpelledNumbers.{Bytes, Spelled}
 use Rattle.numbers.specs.BadByte.{BadByteAt, FirstBadByte}
 use Rattle.numbers.specs.Spelling.{spelling}
 use Rattle.table.specs.declared.Row.{Row}
-use Rattle.table.specs.Limits.{maxRows, maxX, maxY, maxD, maxC, maxPeriod}
+use Rattle.table.specs.Limits.{maxRows, maxX, maxY, maxD, maxC, maxP, maxPeriod}
 use Rattle.table.specs.Content.{Content}
 use Rattle.table.specs.Period.{periodOf}
+use Rattle.table.specs.Timer.{GoodTimer}
 use Rattle.table.specs.SpelledTables.{WithinLimits, AcceptableRow, spelledRow, spelledRows, SaysRefused}
 
 -- In the bytes s, `part` stands from the place `at` on, and `next` is the place right after it.
@@ -55,9 +56,9 @@ pub data BadValue (s : List ℕ) (at most : ℕ) : (number place : ℕ) → Type
   misspelled : {place : ℕ} → BadByteAt s at place → BadValue s at most 1 place
   out-of-range : (n : Number) → Spelled s at n → (n .value ≡ 0) ⊎ (most < n .value) → BadValue s at most 3 at
 
--- No test before the place `at` refuses, the c of a row begins there, and this row is hopeless. Between the row count's place `from` and `at` stand a row count of
--- at most the limit of rows, fewer rows than it counts, each of which a table may have, and the x, y and d of the next row. Its four values are in range, and its
--- c is above its d. (3.3)
+-- No test before the place `at` refuses, the c of a row begins there, and this row is hopeless. Between the row count's place `from` and `at` stand a row count
+-- of at most the limit of rows, fewer rows than it counts, each of which a table may have, and the x, y and d of the next row. Its four values are in range,
+-- and its c is above its d. (3.3)
 pub record HopelessRowAt (s : List ℕ) (from at : ℕ) : Type 0 where
   pub count : ℕ
   pub rows : List Row
@@ -82,20 +83,51 @@ pub data RowsRefusedSo (s : List ℕ) (from : ℕ) : (number place : ℕ) → Ty
   -- If a row's four values are in range and its c is above its d, that is refusal 16, at the start of c, whatever follows. (3.3)
   hopeless-row : {at : ℕ} → HopelessRowAt s from at → RowsRefusedSo s from 16 at
 
+-- ---- the timer, whose s stands at place 0
+
+-- No test before the place `at` refuses, and the timer with this s and p ends there: a table may have it, and its spelling stands before `at`. (3.6, 3.16)
+pub record TimerEnds (bytes : List ℕ) (at s p : ℕ) : Type 0 where
+  pub good-timer : GoodTimer s p
+  pub before : PartStands bytes 0 (spelling s ++ spelling p) at
+
+-- The rules refuse the timer, with this number and at this place. (3.8, 3.17)
+pub data TimerRefusedSo (bytes : List ℕ) : (number place : ℕ) → Type 0 where
+  -- If s can't be read, that is refusal 1, at its bad byte. (3.8)
+  no-s : {place : ℕ} → BadByteAt bytes 0 place → TimerRefusedSo bytes 1 place
+  -- If p, which stands after s, can't be read, that is refusal 1, at its bad byte. If it is out of its range, that is refusal 3, at its start. Both hold
+  -- whatever s is. (3.8, 3.17)
+  bad-p : {number place : ℕ} (s : Number) → Spelled bytes 0 s → BadValue bytes (s .next) maxP number place → TimerRefusedSo bytes number place
+  -- If p is in its range and s is not below it, that is refusal 3, at the start of s. (3.17)
+  s-not-below : (s p : Number) → Spelled bytes 0 s → Spelled bytes (s .next) p → 1 ≤ p .value → p .value ≤ maxP → p .value ≤ s .value
+      → TimerRefusedSo bytes 3 0
+
 -- ---- tables
 
--- No test before the place `at` refuses, and the rows of the content end there. Their count stands at place 0. (3.6, 3.7)
-abbrev pub ContentEnds : List ℕ → (at : ℕ) → Content → Type 0
-ContentEnds s at content = RowsEnd s 0 at (content .rows)
+-- No test before the place `at` refuses, and the rows of the content end there. Their count stands at the place `from`, where the timer ends. (3.6, 3.7)
+pub record ContentEnds (s : List ℕ) (at : ℕ) (content : Content) : Type 0 where
+  pub from : ℕ
+  pub timer : TimerEnds s from (content .s) (content .p)
+  pub its-rows : RowsEnd s from at (content .rows)
 
--- The rules refuse the bytes s as a table, with this number and at this place. (3.3, 3.7 to 3.12)
+-- The rules refuse the bytes as a table, with this number and at this place. (3.3, 3.7 to 3.12, 3.17)
 pub data RefusedSo (s : List ℕ) : (number place : ℕ) → Type 0 where
-  -- If the rules refuse the rows, whose count stands at place 0, that is refusal 1, 2, 3 or 16. (3.3, 3.8 to 3.10)
-  bad-rows : {number place : ℕ} → RowsRefusedSo s 0 number place → RefusedSo s number place
+  -- If the rules refuse the timer, that is refusal 1 or 3. (3.8, 3.17)
+  bad-timer : {number place : ℕ} → TimerRefusedSo s number place → RefusedSo s number place
+  -- If the rules refuse the rows, whose count stands where a timer ends that a table may have, that is refusal 1, 2, 3 or 16. (3.3, 3.8 to 3.10)
+  bad-rows : {number place from ts tp : ℕ} → TimerEnds s from ts tp → RowsRefusedSo s from number place → RefusedSo s number place
   -- If there are bytes after the last row, that is refusal 4, at the first of them. (3.11)
   bytes-after : {at : ℕ} {content : Content} → ContentEnds s at content → at < length s → RefusedSo s 4 at
   -- If H is above 1,048,576, that is refusal 5, at the table's length. (3.12)
   long-period : {content : Content} → ContentEnds s (length s) content → maxPeriod < periodOf content → RefusedSo s 5 (length s)
+
+-- A row of a table is hopeless and no test before its c refuses. The c begins at this place. The row count stands at the place `from`, where a timer ends that
+-- a table may have. (3.3, 3.6)
+pub record HopelessRowIn (bytes : List ℕ) (place : ℕ) : Type 0 where
+  pub s : ℕ
+  pub p : ℕ
+  pub from : ℕ
+  pub timer : TimerEnds bytes from s p
+  pub its-row : HopelessRowAt bytes from place
 
 -- A table is refused with these numbers and no other: 1 to 5 and 16. (10.4)
 abbrev pub TableRefusal : (number : ℕ) → Type 0
@@ -104,7 +136,7 @@ TableRefusal number = ((1 ≤ number) × (number ≤ 5)) ⊎ (number ≡ 16)
 -- ---- what is proved (proofs/TableAnswers.antt and BadBytes.antt)
 
 -- Reading bytes answers a refusal, with its number and its place, exactly when the rules refuse the bytes so. All other bytes are accepted, since an answer is
--- one or the other. (3.7 to 3.13)
+-- one or the other. (3.7 to 3.13, 3.17)
 abbrev pub RefusedExactly : Type 0
 RefusedExactly = (s : List ℕ) (number place : ℕ) → Bytes s → SaysRefused s number place ↔ RefusedSo s number place
 
@@ -118,4 +150,4 @@ RefusedAsATable = (s : List ℕ) (number place : ℕ) → Bytes s → SaysRefuse
 
 -- Bytes are refused with 16 exactly where a row is hopeless and no test before its c refuses, and at the start of that c. (3.3)
 abbrev pub RefusedWithSixteen : Type 0
-RefusedWithSixteen = (s : List ℕ) (place : ℕ) → Bytes s → SaysRefused s 16 place ↔ HopelessRowAt s 0 place
+RefusedWithSixteen = (s : List ℕ) (place : ℕ) → Bytes s → SaysRefused s 16 place ↔ HopelessRowIn s place

@@ -11,6 +11,7 @@ use Rattle.table.specs.Limits.{maxRows, maxX, maxY, maxD, maxC, maxPerio
 use Rattle.table.specs.Content.{Content}
 use Rattle.table.specs.Period.{periodsOf, periodOf}
 use Rattle.table.specs.Rows.{rowInRange}
+use Rattle.table.specs.Timer.{GoodTimer}
 use Rattle.table.specs.Tables.{tableOf, tableRead}
 use Rattle.table.specs.Answers.{tableSays}
 
@@ -44,12 +45,13 @@ pub record GoodRows (rows : List Row) : Type 0 where
   pub in-range : (r : Row) → List·Memᴰ r rows → rowInRange r ≡ true
   pub c-within-d : (r : Row) → List·Memᴰ r rows → r .c ≤ r .d
 
--- A table is spelled as its rows are, with nothing after them. (3.6)
+-- A table is spelled as its timer's s and p and then its rows, with nothing after them. (3.6)
 abbrev pub spelledTable : Content → List ℕ
-spelledTable content = spelledRows (content .rows)
+spelledTable content = spelling (content .s) ++ (spelling (content .p) ++ spelledRows (content .rows))
 
--- A content is acceptable when a table may have its rows and its H is at most 1,048,576. (3.1 to 3.4)
+-- A content is acceptable when a table may have its timer and its rows, and its H is at most 1,048,576. (3.1 to 3.4, 3.16)
 pub record Acceptable (content : Content) : Type 0 where
+  pub good-timer : GoodTimer (content .s) (content .p)
   pub good-rows : GoodRows (content .rows)
   pub period-within : periodOf content ≤ maxPeriod
 
@@ -60,10 +62,11 @@ pub record AcceptedAs (s : List ℕ) (h : ℕ) (content : Content) : Type 0 wher
   pub read-as : tableRead s .table ≡ tableOf content
   pub period : h ≡ periodOf content
 
--- Other crates may use this about an accepted table: the bytes s were accepted as this content, each row is within its limits and has a c of at most its d, and
--- h is at least 1, at most 1,048,576 and a multiple of each y. (3.2 to 3.4)
+-- Other crates may use this about an accepted table: the bytes s were accepted as this content, a table may have its timer, each row is within its limits and
+-- has a c of at most its d, and h is at least 1, at most 1,048,576 and a multiple of p and of each y. (3.2 to 3.4, 3.16)
 pub record UsableContent (s : List ℕ) (h : ℕ) (content : Content) : Type 0 where
   pub accepted-as : AcceptedAs s h content
+  pub good-timer : GoodTimer (content .s) (content .p)
   pub within-limits : (r : Row) → List·Memᴰ r (content .rows) → WithinLimits r
   pub c-within-d : (r : Row) → List·Memᴰ r (content .rows) → r .c ≤ r .d
   pub some-period : 1 ≤ h

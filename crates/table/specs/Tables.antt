@@ -15,6 +15,9 @@ use Rattle.table.specs.declared.RowRead.{RowRead}
 use Rattle.table.specs.declared.RowRead.the-variants as row
 use Rattle.table.specs.declared.RowsRead.{RowsRead}
 use Rattle.table.specs.declared.RowsAnswer.the-variants as answer
+use Rattle.table.specs.declared.TimerAt.{TimerAt}
+use Rattle.table.specs.declared.TimerRead.{TimerRead}
+use Rattle.table.specs.declared.TimerRead.the-variants as timer
 use Rattle.table.specs.declared.Table.{Table}
 use Rattle.table.specs.declared.TableRead.{TableRead}
 use Rattle.table.specs.declared.TableAnswer.the-variants.{Accepted, Refused}
@@ -22,6 +25,7 @@ use Rattle.table.specs.Limits.{maxRows, maxPeriod}
 use Rattle.table.specs.Content.{Content, rowsAlone}
 use Rattle.table.specs.Period.{periodOf}
 use Rattle.table.specs.Rows.{rowInRange, readRow}
+use Rattle.table.specs.Timer.{GoodTimer, readTimer}
 
 -- ---- rows and tables
 
@@ -37,21 +41,22 @@ heldRows rows = rows ++ replicate (maxRows - length rows) noRow
 abbrev pub rowsOf : Table → List Row
 rowsOf t = take (t .count) (t .rows)
 
--- The content of a table is its rows in use. (1.2, 3.14)
+-- The content of a table is its timer and its rows in use. (1.2, 3.14, 3.16)
 abbrev pub contentOf : Table → Content
-contentOf t = rowsAlone (rowsOf t)
+contentOf t = record { s = t .s; p = t .p; rows = rowsOf t }
 
 -- `tableOf` is the table that holds a content. (3.14)
 abbrev pub tableOf : Content → Table
-tableOf content = record { rows = heldRows (content .rows); count = length (content .rows) }
+tableOf content = record { s = content .s; p = content .p; rows = heldRows (content .rows); count = length (content .rows) }
 
--- The empty table has no rows. (3.15)
+-- The empty table has no rows, and its timer, with s = 0 and p = 1, takes no tick. (3.15)
 abbrev pub emptyTable : Table
 emptyTable = tableOf (rowsAlone [])
 
--- A table is in range when it has room for as many rows as the limit of rows says, no more rows are in use, and each row in use is in range and has a c of at
--- most its d. (3.1 to 3.3, 3.14)
+-- A table is in range when its timer is one that a table may have, it has room for as many rows as the limit of rows says, no more rows are in use, and each
+-- row in use is in range and has a c of at most its d. (3.1 to 3.3, 3.14, 3.16)
 pub record InRange (t : Table) : Type 0 where
+  pub good-timer : GoodTimer (t .s) (t .p)
   pub few-rows : t .count ≤ maxRows
   pub all-places : length (t .rows) ≡ maxRows
   pub rows-in-range : (i : ℕ) → i < t .count → rowInRange (getD (t .rows) i noRow) ≡ true
@@ -108,11 +113,20 @@ atEnd s content next =
     (cond (leb (periodOf content) maxPeriod) (record { table = tableOf content; answer = Accepted (periodOf content) })
     (refusedTable (record { refusal = PeriodTooLong; place = length s })))
 
--- After the rows come the tests for extra bytes and of H. A refusal of the rows is the table's refusal. (3.7)
-abbrev pub afterRows : List ℕ → Rows → TableRead
-afterRows s (rows rs next) = atEnd s (rowsAlone rs) next
-afterRows s (refused at) = refusedTable at
+-- `withRows` is the content that has a timer and these rows. (3.6)
+abbrev pub withRows : TimerAt → List Row → Content
+withRows t rs = record { s = t .s; p = t .p; rows = rs }
 
--- The bytes are read as a table: the row count at place 0, its rows, and nothing after them. (3.6, 3.7)
+-- After the rows come the tests for extra bytes and of H. A refusal of the rows is the table's refusal. (3.7)
+abbrev pub afterRows : List ℕ → TimerAt → Rows → TableRead
+afterRows s t (rows rs next) = atEnd s (withRows t rs) next
+afterRows s t (refused at) = refusedTable at
+
+-- After the timer come the row count and the rows. A refusal of the timer is the table's refusal. (3.7, 3.17)
+abbrev pub afterTimer : List ℕ → TimerRead → TableRead
+afterTimer s (timer.Timer t) = afterRows s t (rowsFrom s (t .next))
+afterTimer s (timer.Refused at) = refusedTable at
+
+-- The bytes are read as a table: the timer's s and p, the row count, its rows, and nothing after them. (3.6, 3.7)
 abbrev pub tableRead : List ℕ → TableRead
-tableRead s = afterRows s (rowsFrom s 0)
+tableRead s = afterTimer s (readTimer s)

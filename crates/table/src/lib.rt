@@ -1,13 +1,18 @@
-// Tables: the rows that a rig is to serve, and the reader that turns any bytes into a table or its exact refusal. (docs/RULES.md, section 3.)
+// Tables: the rows that a rig is to serve, the timer that takes ticks from them, and the reader that turns any bytes into a table or its exact refusal.
+// (docs/RULES.md, section 3.)
 mod costs;
 mod rows;
+mod timer;
 
 use crate::rows::read_rows;
+use crate::timer::read_timer;
 pub use costs::limit_of;
 use kinds::Refusal;
 use kinds::RefusedAt;
 use periods::Period;
+pub use timer::timer_in_range;
 ghost use mathlib.Core.Path.{_≡_};
+ghost use mathlib.Core.List.{_∷_};
 ghost use Rattle.table.specs.Limits.{limits};
 ghost use Rattle.table.specs.Period.{ysOf};
 ghost use Rattle.table.specs.Rows.{withinLimit, fine, rowInRange, hopeless, rowAcceptable};
@@ -22,9 +27,11 @@ pub struct Row {
     pub c: u64,
 }
 
-// The rows in use are the first `count`. The others hold zeros in every table that was read. (3.14)
+// The timer takes the first s ticks of every p. The rows in use are the first `count`. The others hold zeros in every table that was read. (3.14, 3.16)
 #[repr(C)]
 pub struct Table {
+    pub s: u64,
+    pub p: u64,
     pub rows: [Row; Table::MAX_ROWS],
     pub count: usize,
 }
@@ -41,8 +48,9 @@ pub struct TableRead {
     pub answer: TableAnswer,
 }
 
-// These are all limits of a table. (3.1, 3.2, 3.4)
+// These are all limits of a table. (3.1, 3.2, 3.4, 3.16)
 pub struct Limits {
+    pub p: u64,
     pub rows: usize,
     pub x: u64,
     pub y: u64,
@@ -61,6 +69,19 @@ pub enum CostLimit {
 pub enum CostAnswer {
     Allowed,
     Refused(Refusal),
+}
+
+// A timer that was read comes with the place right after it.
+struct TimerAt {
+    s: u64,
+    p: u64,
+    next: usize,
+}
+
+// Reading the timer gives its s and p, or the refusal that ended it.
+enum TimerRead {
+    Timer(TimerAt),
+    Refused(RefusedAt),
 }
 
 // A row that was read comes with the place right after it.
@@ -133,14 +154,20 @@ fn within_limit(most: u64, value: u64) -> bool
 impl Table {
     // A table has room for this many rows. (3.1)
     pub const MAX_ROWS: usize = 64;
+    // The timer's p may be at most this. (3.16)
+    pub const MAX_P: u64 = 4_096;
     // H may be at most this. (3.4)
     pub const MAX_PERIOD: u64 = 1_048_576;
+    // H is made from at most this many numbers: p and the y of every row. (3.4)
+    const MAX_PERIODS: usize = Table::MAX_ROWS + 1;
 
-    // The empty table has no rows. (3.15)
+    // The empty table has no rows, and its timer takes no tick. (3.15)
     pub fn empty() -> Table
         ensures { λ r. ⌜ r ≡ emptyTable ⌝ }
     {
         Table {
+            s: 0,
+            p: 1,
             rows: [Row {
                 x: 0,
                 y: 0,
@@ -151,18 +178,18 @@ impl Table {
         }
     }
 
-    // The y of every row is listed. Those of the rows in use are the first `count`. (3.14)
-    fn ys(self) -> [u64; Table::MAX_ROWS]
-        ensures { λ r. ⌜ r ≡ ysOf (self .rows) ⌝ }
+    // The numbers from which H is made are listed: p, and then the y of every row. Those of the rows in use are the first `count` after p. (3.4, 3.14)
+    fn periods(self) -> [u64; Table::MAX_PERIODS]
+        ensures { λ r. ⌜ r ≡ self .p ∷ ysOf (self .rows) ⌝ }
     {
-        let mut ys: [u64; Table::MAX_ROWS] = [0; Table::MAX_ROWS];
+        let mut periods: [u64; Table::MAX_PERIODS] = [self.p; Table::MAX_PERIODS];
         let mut i: usize = 0;
         while i < Table::MAX_ROWS {
             let row = self.rows[i];
-            ys[i] = row.y;
+            periods[i + 1] = row.y;
             i += 1;
         }
-        ys
+        periods
     }
 
     // The contract ties the limits in the code to those in the definitions.
@@ -170,6 +197,7 @@ impl Table {
         ensures { λ r. ⌜ r ≡ limits ⌝ }
     {
         Limits {
+            p: Table::MAX_P,
             rows: Table::MAX_ROWS,
             x: Row::MAX_X,
             y: Row::MAX_Y,
@@ -190,11 +218,15 @@ fn refused(at: RefusedAt) -> TableRead
     }
 }
 
-// The answer is the table that the bytes spell, or the refusal with its place. (3.6, 3.7, 3.13)
+// The answer is the table that the bytes spell, or the refusal with its place. (3.6, 3.7, 3.13, 3.17)
 pub fn read_table(bytes: &[u8]) -> TableRead
     ensures { λ r. ⌜ r ≡ tableRead (now (bytes .entry)) ⌝ }
 {
-    let read = read_rows(bytes, 0);
+    let timer = match read_timer(bytes) {
+        TimerRead::Timer(t) => t,
+        TimerRead::Refused(r) => return refused(r),
+    };
+    let read = read_rows(bytes, timer.next);
     let answer = read.answer;
     let next = match answer {
         RowsAnswer::Until(next) => next,
@@ -208,9 +240,14 @@ pub fn read_table(bytes: &[u8]) -> TableRead
     }
     let rows = read.rows;
     let count = read.count;
-    let table = Table { rows, count };
-    let ys = table.ys();
-    match periods::period_within(&ys[..count], Table::MAX_PERIOD) {
+    let table = Table {
+        s: timer.s,
+        p: timer.p,
+        rows,
+        count,
+    };
+    let periods = table.periods();
+    match periods::period_within(&periods[..count + 1], Table::MAX_PERIOD) {
         Period::Ticks(h) => TableRead {
             table,
             answer: TableAnswer::Accepted(h),

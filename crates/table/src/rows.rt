@@ -13,8 +13,8 @@ ghost use mathlib.Core.Path.{_≡_};
 ghost use Rattle.table.specs.Rows.{withinLimit, readValue, readRow};
 ghost use Rattle.table.specs.Tables.{refused, rowsFrom, heldAs};
 
-// A value of a row is tested as it is read, before the next is looked at. (3.7, 3.10)
-fn read_value(bytes: &[u8], at: usize, most: u64) -> NumberRead
+// A value with a limit is tested as it is read, before the next is looked at. (3.7, 3.10)
+pub(crate) fn read_value(bytes: &[u8], at: usize, most: u64) -> NumberRead
     ensures { λ r. ⌜ r ≡ readValue (withinLimit most) (now (bytes .entry)) at ⌝ }
 {
     match numbers::read(bytes, at) {

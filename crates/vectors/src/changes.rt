@@ -19,6 +19,7 @@ pub fn changed(what: u8, numbers: [u64; Case::NUMBERS], run: Run) -> Run {
     match what {
         b'c' => with_clock(run, a),
         b'n' => with_next(run, a),
+        b't' => with_timer(run, a, b),
         b'r' => with_rows(run, a as usize),
         b'y' => with_y(run, a as usize, b),
         b'd' => with_d(run, a as usize, b),
@@ -40,6 +41,15 @@ fn with_clock(mut run: Run, clock: u64) -> Run {
 fn with_next(mut run: Run, next: u64) -> Run {
     let serial = Serial(next);
     run.next = serial;
+    run
+}
+
+// Sets the s and p of the timer: `timer = 3, 4`.
+fn with_timer(mut run: Run, s: u64, p: u64) -> Run {
+    let mut table = run.table;
+    table.s = s;
+    table.p = p;
+    run.table = table;
     run
 }
 

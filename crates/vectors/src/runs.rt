@@ -95,6 +95,7 @@ fn ticked(lent: bool, run: Run) -> TickStep {
 fn told_tick(answer: Ticked) {
     match answer {
         Ticked::Idle => words::say(words::IDLE),
+        Ticked::Taken => words::say(words::TAKEN),
         Ticked::Ran(ran) => {
             let serial = ran.serial;
             let finished = ran.finished;

@@ -1,7 +1,7 @@
 -- What is known about a table that was accepted: it is in range, its H is from 1 to its limit, and its demand is a curve with the period H.
 use Prim.Native.Nat.{ℕ, _≤_}
-use mathlib.Core.Path.{_≡_}
-use mathlib.Core.List.{List, Memᴰ·map}
+use mathlib.Core.Path.{_≡_, refl}
+use mathlib.Core.List.{List, List·Memᴰ·head, List·Memᴰ·tail, Memᴰ·map}
 use Rattle.numbers.specs.SpelledNumbers.{Bytes}
 use Rattle.theory.specs.Curves.{Curve}
 use Rattle.table.specs.declared.Row.{Row}
@@ -30,5 +30,8 @@ accepted-is-known s period bytes accepted =
       in-range = in-range;
       some-period = u .some-period;
       most-period = u .most-period;
-      curve = table-is-a-curve (tableRead s .table) period in-range (λ r m. u .divides-period (r .y) (Memᴰ·map (λ (q : Row). q .y) m));
+      curve =
+          table-is-a-curve (tableRead s .table) period in-range
+          (u .divides-period (tableRead s .table .p) (List·Memᴰ·head refl))
+          (λ r m. u .divides-period (r .y) (List·Memᴰ·tail (Memᴰ·map (λ (q : Row). q .y) m)));
     }

@@ -1,18 +1,22 @@
--- Nothing overflows. The demand of one row is bounded by the limits of the rules alone, and a sum over the rows by their number times that bound. The only fact
--- about the values of the limits that is used is `room`: 64 bits hold the most that a table can ask for.
+-- Nothing overflows. The demand of one row is bounded by the limits of the rules alone, and a sum over the rows by their number times that bound. A timer takes
+-- at most every tick, which is within the bound for one row. The only fact about the values of the limits that is used is `room`: 64 bits hold the most that a
+-- table can ask for.
 use Prim.Native.Nat.{ℕ, zero, suc, _+_, _-_, _*_, _/_, _^_, _≤_, _<_, suc-le-suc}
 use native.Mathlib.Omega.{arith}
 use native.Mathlib.Nat.{div-le-self, mul-le-mul, mul-le-mul-right}
 use native.Mathlib.Numerals.{add-one}
 use lib.Dec.{lit<}
 use Rattle.theory.specs.Lists.{total}
+use Rattle.theory.specs.Ticks.{timerTakes}
 use Rattle.theory.specs.Demand.{rowGrowth}
 use Rattle.theory.proofs.Cases.{by-lt}
+use Rattle.theory.proofs.Timers.{timer-takes-from-zero}
 use Rattle.theory.proofs.Demand.{no-demand-below-d, demand-from-d}
 use Rattle.table.specs.declared.Row.{Row}
 use Rattle.table.specs.declared.Table.{Table}
 use Rattle.table.specs.SpelledTables.{WithinLimits}
 use Rattle.table.specs.Limits.{maxRows, maxX, maxD, maxC, maxPeriod}
+use Rattle.table.specs.Timer.{GoodTimer}
 use Rattle.table.specs.Tables.{InRange}
 use Rattle.verdict.specs.Demand.{largestOf, largestD, maxLength}
 use Rattle.verdict.proofs.Rows.{rowAt, firstRows, demandIn, growthIn, Summed, row-within, total-more, largest-more}
@@ -21,9 +25,28 @@ use Rattle.verdict.proofs.Rows.{rowAt, firstRows, demandIn, growthIn, S
 abbrev pub most : ℕ
 most = (maxLength + 1) * maxX * maxC
 
--- 64 bits hold the most that a table can ask for.
-pub room : maxRows * most < 2 ^ 64
+-- 64 bits hold the most that a table can ask for: its rows, and the timer as if it were one row more.
+pub room : (maxRows + 1) * most < 2 ^ 64
 room = lit< tt
+
+-- ---- the timer
+
+module _ (s p : ℕ) (good : GoodTimer s p) where
+  -- Of L ticks the timer takes at most all.
+  pub taken-at-most : (L : ℕ) → timerTakes s p L ≤ L
+  taken-at-most L = omega (arith, timer-takes-from-zero s p (good .some-p) (omega (arith, good .s-below-p)) L)
+
+  -- What the timer takes in a length that is looked at is within the bound `most`.
+  pub takes-at-most : (L : ℕ) → L ≤ maxLength → timerTakes s p L ≤ most
+  takes-at-most L looked-at = omega (arith, taken-at-most L)
+
+  -- The ticks that the timer takes grow in a period by at most the period.
+  pub taken-in-period : (period : ℕ) → period / p * s ≤ period
+  taken-in-period period = omega (arith, taken-at-most period)
+
+  -- The growth of what the timer takes in a period is within the bound `most`.
+  pub timer-growth-at-most : (period : ℕ) → period ≤ maxPeriod → s * (period / p) ≤ most
+  timer-growth-at-most period h = omega (arith, taken-in-period period)
 
 -- ---- one row
 
@@ -69,9 +92,9 @@ module _ {t : Table} (in-range : InRange t) where
         rw (← add-one i)
         (omega (arith, total-more in-range w i h, small (rowAt t i) (row-within in-range i h), total-at-most i (omega arith)))
 
-    -- The sum over the rows before row i, together with row i, fits into 64 bits.
-    pub sum-fits : {sum i : ℕ} → Summed w t sum i → i < t .count → sum + w (rowAt t i) < 2 ^ 64
-    sum-fits {sum} {i} summed h =
+    -- The sum over the rows before row i, together with row i and with what the timer adds, fits into 64 bits.
+    pub sum-fits : {timer sum i : ℕ} → timer ≤ most → Summed w t timer sum i → i < t .count → sum + w (rowAt t i) < 2 ^ 64
+    sum-fits {timer} {sum} {i} within summed h =
         omega (arith, total-at-most i (summed .counted), small (rowAt t i) (row-within in-range i h), mul-le-mul-right most (in-range .few-rows), room)
 
   -- The largest d of the rows before i is within its limit.

@@ -4,3 +4,4 @@ pub mod TableCurve
 pub mod Accepted
 pub mod Verdicts
 pub mod Scans
+pub mod RowsAlone

@@ -1,7 +1,7 @@
 -- The rows of a table in range, one after another. Each is within its limits, and what holds for the first i + 1 rows follows from what holds for the first i
 -- and for row i.
 use Prim.Native.Nat.{ℕ, zero, suc, _+_, _≤_, _<_, max}
-use mathlib.Core.Path.{_≡_, refl}
+use mathlib.Core.Path.{_≡_}
 use mathlib.Core.List.{List, [], _∷_, _++_}
 use native.Mathlib.Omega.{arith}
 use native.Mathlib.Numerals.{add-one}
@@ -33,18 +33,18 @@ demandIn L r = rowDemandOf r L
 abbrev pub growthIn : (period : ℕ) → Row → ℕ
 growthIn period r = rowGrowth (r .x) (r .y) (r .c) period
 
--- The loop has come to row i, and `sum` is the sum of the weights of the rows before i.
-pub record Summed (w : Row → ℕ) (t : Table) (sum i : ℕ) : Type 0 where
+-- The loop has come to row i, and `sum` is the sum of the weights of the rows before i and of `timer`, which was there before the first row.
+pub record Summed (w : Row → ℕ) (t : Table) (timer sum i : ℕ) : Type 0 where
   pub counted : i ≤ t .count
-  pub so-far : sum ≡ total w (firstRows t i)
+  pub so-far : sum ≡ total w (firstRows t i) + timer
 
--- Before the first row the sum is 0.
-pub none-summed : (w : Row → ℕ) (t : Table) → Summed w t 0 0
+-- Before the first row the sum is what was there before.
+pub none-summed : (w : Row → ℕ) (t : Table) {timer sum : ℕ} → sum ≡ timer → Summed w t timer sum 0
 unfolding total
-none-summed w t = record { counted = omega arith; so-far = refl }
+none-summed w t start = record { counted = omega arith; so-far = omega arith }
 
--- After the last row in use, the sum is that of the weights of all rows in use.
-pub all-summed : {w : Row → ℕ} {t : Table} {sum i : ℕ} → Summed w t sum i → t .count ≤ i → sum ≡ total w (rowsOf t)
+-- After the last row in use, the sum is that of the weights of all rows in use and of what was there before.
+pub all-summed : {w : Row → ℕ} {t : Table} {timer sum i : ℕ} → Summed w t timer sum i → t .count ≤ i → sum ≡ total w (rowsOf t) + timer
 all-summed {t = t} {i = i} summed end =
     let all : i ≡ t .count = omega arith in
     rw all at (summed .so-far)
@@ -78,8 +78,9 @@ module _ {t : Table} (in-range : InRange t) where
   unfolding total
   total-more w i h = rw (one-more i h, total-append) (omega arith)
 
-  pub summed-more : {w : Row → ℕ} {sum i : ℕ} → Summed w t sum i → i < t .count → Summed w t (sum + w (rowAt t i)) (i + 1)
-  summed-more {w} {sum} {i} summed h = record { counted = omega arith; so-far = omega (arith, total-more w i h) }
+  -- One row more adds its weight to the sum.
+  pub summed-more : {w : Row → ℕ} {timer sum i : ℕ} → Summed w t timer sum i → i < t .count → Summed w t timer (sum + w (rowAt t i)) (i + 1)
+  summed-more {w} {timer} {sum} {i} summed h = record { counted = omega arith; so-far = omega (arith, total-more w i h) }
 
   -- The largest d of the rows before i + 1 is the larger of that of the rows before i, and the d of row i.
   pub largest-more : (i : ℕ) → i < t .count → largestOf (firstRows t (i + 1)) ≡ max (largestOf (firstRows t i)) (rowAt t i .d)

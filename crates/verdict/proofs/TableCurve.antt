@@ -1,11 +1,13 @@
--- The demand of a table is a curve, since it is the sum of its rows' demands and each of these is a curve. A row's curve starts at its own d, so it may be said
--- to start at the largest d.
-use Prim.Native.Nat.{_≤_}
+-- The demand of a table is a curve, since it is the sum of its rows' demands and of the ticks that the timer takes, and each of these is a curve. A row's curve
+-- starts at its own d and the timer's at 0, so that all may be said to start at the largest d.
+use Prim.Native.Nat.{_*_, _/_, _≤_}
 use mathlib.Core.Path.{ap}
 use mathlib.Core.List.{List, List·Memᴰ, List·Memᴰ·head, List·Memᴰ·tail}
 use native.Mathlib.Omega.{arith}
+use Rattle.theory.specs.Ticks.{timerTakes}
 use Rattle.theory.proofs.Lists.{all-at, all-of-members}
-use Rattle.theory.proofs.Curves.{sums-are-curves, starts-later}
+use Rattle.theory.proofs.Timers.{timer-is-a-curve}
+use Rattle.theory.proofs.Curves.{two-curves-add-up, sums-are-curves, starts-later}
 use Rattle.theory.proofs.Demand.{rows-are-curves}
 use Rattle.table.specs.declared.Row.{Row}
 use Rattle.table.specs.SpelledTables.{WithinLimits}
@@ -22,9 +24,13 @@ d-at-most-largest (List·Memᴰ·tail m) = omega (arith, d-at-most-largest m)
 
 pub table-is-a-curve : TableIsACurve
 unfolding tableDemand tableGrowth
-table-is-a-curve t period in-range divides =
+table-is-a-curve t period in-range p-divides divides =
     let within = rows-within in-range (t .count) (omega arith) in
-    sums-are-curves Row rowDemandOf (growthIn period) (largestD t) period (rowsOf t)
+    let good = in-range .good-timer in
+    two-curves-add-up
+    (sums-are-curves Row rowDemandOf (growthIn period) (largestD t) period (rowsOf t)
     (all-of-members (rowsOf t) (λ r m.
     starts-later (rowDemandOf r) (r .d) (largestD t) period (growthIn period r) (d-at-most-largest m)
-    (rows-are-curves (r .x) (r .y) (r .d) (r .c) period (all-at WithinLimits within m .some-y) (divides r m))))
+    (rows-are-curves (r .x) (r .y) (r .d) (r .c) period (all-at WithinLimits within m .some-y) (divides r m)))))
+    (starts-later (timerTakes (t .s) (t .p)) 0 (largestD t) period (t .s * (period / t .p)) (omega arith)
+    (timer-is-a-curve (t .s) (t .p) period (good .some-p) (omega (arith, good .s-below-p)) p-divides))

@@ -1,7 +1,8 @@
--- The demand of a table: the sum of its rows' demands. (docs/RULES.md, section 5.)
-use Prim.Native.Nat.{ℕ, _+_, _*_, max}
+-- The demand of a table: the sum of its rows' demands, and the ticks that its timer takes. (docs/RULES.md, section 5.)
+use Prim.Native.Nat.{ℕ, _+_, _*_, _/_, max}
 use mathlib.Core.List.{List, [], _∷_}
 use Rattle.theory.specs.Lists.{total}
+use Rattle.theory.specs.Ticks.{timerTakes}
 use Rattle.theory.specs.Curves.{sumOver}
 use Rattle.theory.specs.Demand.{rowDemand, rowGrowth}
 use Rattle.table.specs.declared.Row.{Row}
@@ -14,18 +15,27 @@ use Rattle.table.specs.Tables.{contentOf}
 abbrev pub rowDemandOf : Row → (L : ℕ) → ℕ
 rowDemandOf r L = rowDemand (r .x) (r .y) (r .d) (r .c) L
 
--- The demand of a table's content in a length of time is the sum of its rows' demands. (5.3)
-abbrev pub demandOf : Content → (L : ℕ) → ℕ
-demandOf content L = sumOver rowDemandOf (content .rows) L
+-- The rows of a table's content have a demand of their own in a length of time: the sum of the rows' demands. The timer plays no part in it. (5.3)
+abbrev pub rowsDemandOf : Content → (L : ℕ) → ℕ
+rowsDemandOf content L = sumOver rowDemandOf (content .rows) L
 
--- In a period that every y divides, the demand of a content grows by the sum of x · c · (period/y) over its rows. (5.7)
+-- The demand of a table's content in a length L is the rows' own demand and the ticks that the timer takes, floor(L/p) · s + min(s, L mod p). (5.3)
+abbrev pub demandOf : Content → (L : ℕ) → ℕ
+demandOf content L = rowsDemandOf content L + timerTakes (content .s) (content .p) L
+
+-- In a period that p and every y divide, the demand of a content grows by the sum of x · c · (period/y) over its rows, and by s · (period/p). (5.7)
 abbrev pub growthOf : Content → (period : ℕ) → ℕ
-growthOf content period = total (λ (r : Row). rowGrowth (r .x) (r .y) (r .c) period) (content .rows)
+growthOf content period =
+    total (λ (r : Row). rowGrowth (r .x) (r .y) (r .c) period) (content .rows) + content .s * (period / content .p)
 
 -- `largestOf` is the largest d of some rows. The largest d of no rows is 0. (5.8)
 unfoldable pub largestOf : List Row → ℕ
 largestOf [] = 0
 largestOf (r ∷ rs) = max (r .d) (largestOf rs)
+
+-- The rows' own demand of a table is that of its content. (5.3)
+abbrev pub rowsDemand : Table → (L : ℕ) → ℕ
+rowsDemand t L = rowsDemandOf (contentOf t) L
 
 -- A table's demand in a length of time is that of its content. (5.3)
 unfoldable pub tableDemand : Table → (L : ℕ) → ℕ

@@ -1,3 +1,4 @@
 pub mod Demand
 pub mod Verdict
 pub mod ScanLaws
+pub mod RowsAlone

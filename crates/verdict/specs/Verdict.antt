@@ -18,12 +18,16 @@ use Rattle.verdict.specs.declared.Scan.{Scan}
 use Rattle.verdict.specs.declared.Scan.the-variants as scan
 use Rattle.verdict.specs.Demand.{tableDemand}
 
--- Feasible is right for an accepted table if its demand in L is at most L, for every L ≥ 1. Overloaded is right with the smallest L whose demand is above L,
--- and that demand. No other verdict is right. (5.4, 5.5, 5.6)
+-- Where f L is the demand in L, feasible is right if f L is at most L, for every L ≥ 1. Overloaded is right with the smallest L whose demand is above L, and
+-- that demand. No other verdict is right. (5.4, 5.5, 5.6)
+abbrev pub RightFor : (f : ℕ → ℕ) → Verdict → Type 0
+RightFor f verdict.Feasible = EveryLengthFits f
+RightFor f (verdict.Overloaded w) = SmallestFailing f (w .length) × (w .demand ≡ f (w .length))
+RightFor f (verdict.Refused r) = ⊥
+
+-- A verdict is right for an accepted table if it is right for the table's demand, in which the ticks that the timer takes are counted. (5.3, 5.4, 5.5)
 abbrev pub RightOf : Table → Verdict → Type 0
-RightOf t verdict.Feasible = EveryLengthFits (tableDemand t)
-RightOf t (verdict.Overloaded w) = SmallestFailing (tableDemand t) (w .length) × (w .demand ≡ tableDemand t (w .length))
-RightOf t (verdict.Refused r) = ⊥
+RightOf t v = RightFor (tableDemand t) v
 
 -- A verdict is right for what was read if it is right for the table. If the table was refused, only that refusal is right. (9.2)
 abbrev pub RightOfRead : Table → TableAnswer → Verdict → Type 0

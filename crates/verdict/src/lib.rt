@@ -6,8 +6,10 @@ use table::Table;
 use table::TableAnswer;
 ghost use mathlib.Core.Path.{_≡_};
 ghost use Prim.Native.Nat.{_≤_};
+ghost use Rattle.theory.specs.Ticks.{timerTakes};
 ghost use Rattle.table.specs.SpelledTables.{WithinLimits};
 ghost use Rattle.table.specs.Limits.{maxPeriod};
+ghost use Rattle.table.specs.Timer.{GoodTimer};
 ghost use Rattle.table.specs.Tables.{InRange};
 ghost use Rattle.verdict.specs.Demand.{rowDemandOf, tableDemand, tableGrowth, largestD, maxLength};
 ghost use Rattle.verdict.specs.Verdict.{Scanned, Judged};
@@ -42,7 +44,21 @@ fn row_demand(row: Row, length: u64) -> u64
     ((length - row.d) / row.y + 1) * row.x * row.c
 }
 
-// The demand in each length from `first` to `last` is worked out, and the first length whose demand is above it ends the scan. (5.3, 5.5)
+// The timer takes s ticks of each whole p, and of the rest as many as there are, but at most s. (5.3)
+fn timer_takes(s: u64, p: u64, length: u64) -> u64
+    requires { ⌜ GoodTimer s p ⌝ }
+    ensures { λ r. ⌜ r ≡ timerTakes s p length ⌝ }
+{
+    let whole = length / p * s;
+    let rest = length % p;
+    if rest < s {
+        return whole + rest;
+    }
+    whole + s
+}
+
+// The demand in each length from `first` to `last` is worked out, and the first length whose demand is above it ends the scan. The ticks that the timer takes
+// are counted first, and then each row's demand. (5.3, 5.5)
 fn scan_range(table: Table, first: u64, last: u64) -> Scan
     requires { ⌜ (InRange table) × (last ≤ maxLength) ⌝ }
     ensures { λ r. ⌜ Scanned (tableDemand table) first last r ⌝ }
@@ -50,7 +66,7 @@ fn scan_range(table: Table, first: u64, last: u64) -> Scan
     let count = table.count;
     let mut length = first;
     while length <= last {
-        let mut demand: u64 = 0;
+        let mut demand: u64 = timer_takes(table.s, table.p, length);
         let mut i: usize = 0;
         while i < count {
             let row = table.rows[i];
@@ -65,13 +81,13 @@ fn scan_range(table: Table, first: u64, last: u64) -> Scan
     Scan::Fits
 }
 
-// The sum of x · c · (period/y) over the rows is how much the demand grows in a period. (5.7)
+// The sum of s · (period/p) and of x · c · (period/y) over the rows is how much the demand grows in a period. (5.7)
 fn growth(table: Table, period: u64) -> u64
     requires { ⌜ (InRange table) × (period ≤ maxPeriod) ⌝ }
     ensures { λ r. ⌜ r ≡ tableGrowth table period ⌝ }
 {
     let count = table.count;
-    let mut sum: u64 = 0;
+    let mut sum: u64 = period / table.p * table.s;
     let mut i: usize = 0;
     while i < count {
         let row = table.rows[i];

@@ -4,14 +4,14 @@
 use super::case::hex;
 use super::random::Random;
 use super::scripts::Record;
-use super::tables::{spell_numbers, Row};
+use super::tables::{spell_numbers, Row, Table};
 use super::{damage, scripts, tables};
 use second::numbers::MOST_GROUPS;
 use second::table::{MOST_ROWS, MOST_X};
 use std::collections::{BTreeMap, BTreeSet};
 
-/// The row count, and four numbers for each row of a longest table.
-const NUMBERS_OF_A_TABLE: usize = 1 + 4 * MOST_ROWS as usize;
+/// The timer's s and p, the row count, and four numbers for each row of a longest table.
+const NUMBERS_OF_A_TABLE: usize = 3 + 4 * MOST_ROWS as usize;
 const NUMBERS_OF_A_RECORD: usize = 3;
 
 /// What is wrong with a number, as the place of its refusal shows it. Groups are counted from 0.
@@ -142,12 +142,13 @@ fn of_groups(groups: usize, random: &mut Random) -> Vec<u8> {
 /// random ones.
 pub fn tables(seed: u64, count: u64) -> impl Iterator<Item = Vec<u8>> {
     let mut random = Random::of(seed, u64::MAX);
-    let longest: Vec<Row> = (0..MOST_ROWS).map(|_| row_of_any_length(&mut random)).collect();
+    let rows: Vec<Row> = (0..MOST_ROWS).map(|_| row_of_any_length(&mut random)).collect();
+    let longest = Table { timer: [3, 8], rows };
     let random_ones = (0..count).flat_map(move |index| {
-        let rows = tables::any(&mut Random::of(seed, index));
-        damage::everywhere(&tables::spell(&rows))
+        let table = tables::any(&mut Random::of(seed, index));
+        damage::everywhere(&table.spell())
     });
-    in_every_number(&tables::numbers_of(&longest), &mut random).into_iter().chain(random_ones)
+    in_every_number(&longest.numbers(), &mut random).into_iter().chain(random_ones)
 }
 
 /// A row that is accepted, whose y, d and c have spellings of all lengths that the range allows.
@@ -162,14 +163,14 @@ fn row_of_any_length(random: &mut Random) -> Row {
 /// which each number has each length, and so many random ones.
 pub fn scripts(most_records: usize, seed: u64, count: u64) -> impl Iterator<Item = (Vec<u8>, Vec<u8>)> {
     let mut random = Random::of(seed, u64::MAX);
-    let table = tables::spell(&[[64, 1, 16_384, 4_096]; MOST_ROWS as usize]);
+    let table = tables::spell_with([1, 4], &[[64, 1, 16_384, 4_096]; MOST_ROWS as usize]);
     let records: Vec<_> = (0..most_records).map(|_| record_of_any_length(&mut random)).collect();
     let random_ones = (0..count).flat_map(move |index| {
         let mut random = Random::of(seed, index);
-        let rows = tables::to_replay(&mut random);
-        let mut records = scripts::any(&rows, &mut random);
+        let table = tables::to_replay(&mut random);
+        let mut records = scripts::any(&table, &mut random);
         records.truncate(most_records);
-        let table = tables::spell(&rows);
+        let table = table.spell();
         damage::everywhere(&scripts::spell(&records)).into_iter().map(move |script| (table.clone(), script))
     });
     let damaged = in_every_number(&scripts::numbers_of(&records), &mut random);

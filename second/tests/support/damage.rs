@@ -17,7 +17,8 @@ pub fn misspell_one(list: &[u64], random: &mut Random) -> Vec<u8> {
     bytes
 }
 
-fn misspelled(good: &[u8], random: &mut Random) -> Vec<u8> {
+/// Spells a number wrongly, or lets it run into the next one.
+pub fn misspelled(good: &[u8], random: &mut Random) -> Vec<u8> {
     let lengthened_to = |groups: usize| {
         let mut bytes = good.to_vec();
         *bytes.last_mut().unwrap() |= 0x80;

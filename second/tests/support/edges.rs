@@ -2,9 +2,9 @@
 
 use super::case::Case;
 use super::damage::replaced;
-use super::hopeless;
 use super::scripts::{self, Record};
 use super::tables::{self, Row};
+use super::{hopeless, timers};
 use second::run::{LAST_TICK, MOST_PENDING};
 use second::table::{self, MOST_C, MOST_D, MOST_ROWS, MOST_X, MOST_Y};
 use second::{numbers, replay};
@@ -12,22 +12,31 @@ use second::{numbers, replay};
 const V3: [Row; 2] = [[1, 4, 4, 2], [1, 6, 6, 3]];
 const R1: [Record; 3] = [[0, 0, 2], [0, 1, 3], [4, 0, 2]];
 
-pub fn all() -> Vec<Case> {
+/// Each case is made when it is asked for. So a table is judged before a replay on it is tried, which would not end if a
+/// timer that takes every tick were accepted.
+pub fn all() -> impl Iterator<Item = Case> {
+    let of_tables = edge_tables().into_iter().flat_map(|table| {
+        let judged = Case::verdict(table.clone(), vec![0x5a; 16]);
+        std::iter::once(judged).chain(std::iter::once_with(move || replays(&table, &scripts::spell(&R1))).flatten())
+    });
+    let without_timer = edge_scripts().into_iter().map(|(rows, script)| (tables::spell(&rows), script));
+    let of_scripts = without_timer.chain(timers::edge_scripts()).flat_map(|(table, script)| replays(&table, &script));
+    of_tables.chain(of_scripts).chain(other_answer_sizes())
+}
+
+fn other_answer_sizes() -> Vec<Case> {
     let mut cases = vec![];
-    for table in edge_tables() {
-        cases.push(Case::verdict(table.clone(), vec![0x5a; 16]));
-        cases.extend(replays(&table, &scripts::spell(&R1)));
-    }
-    for (rows, script) in edge_scripts() {
-        cases.extend(replays(&tables::spell(&rows), &script));
-    }
     for size in [0, 1, 8, 15, 17, 32] {
-        for table in [tables::spell(&V3), numbers::spell(MOST_ROWS + 1).unwrap(), vec![]] {
+        for table in [tables::spell(&V3), one_row_too_many(), vec![], vec![1, 1, 0], vec![0, 0, 0]] {
             cases.push(Case::verdict(table.clone(), vec![0x5a; size]));
             cases.push(Case::replay(table, scripts::spell(&R1), vec![0xa5; 20], vec![0x5a; size]));
         }
     }
     cases
+}
+
+fn one_row_too_many() -> Vec<u8> {
+    tables::spell_numbers(&[0, 1, MOST_ROWS + 1])
 }
 
 /// Makes one replay with each size of log buffer that matters.
@@ -47,7 +56,7 @@ fn edge_tables() -> Vec<Vec<u8>> {
     tables.extend((0..v3.len()).map(|cut| v3[..cut].to_vec()));
     tables.extend((0..v3.len()).flat_map(|place| misspellings().map(|bad| replaced(&v3, place, &bad))));
     let counts = [MOST_ROWS, MOST_ROWS + 1, 127, 128, 1 << 32, 1 << 41, numbers::LARGEST];
-    tables.extend(counts.map(|count| numbers::spell(count).unwrap()));
+    tables.extend(counts.map(|count| tables::spell_numbers(&[0, 1, count])));
     for extra in [&[0x00][..], &[0x80], &[0x80, 0x00], &[1, 1, 1, 1]] {
         tables.push([&v3, extra].concat());
         tables.push([&tables::spell(&[[1, 1_141, 1, 1], [1, 919, 1, 1]]), extra].concat());
@@ -56,6 +65,7 @@ fn edge_tables() -> Vec<Vec<u8>> {
     let full = tables::spell(&[[1, 300, 300, 4]; MOST_ROWS as usize]);
     tables.extend((full.len() - 6..full.len()).map(|cut| full[..cut].to_vec()));
     tables.extend(hopeless::edge_tables());
+    tables.extend(timers::edge_tables());
     tables
 }
 

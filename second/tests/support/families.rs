@@ -2,7 +2,7 @@
 
 use super::case::Case;
 use super::random::Random;
-use super::{bad_bytes, damage, hopeless, scripts, tables};
+use super::{bad_bytes, damage, hopeless, scripts, tables, timers};
 use second::{replay, table};
 
 /// As many lengths as a program that looks at every length can be waited for.
@@ -13,68 +13,75 @@ pub const RECORDS: usize = 5;
 
 pub type Family = (&'static str, fn(&mut Random) -> Case);
 
-pub const ALL: [Family; 12] = [
+pub const ALL: [Family; 15] = [
     ("verdicts", |random| {
-        let rows = tables::any(random);
-        judge(tables::spell(&rows), random)
+        let table = tables::any(random);
+        judge(table.spell(), random)
     }),
     ("verdicts with late witnesses", |random| {
-        let rows = tables::to_search(random);
-        judge(tables::spell(&rows), random)
+        let table = tables::to_search(random);
+        judge(table.spell(), random)
+    }),
+    ("verdicts with a timer", |random| {
+        let table = tables::timed(random);
+        judge(table.spell(), random)
     }),
     ("verdicts of damaged tables", |random| {
-        let rows = tables::any(random);
-        let table = damaged(&tables::numbers_of(&rows), random);
-        judge(table, random)
+        let table = tables::any(random);
+        judge(damaged(&table.numbers(), random), random)
     }),
     ("replays", |random| {
-        let rows = tables::to_replay(random);
-        let records = scripts::any(&rows, random);
-        play(tables::spell(&rows), scripts::spell(&records), random)
+        let table = tables::to_replay(random);
+        let records = scripts::any(&table, random);
+        play(table.spell(), scripts::spell(&records), random)
+    }),
+    ("replays with a timer", |random| {
+        let table = tables::timed_to_replay(random);
+        let records = scripts::any(&table, random);
+        play(table.spell(), scripts::spell(&records), random)
     }),
     ("replays to the last place", |random| {
-        let rows = tables::to_replay(random);
-        let records = scripts::burst(&rows, random);
-        play(tables::spell(&rows), scripts::spell(&records), random)
+        let table = tables::to_replay(random);
+        let records = scripts::burst(&table, random);
+        play(table.spell(), scripts::spell(&records), random)
     }),
     ("replays near the last tick", |random| {
-        let rows = tables::to_replay(random);
-        let records = scripts::near_the_end(&rows, random);
-        play(tables::spell(&rows), scripts::spell(&records), random)
+        let table = tables::to_replay(random);
+        let records = scripts::near_the_end(&table, random);
+        play(table.spell(), scripts::spell(&records), random)
     }),
     ("replays that end on a short record", |random| {
-        let (rows, records) = scripts::waiting_job(random);
-        play(tables::spell(&rows), scripts::spell(&records), random)
+        let (table, records) = scripts::waiting_job(random);
+        play(table.spell(), scripts::spell(&records), random)
     }),
     ("replays refused after an overflow", |random| {
-        let rows = tables::to_replay(random);
-        let mut records = scripts::any(&rows, random);
+        let table = tables::to_replay(random);
+        let mut records = scripts::any(&table, random);
         let last = records.len().saturating_sub(1);
-        scripts::spoil_a_value(&rows, &mut records[last..], random);
-        let mut case = play(tables::spell(&rows), scripts::spell(&records), random);
+        scripts::spoil_a_value(&table.rows, &mut records[last..], random);
+        let mut case = play(table.spell(), scripts::spell(&records), random);
         case.log.truncate(random.index(12));
         case
     }),
     ("replays of damaged scripts", |random| {
-        let rows = tables::to_replay(random);
-        let records = scripts::any(&rows, random);
+        let table = tables::to_replay(random);
+        let records = scripts::any(&table, random);
         let script = damaged(&scripts::numbers_of(&records), random);
-        play(tables::spell(&rows), script, random)
+        play(table.spell(), script, random)
     }),
     ("replays on damaged tables", |random| {
-        let rows = tables::any(random);
-        let table = damaged(&tables::numbers_of(&rows), random);
-        let records = scripts::any(&rows, random);
-        play(table, scripts::spell(&records), random)
+        let table = tables::any(random);
+        let bytes = damaged(&table.numbers(), random);
+        let records = scripts::any(&table, random);
+        play(bytes, scripts::spell(&records), random)
     }),
     ("hopeless rows", |random| {
-        let (rows, table) = hopeless::any(random);
-        if random.one_in(2) {
-            judge(table, random)
-        } else {
-            let records = scripts::any(&rows, random);
-            play(table, scripts::spell(&records), random)
-        }
+        let (table, bytes) = hopeless::any(random);
+        judge_or_play(&table, bytes, random)
+    }),
+    ("bad timers", |random| {
+        let (table, bytes) = timers::any_bad(random);
+        judge_or_play(&table, bytes, random)
     }),
     ("noise", |random| {
         let table = noise(random);
@@ -107,6 +114,16 @@ pub const AT_EVERY_BYTE: [Exhaustive; 3] = [
 fn play_whole(table: Vec<u8>, script: Vec<u8>) -> Case {
     let log = vec![0xa5; 10 * script.len()];
     Case::replay(table, script, log, vec![0x5a; 16])
+}
+
+/// Makes a verdict or a replay with the bytes of a table, which may be damaged.
+fn judge_or_play(table: &tables::Table, bytes: Vec<u8>, random: &mut Random) -> Case {
+    if random.one_in(2) {
+        judge(bytes, random)
+    } else {
+        let records = scripts::any(table, random);
+        play(bytes, scripts::spell(&records), random)
+    }
 }
 
 /// Makes a verdict where a program that looks at every length ends soon, and otherwise a replay on the same table.

@@ -3,7 +3,7 @@
 
 use super::damage::{lengthen, misspell_one, replaced};
 use super::random::Random;
-use super::tables::{self, Row};
+use super::tables::{self, Row, Table};
 use second::numbers;
 use second::refusal::Reason;
 use second::table::{self, MOST_C, MOST_D, MOST_ROWS, MOST_X, MOST_Y};
@@ -71,15 +71,16 @@ fn c_at(table: &[u8], start: usize) -> Option<OfRow> {
         place = after;
     }
     let (c, end) = numbers::read(table, start).ok()?;
-    let values_before = before.len().checked_sub(1)?;
+    let values_before = before.len().checked_sub(3)?;
     let row = values_before as u64 / 4;
-    (values_before % 4 == 3).then(|| OfRow { row, d: before[values_before], c, start, end })
+    (values_before % 4 == 3).then(|| OfRow { row, d: before[before.len() - 1], c, start, end })
 }
 
 /// Makes a table with a row whose c is above its d, equal to it, one below it, or out of its range. About half of these
 /// have something else that is refused, too.
-pub fn any(random: &mut Random) -> (Vec<Row>, Vec<u8>) {
-    let mut rows = tables::any(random);
+pub fn any(random: &mut Random) -> (Table, Vec<u8>) {
+    let mut table = tables::any(random);
+    let rows = &mut table.rows;
     if rows.is_empty() {
         rows.push([1, 1, 1, 1]);
     }
@@ -90,17 +91,17 @@ pub fn any(random: &mut Random) -> (Vec<Row>, Vec<u8>) {
     let other = random.index(count);
     match random.below(12) {
         0 => {
-            let table = lengthen(&tables::spell(&rows), random);
-            return (rows, table);
+            let bytes = lengthen(&table.spell(), random);
+            return (table, bytes);
         }
         1 => {
-            let table = misspell_one(&tables::numbers_of(&rows), random);
-            return (rows, table);
+            let bytes = misspell_one(&table.numbers(), random);
+            return (table, bytes);
         }
         2 => {
-            let mut table = tables::spell(&rows);
-            table.truncate(random.index(table.len()));
-            return (rows, table);
+            let mut bytes = table.spell();
+            bytes.truncate(random.index(bytes.len()));
+            return (table, bytes);
         }
         3 => spoil(&mut rows[other], random),
         4 => {
@@ -115,8 +116,8 @@ pub fn any(random: &mut Random) -> (Vec<Row>, Vec<u8>) {
         }
         _ => {}
     }
-    let table = tables::spell(&rows);
-    (rows, table)
+    let bytes = table.spell();
+    (table, bytes)
 }
 
 /// Gives a row a c that is above its d, by one or by more, equal to it, one below it, or out of its range.
@@ -175,5 +176,10 @@ pub fn edge_tables() -> Vec<Vec<u8>> {
     tables.push(tables::spell(&vec![[1, MOST_ROWS, 4, 4]; most]));
     tables.push(tables::spell(&vec![hopeless; most]));
     tables.push(tables::spell(&vec![hopeless; most + 1]));
+    for timer in [[0, 4], [3, 4], [127, 128], [4, 4], [0, 0], [0, 4_097]] {
+        tables.push(tables::spell_with(timer, &[hopeless]));
+        tables.push(tables::spell_with(timer, &[[1, 4, 4, 4], hopeless]));
+        tables.push(tables::spell_with(timer, &[[1, 4, 4, 4]]));
+    }
     tables
 }

@@ -1,7 +1,7 @@
 //! Scripts for a table: quiet, crowded, and at the end of time.
 
 use super::random::Random;
-use super::tables::{spell_numbers, Row};
+use super::tables::{spell_numbers, Row, Table};
 use second::run::{LAST_TICK, MOST_PENDING};
 use second::table::{MOST_C, MOST_ROWS};
 
@@ -16,43 +16,60 @@ pub fn numbers_of(records: &[Record]) -> Vec<u64> {
     records.iter().flatten().copied().collect()
 }
 
-pub fn any(rows: &[Row], random: &mut Random) -> Vec<Record> {
+pub fn any(table: &Table, random: &mut Random) -> Vec<Record> {
     let kinds = [quiet, quiet, crowded, burst, near_the_end, far_apart];
-    let mut records = random.pick(&kinds)(rows, random);
+    let mut records = random.pick(&kinds)(table, random);
     if random.one_in(4) {
-        spoil_a_value(rows, &mut records, random);
+        spoil_a_value(&table.rows, &mut records, random);
     }
     records
 }
 
-fn job(rows: &[Row], gap: u64, most_cost: u64, random: &mut Random) -> Record {
+/// As many ticks as a replay can be waited for, about.
+const PATIENCE: u64 = 40_000;
+
+/// Returns how many ticks there are for each one that the timer leaves free.
+fn ticks_for_a_unit(table: &Table) -> u64 {
+    let [s, p] = table.timer;
+    if s < p {
+        p.div_ceil(p - s)
+    } else {
+        1
+    }
+}
+
+fn job(table: &Table, gap: u64, most_cost: u64, random: &mut Random) -> Record {
+    let rows = &table.rows;
     if rows.is_empty() {
         return [gap, 0, 1];
     }
     let row = random.index(rows.len());
     let c = rows[row][3].clamp(1, MOST_C);
+    let most_cost = (most_cost / ticks_for_a_unit(table)).max(1);
     [gap, row as u64, random.within(1, c.min(most_cost))]
 }
 
-fn jobs(rows: &[Row], count: u64, most_gap: u64, most_cost: u64, random: &mut Random) -> Vec<Record> {
-    (0..count)
+/// Makes so many jobs, or fewer where the timer leaves only a few ticks free.
+fn jobs(table: &Table, count: u64, most_gap: u64, most_cost: u64, random: &mut Random) -> Vec<Record> {
+    let most = (PATIENCE / ticks_for_a_unit(table)).max(3);
+    (0..count.min(most))
         .map(|_| {
             let gap = random.within(0, most_gap);
-            job(rows, gap, most_cost, random)
+            job(table, gap, most_cost, random)
         })
         .collect()
 }
 
-fn quiet(rows: &[Row], random: &mut Random) -> Vec<Record> {
+fn quiet(table: &Table, random: &mut Random) -> Vec<Record> {
     let count = random.below(12);
     let most_cost = random.pick(&[3, 30, MOST_C]);
-    jobs(rows, count, 10, most_cost, random)
+    jobs(table, count, 10, most_cost, random)
 }
 
-fn crowded(rows: &[Row], random: &mut Random) -> Vec<Record> {
+fn crowded(table: &Table, random: &mut Random) -> Vec<Record> {
     let count = if random.one_in(30) { random.within(300, 2_000) } else { random.within(20, 2 * MOST_PENDING as u64) };
     let most_gap = random.within(1, 6);
-    jobs(rows, count, most_gap, 5, random)
+    jobs(table, count, most_gap, 5, random)
 }
 
 /// Makes a number of jobs that take all places, or that are a few fewer or a few more.
@@ -61,21 +78,21 @@ pub fn near_the_last_place(random: &mut Random) -> u64 {
 }
 
 /// Fills the places to the last one or just past it, once or with a few jobs finished in between.
-pub fn burst(rows: &[Row], random: &mut Random) -> Vec<Record> {
+pub fn burst(table: &Table, random: &mut Random) -> Vec<Record> {
     let count = near_the_last_place(random);
-    let mut records = jobs(rows, count, 0, random.pick(&[1, 2, 9]), random);
+    let mut records = jobs(table, count, 0, random.pick(&[1, 2, 9]), random);
     for _ in 0..random.below(3) {
         let pause = random.within(1, 4);
         let again = random.within(1, 4);
-        records.push(job(rows, pause, 2, random));
-        records.extend(jobs(rows, again, 0, 2, random));
+        records.push(job(table, pause, 2, random));
+        records.extend(jobs(table, again, 0, 2, random));
     }
     records
 }
 
 /// Makes due times, script times or final ticks that reach 2^40 or just miss it.
-pub fn near_the_end(rows: &[Row], random: &mut Random) -> Vec<Record> {
-    let d = if rows.is_empty() { 1 } else { random.pick(rows)[2] };
+pub fn near_the_end(table: &Table, random: &mut Random) -> Vec<Record> {
+    let d = if table.rows.is_empty() { 1 } else { random.pick(&table.rows)[2] };
     let from_the_end = match random.below(4) {
         0 => random.below(4),
         1 => d.saturating_add(random.below(4)).saturating_sub(1),
@@ -85,11 +102,11 @@ pub fn near_the_end(rows: &[Row], random: &mut Random) -> Vec<Record> {
     let count = random.pick(&[1, 2, 3, 6, MOST_PENDING as u64, MOST_PENDING as u64 + 1]);
     let most_gap = random.pick(&[0, 0, 1, 3]);
     let most_cost = random.pick(&[1, 3, 40]);
-    let mut records = jobs(rows, count, most_gap, most_cost, random);
+    let mut records = jobs(table, count, most_gap, most_cost, random);
     records[0][0] = LAST_TICK.saturating_sub(from_the_end);
     if random.one_in(3) {
         let before = random.within(1, 3);
-        let mut early = jobs(rows, before, 2, 3, random);
+        let mut early = jobs(table, before, 2, 3, random);
         let passed: u64 = early.iter().map(|record| record[0]).sum();
         records[0][0] = records[0][0].saturating_sub(passed);
         early.extend(records);
@@ -98,19 +115,19 @@ pub fn near_the_end(rows: &[Row], random: &mut Random) -> Vec<Record> {
     if random.one_in(3) {
         let passed: u64 = records.iter().map(|record| record[0]).sum();
         let to_the_end = LAST_TICK.saturating_sub(passed);
-        records.push(job(rows, to_the_end + random.below(2), 3, random));
+        records.push(job(table, to_the_end + random.below(2), 3, random));
     }
     records
 }
 
-/// Makes long idle times, which have to be crossed in one go.
-fn far_apart(rows: &[Row], random: &mut Random) -> Vec<Record> {
+/// Makes long times with nothing pending, which have to be crossed in one go.
+fn far_apart(table: &Table, random: &mut Random) -> Vec<Record> {
     let count = random.within(1, 20);
     (0..count)
         .map(|_| {
             let bits = random.within(1, 41);
             let gap = random.below(1 << bits);
-            job(rows, gap, 20, random)
+            job(table, gap, 20, random)
         })
         .collect()
 }
@@ -133,9 +150,10 @@ pub fn spoil_a_value(rows: &[Row], records: &mut [Record], random: &mut Random) 
 
 /// Makes a job with a late due time that waits for many short jobs. Its log record comes last and is shorter than many
 /// before it, so it would still fit where theirs did not.
-pub fn waiting_job(random: &mut Random) -> (Vec<Row>, Vec<Record>) {
+pub fn waiting_job(random: &mut Random) -> (Table, Vec<Record>) {
+    let timer = random.pick(&[[0, 1], [0, 1], [0, 7], [1, 4], [1, 12], [2, 3]]);
     let rows = vec![[1, 1, 16_000, 4], [64, 1, random.within(1, 3), 1]];
     let mut records = vec![[0, 0, random.within(1, 4)], [0, 1, 1]];
     records.resize(random.within(130, 160) as usize, [1, 1, 1]);
-    (rows, records)
+    (Table { timer, rows }, records)
 }

@@ -1,27 +1,65 @@
 //! Tables: ordinary ones, ones on the edge of feasible, and ones at the limits.
 
 use super::random::Random;
+use super::timers::{self, Timer};
 use second::numbers;
-use second::table::{self, Table, MOST_C, MOST_D, MOST_ROWS};
+use second::table::{self, MOST_C, MOST_D, MOST_P, MOST_ROWS};
 use second::verdict::{verdict, Verdict};
 
 /// A row is x, y, d and c.
 pub type Row = [u64; 4];
 
+/// This timer takes no tick, and leaves the period to the rows.
+pub const NO_TIMER: Timer = [0, 1];
+
+/// A table to spell, whether its values are in range or not.
+#[derive(Clone, Debug)]
+pub struct Table {
+    pub timer: Timer,
+    pub rows: Vec<Row>,
+}
+
+impl Table {
+    pub fn without_timer(rows: Vec<Row>) -> Table {
+        Table { timer: NO_TIMER, rows }
+    }
+
+    pub fn spell(&self) -> Vec<u8> {
+        spell_with(self.timer, &self.rows)
+    }
+
+    pub fn numbers(&self) -> Vec<u64> {
+        numbers_of(self.timer, &self.rows)
+    }
+}
+
+/// Spells a table without a timer.
 pub fn spell(rows: &[Row]) -> Vec<u8> {
-    spell_numbers(&numbers_of(rows))
+    spell_with(NO_TIMER, rows)
+}
+
+pub fn spell_with(timer: Timer, rows: &[Row]) -> Vec<u8> {
+    spell_numbers(&numbers_of(timer, rows))
 }
 
 pub fn spell_numbers(numbers: &[u64]) -> Vec<u8> {
     numbers.iter().flat_map(|&number| numbers::spell(number).unwrap()).collect()
 }
 
-pub fn numbers_of(rows: &[Row]) -> Vec<u64> {
-    [rows.len() as u64].into_iter().chain(rows.iter().flatten().copied()).collect()
+fn numbers_of(timer: Timer, rows: &[Row]) -> Vec<u64> {
+    timer.into_iter().chain([rows.len() as u64]).chain(rows.iter().flatten().copied()).collect()
 }
 
-/// Returns how many lengths a program looks at that goes through them from 1 up. Where the sum of x * c / y is above 1,
-/// only the witness tells.
+/// Returns the row count of a table's bytes, where it can be read: it is the third number.
+pub fn row_count(bytes: &[u8]) -> Option<u64> {
+    let (_, place) = numbers::read(bytes, 0).ok()?;
+    let (_, place) = numbers::read(bytes, place).ok()?;
+    let (count, _) = numbers::read(bytes, place).ok()?;
+    Some(count)
+}
+
+/// Returns how many lengths a program looks at that goes through them from 1 up. Where the sum of x * c / y and of s / p
+/// is above 1, only the witness tells.
 pub fn lengths_to_look_at(bytes: &[u8]) -> u64 {
     match table::read(bytes) {
         Err(_) => 0,
@@ -32,27 +70,85 @@ pub fn lengths_to_look_at(bytes: &[u8]) -> u64 {
     }
 }
 
-pub fn last_of_first_period(table: &Table) -> u64 {
+pub fn last_of_first_period(table: &table::Table) -> u64 {
     table.period + table.largest_d()
 }
 
-/// Makes rows of any of the kinds below.
-pub fn any(random: &mut Random) -> Vec<Row> {
+/// Makes rows of any of the kinds below, and any timer.
+pub fn any(random: &mut Random) -> Table {
     let kinds = [small, balanced, balanced, balanced, many, late_witness, long_period, at_limits];
     let rows = random.pick(&kinds)(random);
-    with_hope(rows, random)
+    let rows = with_hope(rows, random);
+    Table { timer: timers::any(&rows, random), rows }
 }
 
-/// Makes a table to replay on: it is accepted, and has room for many jobs.
-pub fn to_replay(random: &mut Random) -> Vec<Row> {
+/// Makes a table to replay on: it is accepted, and has room for many jobs. Half of these have a timer that takes ticks.
+pub fn to_replay(random: &mut Random) -> Table {
+    let table = timed_to_replay(random);
+    if random.one_in(2) {
+        return table;
+    }
+    let p = random.pick(&[1, 1, 1, 2, 4, table.timer[1]]);
+    Table { timer: [0, p], ..table }
+}
+
+/// Makes a table to replay on whose timer takes ticks, where the period of the rows allows for one.
+pub fn timed_to_replay(random: &mut Random) -> Table {
+    if random.one_in(6) {
+        return filled(random);
+    }
     let rows = random.pick(&[small, small, hasty, hasty, balanced, many, wide])(random);
-    with_hope(rows, random)
+    let rows = with_hope(rows, random);
+    Table { timer: timers::to_replay(&rows, random), rows }
 }
 
-/// Makes a table whose witness is long.
-pub fn to_search(random: &mut Random) -> Vec<Row> {
-    let rows = late_witness(random);
-    with_hope(rows, random)
+/// Makes a table whose witness is long. Half of these would be feasible without their timer.
+pub fn to_search(random: &mut Random) -> Table {
+    let mut table =
+        if random.one_in(2) { late_witness_by_the_timer(random) } else { Table::without_timer(late_witness(random)) };
+    table.rows = with_hope(table.rows, random);
+    table
+}
+
+/// Makes a table whose timer takes ticks, or only makes the period longer.
+pub fn timed(random: &mut Random) -> Table {
+    random.pick(&[filled, filled, filled, timed_to_replay, late_witness_by_the_timer, long_period_by_p])(random)
+}
+
+/// Makes a timer and rows that together take about the whole processor.
+fn filled(random: &mut Random) -> Table {
+    let period: u64 = random.pick(&[6, 12, 24, 60, 120, 210, 1_024]);
+    let p = random.pick(&divisors(period)[1..]);
+    let most_s = random.pick(&[1, p / 4, p / 2, p - 1]).max(1);
+    let s = random.within(1, most_s);
+    let rows = rows_that_take(period, period - s * (period / p), random);
+    Table { timer: [s, p], rows: with_hope(rows, random) }
+}
+
+/// Makes a timer and rows that together ask for a little more than there is. The rows are due so late that the witness
+/// is long.
+fn late_witness_by_the_timer(random: &mut Random) -> Table {
+    let y = random.within(2, 40);
+    let d = random.pick(&[20, 100, 400, 2_000]) + random.below(50);
+    let s = random.within(1, y - 1);
+    let (timer, rows) = match random.below(3) {
+        0 => ([s, y], vec![[1, y, d, y - s + 1]]),
+        1 => ([s, y], vec![[1, y, d, y - s], [1, random.within(1, 40), d, 1]]),
+        _ => ([1, random.within(2, 40)], vec![[1, y, d, y]]),
+    };
+    Table { timer, rows: with_hope(rows, random) }
+}
+
+/// Makes periods near the limit by p: 1023 with 1025 is just accepted, and 1141 with 919 is just refused.
+pub fn long_period_by_p(random: &mut Random) -> Table {
+    let pairs = random.pick(&LONG_PERIODS);
+    let [p, y] = random.pick(&[[pairs.0, pairs.1], [pairs.1, pairs.0]]);
+    let s = random.pick(&[0, 0, 1, p / 3, p - 1]);
+    let mut rows = vec![[1, y, due_near(y, random), random.within(1, y / 3)]];
+    if random.one_in(3) {
+        rows.push([1, random.pick(&[y, p, 1]), random.within(1, 2 * p), 1]);
+    }
+    Table { timer: [s, p.min(MOST_P)], rows: with_hope(rows, random) }
 }
 
 /// Mends the rows that are hopeless by chance, where d and c are in range: c comes down to d, or d goes up to c. Hopeless
@@ -77,9 +173,17 @@ fn small(random: &mut Random) -> Vec<Row> {
 
 /// Makes rows that take about the whole processor: the last row fills it up, to a unit or so.
 fn balanced(random: &mut Random) -> Vec<Row> {
-    let period: u64 = random.pick(&[6, 12, 24, 60, 120, 210, 1_024]);
-    let divisors: Vec<u64> = (1..=period).filter(|divisor| period.is_multiple_of(*divisor)).collect();
-    let mut free = period;
+    let period = random.pick(&[6, 12, 24, 60, 120, 210, 1_024]);
+    rows_that_take(period, period, random)
+}
+
+fn divisors(period: u64) -> Vec<u64> {
+    (1..=period).filter(|divisor| period.is_multiple_of(*divisor)).collect()
+}
+
+/// Makes rows that take about as many units of a period as are free in it.
+fn rows_that_take(period: u64, mut free: u64, random: &mut Random) -> Vec<Row> {
+    let divisors = divisors(period);
     let mut rows = vec![];
     for _ in 0..random.below(5) {
         let y = random.pick(&divisors);
@@ -137,22 +241,25 @@ fn late_witness(random: &mut Random) -> Vec<Row> {
     rows
 }
 
+/// Pairs of numbers whose least common multiple is near the longest period.
+const LONG_PERIODS: [(u64, u64); 12] = [
+    (1_023, 1_025),
+    (1_141, 919),
+    (4_095, 256),
+    (4_096, 255),
+    (4_096, 257),
+    (4_093, 256),
+    (4_093, 257),
+    (4_093, 4_091),
+    (729, 1_438),
+    (729, 1_439),
+    (2_048, 511),
+    (625, 512),
+];
+
 /// Makes periods near the limit: 1023 with 1025 is just accepted, and 1141 with 919 is just refused.
 fn long_period(random: &mut Random) -> Vec<Row> {
-    let (one, other) = random.pick(&[
-        (1_023, 1_025),
-        (1_141, 919),
-        (4_095, 256),
-        (4_096, 255),
-        (4_096, 257),
-        (4_093, 256),
-        (4_093, 257),
-        (4_093, 4_091),
-        (729, 1_438),
-        (729, 1_439),
-        (2_048, 511),
-        (625, 512),
-    ]);
+    let (one, other) = random.pick(&LONG_PERIODS);
     let row = |y, random: &mut Random| [random.within(1, 2), y, due_near(y, random), random.within(1, y / 3)];
     let mut rows = vec![row(one, random), row(other, random)];
     if random.one_in(3) {

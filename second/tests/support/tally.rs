@@ -2,10 +2,9 @@
 
 use super::bad_bytes::Met;
 use super::case::{Call, Case, Outcome};
-use super::hopeless;
-use super::tables::last_of_first_period;
+use super::tables::{self, last_of_first_period};
+use super::{hopeless, timers};
 use second::host::{FEASIBLE, IN_TIME, LATE, OVERLOADED};
-use second::numbers;
 use second::run::MOST_PENDING;
 use second::table::{self, MOST_ROWS};
 use second::verdict::{verdict, Verdict};
@@ -17,7 +16,8 @@ const TOO_MANY_ROWS: u32 = 2;
 const PLACES_FULL: u32 = 8;
 const ANSWER_NOT_16_BYTES: u32 = 13;
 
-/// What a comparison met near the limit of rows or the limit of pending jobs, or near the rule that c is at most d.
+/// What a comparison met near the limit of rows or the limit of pending jobs, near the rule that c is at most d, or of
+/// the timer.
 #[derive(Clone, Copy, Debug, PartialEq, Eq, PartialOrd, Ord)]
 pub enum Limit {
     /// A table of so many rows was accepted.
@@ -30,6 +30,8 @@ pub enum Limit {
     PlacesFull,
     /// A table had this on either side of the rule that c is at most d.
     Hopeless(hopeless::Met),
+    /// A call had this to do with the timer.
+    Timer(timers::Met),
 }
 
 #[derive(Default)]
@@ -118,14 +120,16 @@ fn limits_wanted(call: Call) -> BTreeSet<Limit> {
     let rows = [Limit::Rows(MOST_ROWS - 1), Limit::Rows(MOST_ROWS), Limit::TooManyRows(MOST_ROWS + 1)];
     let pending = [Limit::Pending(MOST_PENDING - 1), Limit::Pending(MOST_PENDING), Limit::PlacesFull];
     let of_replay = pending.into_iter().filter(|_| call == Call::Replay);
-    rows.into_iter().chain(of_replay).chain(hopeless::wanted().into_iter().map(Limit::Hopeless)).collect()
+    let of_timer = timers::wanted(call).into_iter().map(Limit::Timer);
+    let hopeless = hopeless::wanted().into_iter().map(Limit::Hopeless);
+    rows.into_iter().chain(of_replay).chain(hopeless).chain(of_timer).collect()
 }
 
 fn limits(case: &Case, outcome: &Outcome) -> Vec<Limit> {
     if outcome.status == ANSWER_NOT_16_BYTES {
         return vec![];
     }
-    let rows = numbers::read(&case.table, 0).map_or(0, |(count, _)| count);
+    let rows = tables::row_count(&case.table).unwrap_or(0);
     let at_the_counts = match outcome.status {
         FEASIBLE | OVERLOADED => vec![Limit::Rows(rows)],
         IN_TIME | LATE => vec![Limit::Rows(rows), Limit::Pending(most_pending(&outcome.log[..outcome.first()]))],
@@ -133,20 +137,16 @@ fn limits(case: &Case, outcome: &Outcome) -> Vec<Limit> {
         PLACES_FULL => vec![Limit::Rows(rows), Limit::PlacesFull],
         _ => vec![],
     };
-    at_the_counts.into_iter().chain(hopeless::met(&case.table).into_iter().map(Limit::Hopeless)).collect()
+    let hopeless = hopeless::met(&case.table).into_iter().map(Limit::Hopeless);
+    let of_timer = timers::met(case, outcome).into_iter().map(Limit::Timer);
+    at_the_counts.into_iter().chain(hopeless).chain(of_timer).collect()
 }
 
 /// Returns how many jobs of a whole log were pending at a time, at most. A job is pending from its release until its
 /// finish, and a place that is freed can be used at once.
 fn most_pending(log: &[u8]) -> usize {
-    let mut list = vec![];
-    let mut place = 0;
-    while place < log.len() {
-        let (number, after) = numbers::read(log, place).expect("a log has numbers only");
-        list.push(number);
-        place = after;
-    }
-    let mut changes: Vec<(u64, i64)> = list.chunks(5).flat_map(|job| [(job[2], 1), (job[4], -1)]).collect();
+    let jobs = timers::jobs_of(log);
+    let mut changes: Vec<(u64, i64)> = jobs.iter().flat_map(|job| [(job[2], 1), (job[4], -1)]).collect();
     changes.sort();
     let pending = changes.iter().scan(0, |pending, &(_, change)| {
         *pending += change;

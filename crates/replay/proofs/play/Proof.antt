@@ -8,18 +8,18 @@ use lib.Seq.{length-take-le}
 use borrow.Author.Needs.{needs}
 use Rattle.numbers.specs.SpelledNumbers.{Bytes}
 use Rattle.replay.specs.Arrays.{Lists, lists, loggedBy}
-use Rattle.replay.proofs.Replaying.{Plays, plays-first, limits-within, log-as-long, plays-in-bounds}
+use Rattle.replay.proofs.Replaying.{Plays, plays-first, good-timer, limits-within, log-as-long, plays-in-bounds}
 use Rattle.replay.proofs.Replaying.{plays-refused, row-in-table, can-go, later-place, plays-stopped, plays-next}
 use Rattle.replay.proofs.Replaying.{PlaysWhole, plays-too-long, plays-whole, stopped-ends, full-ends, in-time-ends, late-ends}
 use Rattle.replay.proofs.play.Statement.{statement}
 use Rattle.replay.proofs.play.Tie as tie
 
 abbrev Inv-loop : tie.InvT-loop
-Inv-loop script log₀ table limits in-use serials₀ rows₀ releases₀ dues₀ left₀ times₀ many₀ oldest₀ at₀ going₀ log serials rows releases dues left times many oldest at going =
+Inv-loop script log₀ table limits in-use s p serials₀ rows₀ releases₀ dues₀ left₀ times₀ many₀ oldest₀ at₀ going₀ log serials rows releases dues left times many oldest at going =
     Plays script table log₀ (lists serials rows releases dues left times many oldest log) going at
 
 abbrev μ-loop : tie.MeasureT-loop
-μ-loop script log₀ table limits in-use serials₀ rows₀ releases₀ dues₀ left₀ times₀ many₀ oldest₀ at₀ going₀ log serials rows releases dues left times many oldest at going =
+μ-loop script log₀ table limits in-use s p serials₀ rows₀ releases₀ dues₀ left₀ times₀ many₀ oldest₀ at₀ going₀ log serials rows releases dues left times many oldest at going =
     length script - at
 
 -- Every element of the script is a byte.
@@ -83,7 +83,7 @@ element-copy-out-row : tie.Need-element-copy-out-row Inv-loop μ-loop
 element-copy-out-row c = row-in-table (c .before .before .before .before .before .before .before .loop .inv) (inside (c .before .before .before .before .before .before)) refl (c .before .before .before .before .before .before .before .before .cost-limits .ensures) (c .before .before .before .ready-at .ensures) (c .before .tested .given .1)
 
 play-record-requires : tie.Need-play-record-requires Inv-loop μ-loop
-play-record-requires c κs = can-go (c .before .before .before .before .before .before .before .before .before .before .before .before .before .before .before .before .before .loop .inv) (inside (c .before .before .before .before .before .before .before .before .before .before .before .before .before .before .before .before)) refl (c .before .before .before .before .before .before .before .before .before .before .before .before .before .before .before .before .before .before .cost-limits .ensures) (c .before .before .before .before .before .before .before .before .before .before .before .before .before .ready-at .ensures) (c .before .before .before .before .before .before .before .before .before .before .before .tested .given .1)
+play-record-requires c κs = (good-timer (c .before .before .before .before .before .before .before .before .before .before .before .before .before .before .before .before .before .loop .inv), can-go (c .before .before .before .before .before .before .before .before .before .before .before .before .before .before .before .before .before .loop .inv) (inside (c .before .before .before .before .before .before .before .before .before .before .before .before .before .before .before .before)) refl (c .before .before .before .before .before .before .before .before .before .before .before .before .before .before .before .before .before .before .cost-limits .ensures) (c .before .before .before .before .before .before .before .before .before .before .before .before .before .ready-at .ensures) (c .before .before .before .before .before .before .before .before .before .before .before .tested .given .1))
 
 enum-known-step : tie.Need-enum-known-step Inv-loop μ-loop
 enum-known-step c = search needs
@@ -113,7 +113,7 @@ loop-again c =
     (bytes (c .before .before .before .before .before .before .before .before .before .before .before .before .before .before .before .before .before .before .before .before .before .before .before .before .before .before))
 
 run-until-requires : tie.Need-run-until-requires Inv-loop μ-loop
-run-until-requires c κs = (omega arith, plays-in-bounds (c .before .before .before .before .before .before .before .before .loop .inv))
+run-until-requires c κs = (omega arith, good-timer (c .before .before .before .before .before .before .before .before .loop .inv), plays-in-bounds (c .before .before .before .before .before .before .before .before .loop .inv))
 
 same-length-3 : tie.Need-same-length-3 Inv-loop μ-loop
 same-length-3 c = c .before .before .before .before .run-until .ensures .0 ∙ log-as-long (c .before .before .before .before .before .before .before .before .before .before .before .before .before .loop .inv)

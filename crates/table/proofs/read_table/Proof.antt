@@ -1,13 +1,46 @@
--- `table::read_table` meets its contract: each answer is a law of how a table is read from its rows.
-use Prim.Native.Nat.{_≤_}
-use mathlib.Core.Path.{sym, _∙_}
+-- `table::read_table` meets its contract: each answer is a law of how a table is read from its timer and its rows.
+use Prim.Native.Nat.{ℕ, _≤_}
+use mathlib.Core.Path.{_≡_, sym, _∙_}
+use mathlib.Core.List.{List}
 use native.Mathlib.Omega.{arith}
 use lib.Seq.{length-take-le}
 use borrow.Author.Needs.{needs}
+use Rattle.table.specs.declared.TimerRead.the-variants as timer
 use Rattle.table.specs.Limits.{maxRows}
-use Rattle.table.proofs.ReadTables.{table-refused, extra-bytes, count-fits, accepted, period-too-long}
+use Rattle.table.specs.Timer.{readTimer}
+use Rattle.table.proofs.Timers.{some-p-read}
+use Rattle.table.proofs.ReadTables.{timer-refused, table-refused, extra-bytes, count-fits, accepted, period-too-long}
 use Rattle.table.proofs.read_table.Statement.{statement}
 use Rattle.table.proofs.read_table.Tie as tie
+
+-- The bytes, after the timer was read.
+abbrev bytes-of : tie.After-known-told → List ℕ
+bytes-of c = c .before .before .before .before .before .args .bytes .now
+
+-- The timer is read.
+timed : (c : tie.After-known-told) → timer.Timer (c .before .t .given .0 .0) ≡ readTimer (bytes-of c)
+timed c = sym (c .before .t .given .1) ∙ c .before .before .before .read-timer .ensures
+
+-- The p that was read is at least 1.
+some-p : (c : tie.After-known-told) → 1 ≤ c .before .t .given .0 .0 .p
+some-p c = some-p-read (bytes-of c) _ (sym (timed c))
+
+read-timer-requires : tie.Need-read-timer-requires
+read-timer-requires c κs = search needs
+
+enum-known-t : tie.Need-enum-known-t
+enum-known-t c = search needs
+
+enum-known-r : tie.Need-enum-known-r
+enum-known-r c = search needs
+
+refused-requires : tie.Need-refused-requires
+refused-requires c κs = search needs
+
+returns : tie.Need-returns
+returns c =
+    let told = sym (c .before .before .r .given .1) ∙ c .before .before .before .before .read-timer .ensures in
+    c .refused .ensures ∙ timer-refused (c .before .before .before .before .before .before .args .bytes .now) _ told
 
 read-rows-requires : tie.Need-read-rows-requires
 read-rows-requires c κs = search needs
@@ -18,32 +51,43 @@ enum-known-answer c = search needs
 enum-known-answer-2 : tie.Need-enum-known-answer-2
 enum-known-answer-2 c = search needs
 
-refused-requires : tie.Need-refused-requires
-refused-requires c κs = search needs
-
-returns : tie.Need-returns
-returns c = c .refused .ensures ∙ table-refused (c .before .before .before .before .before .before .args .bytes .now) _ (c .before .before .before .before .read-rows .ensures) _ (c .before .before .answer2 .given .1)
-
 refused-requires-2 : tie.Need-refused-requires-2
 refused-requires-2 c κs = search needs
 
 returns-2 : tie.Need-returns-2
-returns-2 c = c .refused2 .ensures ∙ extra-bytes (c .before .before .before .before .before .before .before .args .bytes .now) _ (c .before .before .before .before .before .read-rows .ensures) _ (c .before .before .before .answer .given .1) (c .before .if1 .taken)
+returns-2 c =
+    let t = c .before .before .before .before .before in
+    c .refused2 .ensures
+    ∙ table-refused (bytes-of t) _ (timed t) _ (c .before .before .before .before .read-rows .ensures) _ (c .before .before .answer2 .given .1)
 
-ys-requires : tie.Need-ys-requires
-ys-requires c κs = search needs
+refused-requires-3 : tie.Need-refused-requires-3
+refused-requires-3 c κs = search needs
+
+returns-3 : tie.Need-returns-3
+returns-3 c =
+    let w = c .before .before in
+    let t = w .before .before .before .before in
+    c .refused3 .ensures
+    ∙ extra-bytes (bytes-of t) _ (timed t) _ (w .before .before .before .read-rows .ensures) _ (w .before .answer .given .1) (c .before .if1 .taken)
+
+periods-requires : tie.Need-periods-requires
+periods-requires c κs = search needs
 
 -- No more rows are in use than a table may have.
-places : (c : tie.After-ys) → c .before .before .before .before .before .before .read-rows .result .count ≤ maxRows
-places c =
-    count-fits (c .before .before .before .before .before .before .before .before .args .bytes .now) _
-    (c .before .before .before .before .before .before .read-rows .ensures) _ (c .before .before .before .before .answer .given .1)
+places : (w : tie.After-known-told3) → w .before .before .before .read-rows .result .count ≤ maxRows
+places w =
+    let t = w .before .before .before .before in
+    count-fits (bytes-of t) _ (timed t) _ (w .before .before .before .read-rows .ensures) _ (w .before .answer .given .1)
 
-array-share-prefix-ys : tie.Need-array-share-prefix-ys
-array-share-prefix-ys c = omega (arith, places c)
+add-periods : tie.Need-add-periods
+add-periods c = omega (arith, places (c .before .before .before))
+
+array-share-prefix-periods : tie.Need-array-share-prefix-periods
+array-share-prefix-periods c = omega (arith, places (c .before .before .before))
 
 slice-aggregate-period-within : tie.Need-slice-aggregate-period-within
-slice-aggregate-period-within c = sym (length-take-le _ (c .before .ys .result) (omega (arith, places (c .before))))
+slice-aggregate-period-within c =
+    sym (length-take-le _ (c .before .periods .result) (omega (arith, places (c .before .before .before .before))))
 
 period-within-requires : tie.Need-period-within-requires
 period-within-requires c κs = search needs
@@ -51,40 +95,53 @@ period-within-requires c κs = search needs
 enum-known-h : tie.Need-enum-known-h
 enum-known-h c = search needs
 
-enum-known-r : tie.Need-enum-known-r
-enum-known-r c = search needs
+enum-known-r-2 : tie.Need-enum-known-r-2
+enum-known-r-2 c = search needs
 
-refused-requires-3 : tie.Need-refused-requires-3
-refused-requires-3 c κs = search needs
-
-returns-3 : tie.Need-returns-3
-returns-3 c =
-    accepted (c .before .before .before .before .before .before .before .before .before .before .before .before .before .args .bytes .now) _ (c .before .before .before .before .before .before .before .before .before .before .before .read-rows .ensures) _ (c .before .before .before .before .before .before .before .before .before .answer .given .1) (c .before .before .before .before .before .before .before .if1 .left) (c .before .before .before .before .before .ys .ensures) _
-    (sym (c .before .before .before .period-within .ensures) ∙ c .before .h .given .1)
+refused-requires-4 : tie.Need-refused-requires-4
+refused-requires-4 c κs = search needs
 
 returns-4 : tie.Need-returns-4
 returns-4 c =
-    c .refused3 .ensures
-    ∙ period-too-long (c .before .before .before .before .before .before .before .before .before .before .before .before .before .before .args .bytes .now) _ (c .before .before .before .before .before .before .before .before .before .before .before .before .read-rows .ensures) _ (c .before .before .before .before .before .before .before .before .before .before .answer .given .1) (c .before .before .before .before .before .before .before .before .if1 .left) (c .before .before .before .before .before .before .ys .ensures) _
-    (sym (c .before .before .before .before .period-within .ensures) ∙ c .before .before .r .given .1)
+    let column = c .before .before .before .before .before in
+    let w = column .before .before .before in
+    let t = w .before .before .before .before in
+    accepted (bytes-of t) _ (timed t) _ (w .before .before .before .read-rows .ensures) _ (w .before .answer .given .1) (column .before .before .if1 .left)
+    (column .periods .ensures) _ (sym (c .before .before .before .period-within .ensures) ∙ c .before .h .given .1)
+
+returns-5 : tie.Need-returns-5
+returns-5 c =
+    let column = c .before .before .before .before .before .before in
+    let w = column .before .before .before in
+    let t = w .before .before .before .before in
+    c .refused4 .ensures
+    ∙ period-too-long (bytes-of t) _ (timed t) _ (w .before .before .before .read-rows .ensures) _ (w .before .answer .given .1)
+    (column .before .before .if1 .left) (column .periods .ensures) (some-p t) _
+    (sym (c .before .before .before .before .period-within .ensures) ∙ c .before .before .r2 .given .1)
 
 pub read-table-spec : {M : Type 1} → statement M
 read-table-spec =
     tie.close
     (tie.spec
+    read-timer-requires
+    enum-known-t
+    enum-known-r
+    refused-requires
+    returns
     read-rows-requires
     enum-known-answer
     enum-known-answer-2
-    refused-requires
-    returns
     refused-requires-2
     returns-2
-    ys-requires
-    array-share-prefix-ys
+    refused-requires-3
+    returns-3
+    periods-requires
+    add-periods
+    array-share-prefix-periods
     slice-aggregate-period-within
     period-within-requires
     enum-known-h
-    enum-known-r
-    refused-requires-3
-    returns-3
-    returns-4)
+    enum-known-r-2
+    refused-requires-4
+    returns-4
+    returns-5)

@@ -7,7 +7,7 @@ use Rattle.replay.proofs.steps.play_record.Statement.{statement}
 use Rattle.replay.proofs.steps.play_record.Tie as tie
 
 run-until-requires : tie.Need-run-until-requires
-run-until-requires c κs = (c .before .before .before .before .before .before .before .before .before .pre .in-time, c .before .before .before .before .before .before .before .before .before .pre .in-bounds)
+run-until-requires c κs = (c .before .before .before .before .before .before .before .before .before .pre .1 .in-time, c .before .before .before .before .before .before .before .before .before .pre .0, c .before .before .before .before .before .before .before .before .before .pre .1 .in-bounds)
 
 same-length : tie.Need-same-length
 same-length c = c .before .before .before .run-until .ensures .0
@@ -15,7 +15,7 @@ same-length c = c .before .before .before .run-until .ensures .0
 returns : tie.Need-returns
 returns c =
     let ran = c .before .before .before .run-until in
-    (ran .ensures .0, λ p log₀ w may. stops-full w may (c .before .before .before .before .before .before .before .before .before .before .before .before .before .pre .in-time) (ran .ensures .1) (c .before .before .before .before .before .before .before .before .before .before .before .before .before .args .place) (c .if1 .taken))
+    (ran .ensures .0, λ p log₀ w may. stops-full w may (c .before .before .before .before .before .before .before .before .before .before .before .before .before .pre .1 .in-time) (ran .ensures .1) (c .before .before .before .before .before .before .before .before .before .before .before .before .before .args .place) (c .if1 .taken))
 
 next-due-requires : tie.Need-next-due-requires
 next-due-requires c κs = search needs
@@ -33,7 +33,7 @@ returns-2 : tie.Need-returns-2
 returns-2 c =
     let ran = c .before .before .before .before .before .before .before .before .before .before .before .run-until in (
       ran .ensures .0,
-      λ p log₀ w may. stops-due w may (c .before .before .before .before .before .before .before .before .before .before .before .before .before .before .before .before .before .before .before .before .before .pre .in-time) (ran .ensures .1) (c .before .before .before .before .before .before .before .before .before .before .before .before .before .before .before .before .before .before .before .before .before .args .place) (omega (arith, c .before .before .before .before .before .before .before .before .if1 .left)) (c .before .before .before .next-due .ensures .0)
+      λ p log₀ w may. stops-due w may (c .before .before .before .before .before .before .before .before .before .before .before .before .before .before .before .before .before .before .before .before .before .pre .1 .in-time) (ran .ensures .1) (c .before .before .before .before .before .before .before .before .before .before .before .before .before .before .before .before .before .before .before .before .before .args .place) (omega (arith, c .before .before .before .before .before .before .before .before .if1 .left)) (c .before .before .before .next-due .ensures .0)
           (c .before .given2 .given .1),
     )
 
@@ -46,8 +46,8 @@ enum-known-answer c = search needs
 enum-known-answer-2 : tie.Need-enum-known-answer-2
 enum-known-answer-2 c = search needs
 
-add-t54 : tie.Need-add-t54
-add-t54 c = omega (arith, c .before .before .before .before .before .before .before .before .before .before .before .before .before .before .before .before .before .before .before .before .before .before .before .before .before .before .before .before .before .before .before .before .pre .few-serials)
+add-after : tie.Need-add-after
+add-after c = omega (arith, c .before .before .before .before .before .before .before .before .before .before .before .before .before .before .before .before .before .before .before .before .before .before .before .before .before .before .before .before .before .before .before .before .pre .1 .few-serials)
 
 same-length-3 : tie.Need-same-length-3
 same-length-3 c = c .before .before .before .before .before .before .before .before .before .before .before .before .before .before .before .before .before .before .before .before .before .run-until .ensures .0
@@ -64,7 +64,7 @@ returns-4 : tie.Need-returns-4
 returns-4 c =
     let ran = c .before .before .before .before .before .before .before .before .before .before .before .before .before .before .before .before .before .before .before .before .before .before .run-until in (
       ran .ensures .0,
-      λ p log₀ w may. goes-further w may (c .before .before .before .before .before .before .before .before .before .before .before .before .before .before .before .before .before .before .before .before .before .before .before .before .before .before .before .before .before .before .before .before .pre .in-time) (ran .ensures .1) (c .before .before .before .before .before .before .before .before .before .before .before .before .before .before .before .before .before .before .before .before .before .before .before .before .before .before .before .before .before .before .before .before .args .place) (omega (arith, c .before .before .before .before .before .before .before .before .before .before .before .before .before .before .before .before .before .before .before .if1 .left)) (c .before .before .before .before .before .before .before .before .before .before .before .before .before .before .next-due .ensures .0)
+      λ p log₀ w may. goes-further w may (c .before .before .before .before .before .before .before .before .before .before .before .before .before .before .before .before .before .before .before .before .before .before .before .before .before .before .before .before .before .before .before .before .pre .1 .in-time) (ran .ensures .1) (c .before .before .before .before .before .before .before .before .before .before .before .before .before .before .before .before .before .before .before .before .before .before .before .before .before .before .before .before .before .before .before .before .args .place) (omega (arith, c .before .before .before .before .before .before .before .before .before .before .before .before .before .before .before .before .before .before .before .if1 .left)) (c .before .before .before .before .before .before .before .before .before .before .before .before .before .before .next-due .ensures .0)
           (c .before .before .before .before .before .before .before .before .before .before .before .before .given .given .1) _ (c .before .before .before .before .put .ensures .0) (c .before .before .before .before .put .ensures .1) (c .before .before .answer2 .given .1) (c .before .before .before .before .before .before .before .before .before .before .before .before .before .before .next-due .ensures .1) refl,
     )
 
@@ -83,7 +83,7 @@ play-record-spec =
     put-requires
     enum-known-answer
     enum-known-answer-2
-    add-t54
+    add-after
     same-length-3
     returns-3
     same-length-4

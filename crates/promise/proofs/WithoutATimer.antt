@@ -1,0 +1,211 @@
+-- Tables without a timer: the proofs. Where s is 0, the timer's count is 0 in every length and the timer takes no tick. So what was proved with a timer is what
+-- would be proved without one. (3.16, 5.14, 6.5)
+use Prim.Native.Nat.{ℕ}
+use mathlib.Core.Path.{_≡_, refl, sym, ap, fun-ext, subst, _∙_}
+use mathlib.Core.Logic.{_↔_}
+use mathlib.Core.Bool.{Bool, true, false, cond}
+use mathlib.Core.List.{List, [], _∷_, append-nil}
+use native.Mathlib.Omega.{arith}
+use lib.Dec.{ltb, eqb, leb}
+use lib.ListN.{length}
+use lib.Seq.{drop-length}
+use borrow.Author.Tests.{le-ltb}
+use Rattle.kinds.specs.Numbering.{maxTime, values, refusedWith}
+use Rattle.kinds.specs.declared.Refusal.the-variants.{TimeTooLate, RunNotSound}
+use Rattle.kinds.proofs.Apart.{impossible}
+use Rattle.numbers.specs.Spelling as spelling
+use Rattle.theory.specs.Curves.{SmallestFailing}
+use Rattle.theory.specs.Ticks.{timerTakes, noneTaken}
+use Rattle.theory.specs.Trace.{Trace, ServesEarliestDue, NeverIdlesInVain}
+use Rattle.theory.proofs.Cases.{by-test}
+use Rattle.theory.proofs.Curves.{one-smallest-failing, none-where-every-length-fits}
+use Rattle.theory.proofs.Timers.{no-timer}
+use Rattle.table.specs.declared.Row.{Row}
+use Rattle.table.specs.declared.TableRead.{TableRead}
+use Rattle.table.specs.declared.TableAnswer.the-variants as answer
+use Rattle.table.specs.Limits.{maxPeriod}
+use Rattle.table.specs.Content.{Content, rowsAlone}
+use Rattle.table.specs.Period.{periodOf}
+use Rattle.table.specs.Tables.{contentOf, atEnd, tableRead}
+use Rattle.table.specs.SpelledTables.{GoodRows, spelledRows, spelledTable}
+use Rattle.table.specs.Answers.{tableSays}
+use Rattle.table.specs.Refusals.{ContentEnds}
+use Rattle.table.proofs.Answers.{said-accepted}
+use Rattle.table.proofs.Ranges.{limits-of}
+use Rattle.table.proofs.SpelledTables.{content-of-table, content-then}
+use Rattle.table.proofs.SpelledTables as tables
+use Rattle.table.proofs.TableAnswers.{accepted-is-spelled}
+use Rattle.verdict.specs.declared.Verdict.{Verdict}
+use Rattle.verdict.specs.declared.Verdict.the-variants as verdict
+use Rattle.verdict.specs.Verdict.{RightFor, Judged, verdictSays}
+use Rattle.verdict.specs.RowsAlone.{demandOfRows}
+use Rattle.verdict.proofs.RowsAlone.{judged-by-rows-alone}
+use Rattle.run.specs.declared.Run.{Run}
+use Rattle.run.specs.Sound.{soundOf}
+use Rattle.run.specs.Ticking.{refusedTick, isTaken, takenTick, idleTick, busyTick, ticked}
+use Rattle.run.proofs.Release.{each-release}
+use Rattle.run.proofs.Ticking.{taken-means, tick-without-timer}
+use Rattle.promise.specs.Traces.{Call, runAt, trace, clockOf, jobsOfTrace, ticksOf}
+use Rattle.promise.specs.Link.{waitingIn, takenOn}
+use Rattle.promise.specs.NoOrder.{namedJobs, Serves}
+use Rattle.promise.specs.Replays.{callsOf}
+use Rattle.promise.specs.WithoutATimer.{SaysRowsAlone, SpelledAsBefore, FeasibleByRowsAlone, OverloadedByRowsAlone, FeasibleIsThePapers}
+use Rattle.promise.specs.WithoutATimer.{NoTickIsTaken, EveryTickIsFree, TracesHaveAllTicksFree, ReplaysHaveAllTicksFree, NoOrderOnAnyTick}
+use Rattle.promise.specs.WithoutATimer.{SpelledSaysRowsAlone}
+use Rattle.promise.proofs.RunsFollow.{bridge, runs-follow-the-theory}
+use Rattle.promise.proofs.Replays.{replays-are-traces}
+use Rattle.promise.proofs.NoOrder.{says-overloaded, no-order}
+use Rattle.promise.proofs.Paper.{feasible-means, feasible-is-theorem42}
+
+-- ---- the table
+
+module _ {bytes : List ℕ} {rows : List Row} (says : SaysRowsAlone bytes rows) where
+  -- The timer's s is 0.
+  no-s : tableRead bytes .table .s ≡ 0
+  no-s = ap (λ (content : Content). content .s) (says .alone)
+
+  -- The timer's count is 0 in every length.
+  takes-nothing : (L : ℕ) → timerTakes (tableRead bytes .table .s) (tableRead bytes .table .p) L ≡ 0
+  takes-nothing L = rw no-s (no-timer (tableRead bytes .table .p) .1 L)
+
+  -- The timer takes no tick.
+  none-taken : takenOn (tableRead bytes .table) ≡ noneTaken
+  none-taken = fun-ext (λ t. rw no-s (no-timer (tableRead bytes .table .p) .0 t))
+
+  -- A verdict that is right for the bytes is right for the sum of the rows' demands.
+  right-for-rows : (v : Verdict) → Judged bytes v → RightFor (demandOfRows rows) v
+  right-for-rows v =
+      judged-by-rows-alone bytes (says .period) rows (said-accepted (tableRead bytes .answer) (says .period) (says .accepted)) (says .alone) v .0
+
+pub spelled-as-before : SpelledAsBefore
+spelled-as-before bytes fine rows says =
+    accepted-is-spelled bytes (says .period) fine (says .accepted) .spelled ∙ ap spelledTable (says .alone) ∙ tables.rows-alone-are-spelled rows
+
+-- ---- the verdict
+
+pub feasible-by-rows-alone : FeasibleByRowsAlone
+feasible-by-rows-alone bytes rows says v judged = feasible-means (demandOfRows rows) v (right-for-rows says v judged)
+
+-- A right verdict for a demand says overloaded with a length and its demand exactly when this is the smallest length that fails.
+overloaded-means : (f : ℕ → ℕ) (v : Verdict) → RightFor f v → (L units : ℕ)
+    → (verdictSays v ≡ record { number = 21; first = L; second = units }) ↔ (SmallestFailing f L × (units ≡ f L))
+overloaded-means f v right L units = (λ said. rw (says-overloaded v L units said) at right, from v right)
+  where
+    from : (w : Verdict) → RightFor f w → SmallestFailing f L × (units ≡ f L) → verdictSays w ≡ record { number = 21; first = L; second = units }
+    from verdict.Feasible fits found = absurd (none-where-every-length-fits f L fits (found .0))
+    from (verdict.Overloaded w) right found =
+        let same = one-smallest-failing f (w .length) L (right .0) (found .0) in
+        rw (right .1, same, found .1)
+    from (verdict.Refused r) right found = absurd right
+
+pub overloaded-by-rows-alone : OverloadedByRowsAlone
+overloaded-by-rows-alone bytes rows says v judged = overloaded-means (demandOfRows rows) v (right-for-rows says v judged)
+
+pub feasible-is-the-papers : FeasibleIsThePapers
+feasible-is-the-papers bytes fine rows says v judged =
+    let timed = feasible-is-theorem42 bytes fine (says .period) (says .accepted) v judged in (
+      (λ said L some. omega (arith, timed .0 said L some)),
+      (λ fits. timed .1 (λ L some. omega (arith, fits L some, takes-nothing says L))),
+    )
+
+-- ---- the run
+
+-- A tick leaves the table as it is.
+tick-keeps-table : (run : Run) → ticked run .run .table ≡ run .table
+unfolding ticked
+tick-keeps-table run = by-tests (soundOf run) (ltb (run .clock .0) maxTime) (isTaken run) (eqb (run .pending .count) 0)
+  where
+    by-tests : (sound in-time lost empty : Bool)
+        → cond sound (cond in-time (cond lost (takenTick run) (cond empty (idleTick run) (busyTick run))) (refusedTick run TimeTooLate))
+        (refusedTick run RunNotSound) .run .table ≡ run .table
+    by-tests false in-time lost empty = refl
+    by-tests true false lost empty = refl
+    by-tests true true true empty = refl
+    by-tests true true false true = refl
+    by-tests true true false false = refl
+
+-- After any calls on any bytes, the run has the table that was read.
+same-table : (bytes : List ℕ) (calls : List Call) → runAt bytes calls .table ≡ tableRead bytes .table
+unfolding runAt
+same-table bytes [] = refl
+same-table bytes (Call.release row cost ∷ calls) =
+    each-release (runAt bytes calls) row cost (λ step. step .run .table ≡ tableRead bytes .table) (λ r. same-table bytes calls)
+    (λ t p given. same-table bytes calls)
+same-table bytes (Call.tick ∷ calls) = tick-keeps-table (runAt bytes calls) ∙ same-table bytes calls
+
+module _ {bytes : List ℕ} {rows : List Row} (says : SaysRowsAlone bytes rows) (calls : List Call) where
+  -- After any calls, the s of the run's timer is 0.
+  still-no-s : runAt bytes calls .table .s ≡ 0
+  still-no-s = rw (same-table bytes calls) (no-s says)
+
+  -- After any calls, the run's timer takes no tick.
+  still-none-taken : takenOn (runAt bytes calls .table) ≡ noneTaken
+  still-none-taken = ap takenOn (same-table bytes calls) ∙ none-taken says
+
+pub no-tick-is-taken : NoTickIsTaken
+no-tick-is-taken bytes rows says calls lost = omega (arith, taken-means (runAt bytes calls) .0 lost .2, still-no-s says calls)
+
+pub every-tick-is-free : EveryTickIsFree
+every-tick-is-free bytes fine rows says calls =
+    tick-without-timer (runAt bytes calls) (still-no-s says calls) ∙ rw (bridge bytes fine calls .sound)
+
+pub traces-have-all-ticks-free : TracesHaveAllTicksFree
+traces-have-all-ticks-free bytes fine rows says calls =
+    let es = trace bytes calls in
+    let follows = runs-follow-the-theory bytes fine calls in
+    let free = subst
+    (λ taken. (events : Trace taken (clockOf es) (waitingIn (runAt bytes calls)) (jobsOfTrace es) (ticksOf es) []) × ServesEarliestDue events
+    × NeverIdlesInVain events)
+    (still-none-taken says calls)
+    (follows .events, follows .earliest-due, follows .never-idle) in
+    record { events = free .0; earliest-due = free .1; never-idle = free .2 }
+
+pub replays-have-all-ticks-free : ReplaysHaveAllTicksFree
+replays-have-all-ticks-free table script p fine records whole rows says =
+    let t = replays-are-traces table script p fine records whole in
+    (t, traces-have-all-ticks-free table fine rows says (callsOf (t .records) (t .final)))
+
+-- ---- nobody's order
+
+pub no-order-on-any-tick : NoOrderOnAnyTick
+no-order-on-any-tick bytes fine rows says v judged L demand said who =
+    subst (λ taken. ¬ Serves taken who (namedJobs (tableRead bytes .table) L)) (none-taken says) (no-order bytes fine v judged L demand said who)
+
+-- ---- such tables exist
+
+-- In `00 01` and the spelling of good rows, these rows and their timer end with the bytes.
+rows-end-with-the-bytes : (rows : List Row) → GoodRows rows
+    → ContentEnds (0x00 ∷ 0x01 ∷ spelledRows rows) (length (0x00 ∷ 0x01 ∷ spelledRows rows)) (rowsAlone rows)
+unfolding spelling.groupsOf
+rows-end-with-the-bytes rows good = record {
+  from = 2;
+  timer = record {
+    good-timer = record { some-p = omega arith; most-p = omega arith; s-below-p = omega arith };
+    before = record { here = refl; ends = refl };
+  };
+  its-rows = record {
+    few-rows = good .few-rows;
+    rows-acceptable = λ r m. record { within-limits = limits-of r (good .in-range r m); c-within-d = good .c-within-d r m };
+    before = record { here = rw (drop-length, append-nil); ends = omega arith };
+  };
+}
+
+-- What is said of an accepted table is not said of a refused one.
+not-accepted-and-refused : (period number place : ℕ) → ¬ (values (period ∷ []) ≡ refusedWith number place)
+not-accepted-and-refused period number place e = impossible cc
+
+pub spelled-says-rows-alone : SpelledSaysRowsAlone
+spelled-says-rows-alone rows period good says =
+    let s : List ℕ = 0x00 ∷ 0x01 ∷ spelledRows rows in
+    let read : tableRead s ≡ atEnd s (rowsAlone rows) (length s) = content-then (rows-end-with-the-bytes rows good) in
+    let nothing-after : ltb (length s) (length s) ≡ false = le-ltb (length s) (length s) (omega arith) in
+    record {
+      period = period;
+      accepted = says;
+      alone = by-test (leb (periodOf (rowsAlone rows)) maxPeriod)
+          (λ short. ap (λ (t : TableRead). contentOf (t .table)) read ∙ rw (nothing-after, short) (content-of-table (rowsAlone rows)))
+          (λ long.
+          let refused : tableSays (tableRead s .answer) ≡ refusedWith 5 (length s) =
+          ap (λ (t : TableRead). tableSays (t .answer)) read ∙ rw (nothing-after, long) in
+          absurd (not-accepted-and-refused period 5 (length s) (sym says ∙ refused)));
+    }
