@@ -4,6 +4,7 @@
 
 mod cases;
 mod clock;
+mod events;
 mod library;
 mod plain;
 
@@ -60,6 +61,9 @@ fn main() {
         Ok(said) => said.parse().ok().filter(|&n| n > 0).expect("JYRMEKKO_ROUNDS is a number above 0"),
         Err(_) => ROUNDS,
     };
+    if words.first().is_some_and(|word| word == "events") {
+        return events::measure(&words[1..], rounds);
+    }
     println!("| | case | size | proved, ms | plain, ms | ratio | at most | |");
     println!("|---|---|---|--:|--:|--:|--:|---|");
     let cases = cases::all();

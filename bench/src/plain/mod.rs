@@ -1,6 +1,7 @@
 //! The plain programs: the two calls, and a run, as one would write them in Rust without a proof in mind. They keep
 //! every rule and every refusal, so that they do the same work. They take no short cut that the rules don't name.
 
+mod events;
 mod jobs;
 mod numbers;
 mod replay;
@@ -35,6 +36,19 @@ pub fn replay(table: &[u8], script: &[u8], log: &mut [u8], answer: &mut [u8]) ->
         Ok((length, late)) => say(answer, 23, length as u64, late),
         Err(Refused(number, place)) => {
             log.fill(0);
+            say(answer, number, place as u64, 0)
+        }
+    }
+}
+
+/// Replays by events. The log is written into a vector, and it may be so many bytes long.
+pub fn replay_by_events(table: &[u8], script: &[u8], log: &mut Vec<u8>, room: usize, answer: &mut [u8]) -> u32 {
+    match events::replay(table, script, log, room) {
+        Ok(0) => say(answer, 22, log.len() as u64, 0),
+        Ok(late) => say(answer, 23, log.len() as u64, late),
+        Err(Refused(number, place)) => {
+            log.clear();
+            log.resize(room, 0);
             say(answer, number, place as u64, 0)
         }
     }

@@ -9,7 +9,7 @@ use Rattle.columns.specs.declared.WorkAnswer.the-variants as work
 use Rattle.columns.specs.Answers.{putInSays, workSays, ColumnsNeverZero, ColumnsSaidApart}
 
 put-never-zero : NeverNumberedZero putInSays
-put-never-zero (put.Count n) = tt
+put-never-zero (put.Stand s) = tt
 put-never-zero (put.Refused r) = never-zero r
 
 work-never-zero : NeverNumberedZero workSays
@@ -20,9 +20,12 @@ pub columns-never-zero : ColumnsNeverZero
 columns-never-zero = (put-never-zero, work-never-zero)
 
 put-apart : SaysApart putInSays
-put-apart (put.Count m) (put.Count n) e = let same : m ≡ n = cc in ap put.Count same
-put-apart (put.Count m) (put.Refused r) e = impossible cc
-put-apart (put.Refused q) (put.Count n) e = impossible cc
+put-apart (put.Stand s) (put.Stand t) e =
+    let first : s .first ≡ t .first = cc in
+    let count : s .count ≡ t .count = cc in
+    rw (first, count)
+put-apart (put.Stand s) (put.Refused r) e = impossible cc
+put-apart (put.Refused q) (put.Stand t) e = impossible cc
 put-apart (put.Refused q) (put.Refused r) e = ap put.Refused (plain-refusals-apart q r e)
 
 -- Two finished jobs are equal where their five numbers are.

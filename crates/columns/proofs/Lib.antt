@@ -1,7 +1,9 @@
 pub mod Order
-pub mod ClosingUp
+pub mod Moving
+pub mod Finding
+pub mod PutContract
 pub mod Strides
-pub mod Holding
-pub mod Working
 pub mod WorkContract
 pub mod Answers
+pub mod Ordered
+pub mod Holding

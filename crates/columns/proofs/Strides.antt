@@ -44,7 +44,7 @@ still-first js at =
     first-alike (set js at j) js (map-set-same (λ (i : Job). i .due .0) js at j noJob refl) (map-set-same (λ (i : Job). i .serial .0) js at j noJob refl)
 
 -- Taking out the entry at a place gives the same list, whatever that entry was set to before.
-without-set : {A : Type 0} (l : List A) (at : ℕ) (a : A) → without (set l at a) at ≡ without l at
+pub without-set : {A : Type 0} (l : List A) (at : ℕ) (a : A) → without (set l at a) at ≡ without l at
 without-set [] at a = refl
 without-set (b ∷ l) zero a = refl
 without-set (b ∷ l) (suc at) a = ap (_∷_ b) (without-set l at a)

@@ -6,9 +6,9 @@ use Rattle.columns.specs.declared.PutAnswer.the-variants as put
 use Rattle.columns.specs.declared.WorkAnswer.{WorkAnswer}
 use Rattle.columns.specs.declared.WorkAnswer.the-variants as work
 
--- What the answer to a job put in says: how many jobs are pending now, or the refusal, which names no place. (1.17, 6.8, 10.2)
+-- What the answer to a job put in says: the entry of the first job and how many jobs are pending now, or the refusal, which names no place. (1.17, 6.8, 10.2)
 abbrev pub putInSays : PutAnswer → Says
-putInSays (put.Count n) = values (n ∷ [])
+putInSays (put.Stand s) = values (s .first ∷ s .count ∷ [])
 putInSays (put.Refused r) = numbered (refusedSays (withoutPlace r))
 
 -- What the answer of `work` says: serial, row number, release, due time and finish of the job that finished, or no value where none did. (1.17, 6.13)

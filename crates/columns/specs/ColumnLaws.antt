@@ -1,47 +1,45 @@
 -- The laws of columns: what they hold, a job put in, and ticks given to the job that goes first. (docs/RULES.md, section 6.)
-use Prim.Native.Nat.{ℕ, suc, _+_, _-_, _≤_, _<_, min}
+use Prim.Native.Nat.{ℕ, suc, _+_, _≤_, _<_}
 use mathlib.Core.Path.{_≡_}
 use mathlib.Core.Bool.{true, false}
-use mathlib.Core.List.{List, [], _∷_, _++_}
+use mathlib.Core.List.{List, []}
 use lib.ListN.{length, set}
 use Rattle.kinds.specs.declared.Finish.{Finish}
 use Rattle.jobs.specs.declared.Job.{Job}
 use Rattle.jobs.specs.Places.{maxPlaces, without}
 use Rattle.jobs.specs.Choice.{firstPlace}
 use Rattle.jobs.specs.Units.{lastUnit}
-use Rattle.columns.specs.declared.Worked.{Worked}
 use Rattle.columns.specs.declared.WorkAnswer.the-variants as answer
-use Rattle.columns.specs.Columns.{Columns, AllColumnPlaces, ColumnsHold, holding, putIn}
-use Rattle.columns.specs.Ticks.{nobodyAt, finishedAt, firstOf, afterTick, workedFor, unitsToGo, workedBy, Works}
-use Rattle.columns.specs.Outcomes.{HeldJobs, NobodyYet, OneFinished}
+use Rattle.columns.specs.Columns.{Columns, AllEntries, usedIn, ColumnsHold, putIn}
+use Rattle.columns.specs.Ticks.{nobodyAt, finishedAt, firstOf, afterTick, workedFor, unitsToGo, workedBy}
+use Rattle.columns.specs.Ordered.{inPlace}
+use Rattle.columns.specs.Outcomes.{HeldJobs, WorksAs, NobodyYet, OneFinished}
 
 -- ---- what columns hold (proofs/Holding.antt)
 
 -- Columns hold as many jobs as their count says, and never more than there are places. (6.1)
 abbrev pub HeldAreCounted : Type 0
-HeldAreCounted = (c : Columns) (js : List Job) → ColumnsHold c js → length js ≡ min (c .count) maxPlaces
+HeldAreCounted = (c : Columns) (js : List Job) → ColumnsHold c js → length js ≡ usedIn c
 
 -- Columns with a count of 0 hold no job. (6.3)
 abbrev pub NothingIsHeld : Type 0
-NothingIsHeld = (c : Columns) → AllColumnPlaces c → c .count ≡ 0 → ColumnsHold c []
+NothingIsHeld = (c : Columns) → AllEntries c → c .count ≡ 0 → ColumnsHold c []
 
 -- For any numbers in the columns there is a list of jobs that they hold. So no law about the jobs that columns hold is empty.
 abbrev pub AlwaysHeld : Type 0
-AlwaysHeld = (c : Columns) → AllColumnPlaces c → HeldJobs c
+AlwaysHeld = (c : Columns) → AllEntries c → HeldJobs c
 
--- Columns with at most as many jobs as places laid into their first entries hold these jobs.
-abbrev pub HoldingHolds : Type 0
-HoldingHolds = (c : Columns) (js : List Job) → AllColumnPlaces c → length js ≤ maxPlaces → ColumnsHold (holding js c) js
-
--- ---- a job put in (proofs/Holding.antt)
-
--- Where a place is unused, a job that is put in comes after all others. (6.7)
-abbrev pub PutInAddsOne : Type 0
-PutInAddsOne = (c : Columns) (js : List Job) (j : Job) → ColumnsHold c js → c .count < maxPlaces → ColumnsHold (putIn c j) (js ++ (j ∷ []))
+-- A job that is put into columns with an unused place goes in behind those that are chosen before it. (6.7, 6.11)
+abbrev pub PutInHolds : Type 0
+PutInHolds = (c : Columns) (js : List Job) (j : Job) → ColumnsHold c js → c .count < maxPlaces → ColumnsHold (putIn c j) (inPlace j js)
 
 -- Where all places are in use, a job that is put in changes nothing. (10.7)
 abbrev pub FullStays : Type 0
 FullStays = (c : Columns) (j : Job) → maxPlaces ≤ c .count → putIn c j ≡ c
+
+-- After `work` the columns hold what the ticks leave of the jobs that they held, and the answer is that of these ticks. (6.10 to 6.13)
+abbrev pub WorkHolds : Type 0
+WorkHolds = (c : Columns) (js : List Job) (clock until : ℕ) → ColumnsHold c js → WorksAs c js clock until
 
 -- ---- ticks (proofs/Strides.antt)
 
@@ -91,15 +89,3 @@ NobodyMeans = (n clock : ℕ) (js : List Job) → workedFor n clock js .answer �
 abbrev pub FinishedMeans : Type 0
 FinishedMeans = (n clock : ℕ) (js : List Job) (f : Finish) → workedFor n clock js .answer ≡ answer.Finished f
     → OneFinished n clock js f (workedFor n clock js)
-
--- ---- the contract of `work` (proofs/WorkContract.antt)
-
--- After `work` the columns hold the jobs that the ticks leave pending of those that the columns held before.
-abbrev pub WorkHolds : Type 0
-WorkHolds = (c after : Columns) (clock until : ℕ) (r : Worked) (js : List Job) → Works c clock until after r → ColumnsHold c js
-    → ColumnsHold after (workedFor (until - clock) clock js .jobs)
-
--- The contract of `work` allows one outcome only. It settles the answer and every entry of every list.
-abbrev pub OneOutcome : Type 0
-OneOutcome = (c : Columns) → AllColumnPlaces c → (clock until : ℕ) (after others : Columns) (r s : Worked)
-    → Works c clock until after r → Works c clock until others s → (after ≡ others) × (r ≡ s)

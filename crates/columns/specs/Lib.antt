@@ -1,6 +1,6 @@
 pub mod Columns
 pub mod Ticks
-pub mod FirstAndClosing
+pub mod Ordered
 pub mod Answers
 pub mod Outcomes
 pub mod ColumnLaws

@@ -1,10 +1,10 @@
--- Ticks on pending jobs until one of them finishes, and what such ticks make of columns. (docs/RULES.md, section 6.)
+-- Ticks on pending jobs until one of them finishes, and what such ticks make of columns, in which the first job goes first. (docs/RULES.md, section 6.)
 use Prim.Native.Nat.{ℕ, zero, suc, _+_, _-_}
-use mathlib.Core.Path.{_≡_}
-use mathlib.Core.Bool.{cond}
-use mathlib.Core.List.{List}
-use lib.Dec.{eqb, leb}
-use lib.ListN.{length, getD}
+use mathlib.Core.Bool.{cond, _||_}
+use mathlib.Core.List.{List, [], _∷_}
+use lib.Dec.{eqb, leb, ltb}
+use lib.ListN.{length, getD, set}
+use Rattle.kinds.specs.declared.Finish.{Finish}
 use Rattle.jobs.specs.declared.Job.{Job}
 use Rattle.jobs.specs.Places.{noJob}
 use Rattle.jobs.specs.Choice.{firstPlace}
@@ -14,7 +14,7 @@ use Rattle.jobs.specs.JobChanges.{unitAt}
 use Rattle.columns.specs.declared.Worked.{Worked}
 use Rattle.columns.specs.declared.WorkAnswer.{WorkAnswer}
 use Rattle.columns.specs.declared.WorkAnswer.the-variants as answer
-use Rattle.columns.specs.Columns.{Columns, ColumnsHold, holding}
+use Rattle.columns.specs.Columns.{Columns, columns, usedIn, startIn, settled}
 
 -- What some ticks have led to: the jobs that are pending, the clock, and the job that finished, if one did.
 pub record Reached : Type 0 where
@@ -53,16 +53,50 @@ unitsToGo left = cond (leb left 1) 1 left
 abbrev pub workedBy : (n : ℕ) → Job → Job
 workedBy n j = record { serial = j .serial; row = j .row; release = j .release; due = j .due; cost = j .cost; left = j .left - n }
 
--- What `work` answers for what the ticks have led to.
-abbrev pub workedOf : Reached → Worked
-workedOf r = record { clock = record { 0 = r .clock }; count = length (r .jobs); answer = r .answer }
+-- ---- the first job gets the ticks
 
--- What `work` does to columns that hold the jobs js. The answer is that of the ticks from `clock` up to `until`. Afterwards the columns hold the jobs that
--- these ticks leave pending, and every later entry stays as it was. (6.10 to 6.13)
-pub record WorksOn (js : List Job) (c : Columns) (clock until : ℕ) (after : Columns) (r : Worked) : Type 0 where
-  pub says : r ≡ workedOf (workedFor (until - clock) clock js)
-  pub holds : after ≡ holding (workedFor (until - clock) clock js .jobs) c
+-- n ticks on jobs that stand in the order in which they are chosen: the first job gets all of them until it finishes. (6.10 to 6.13)
+abbrev pub workedFirst : (n clock : ℕ) → List Job → Reached
+workedFirst n clock [] = nobodyAt clock []
+workedFirst n clock (j ∷ js) =
+    cond (eqb n 0) (nobodyAt clock (j ∷ js))
+    (cond (ltb n (unitsToGo (j .left))) (nobodyAt (clock + n) (workedBy n j ∷ js)) (finishedAt (clock + unitsToGo (j .left)) j js))
 
--- The contract of `work`: for whatever jobs the columns hold, it does what the ticks from `clock` up to `until` do to these jobs. (6.10 to 6.13)
-abbrev pub Works : (c : Columns) (clock until : ℕ) (after : Columns) → Worked → Type 0
-Works c clock until after r = (js : List Job) → ColumnsHold c js → WorksOn js c clock until after r
+-- ---- on columns
+
+-- The units that the first job gets before it finishes. (6.13)
+abbrev pub unitsOfFirst : Columns → ℕ
+unitsOfFirst c = unitsToGo (getD (c .left) (startIn c) 0)
+
+-- The record of the first job, with a finish. (6.13)
+abbrev pub firstFinish : Columns → (finish : ℕ) → Finish
+firstFinish c finish = record {
+  serial = record { 0 = getD (c .serials) (startIn c) 0 };
+  row = record { 0 = getD (c .rows) (startIn c) 0 };
+  release = record { 0 = getD (c .releases) (startIn c) 0 };
+  due = record { 0 = getD (c .dues) (startIn c) 0 };
+  finish = record { 0 = finish };
+}
+
+-- The columns after ticks from `clock` up to `until`. With nothing pending or no tick to give nothing changes. Otherwise the first job has fewer units left, or
+-- leaves at the front. (6.10 to 6.13)
+unfoldable pub workOn : Columns → (clock until : ℕ) → Columns
+workOn c clock until =
+    cond (eqb (usedIn c) 0 || leb until clock) (settled c)
+    (cond (ltb (until - clock) (unitsOfFirst c))
+    (columns (c .serials) (c .rows) (c .releases) (c .dues) (set (c .left) (startIn c) (getD (c .left) (startIn c) 0 - (until - clock))) (startIn c) (usedIn c))
+    (columns (c .serials) (c .rows) (c .releases) (c .dues) (c .left) (startIn c + 1) (usedIn c - 1)))
+
+-- The clock, the place of the jobs and the job that finished, if one did, after ticks from `clock` up to `until`. (6.10 to 6.13)
+unfoldable pub workAnswer : Columns → (clock until : ℕ) → Worked
+workAnswer c clock until =
+    cond (eqb (usedIn c) 0 || leb until clock)
+    (record { clock = record { 0 = clock }; first = startIn c; count = usedIn c; answer = answer.Nobody })
+    (cond (ltb (until - clock) (unitsOfFirst c))
+    (record { clock = record { 0 = until }; first = startIn c; count = usedIn c; answer = answer.Nobody })
+    (record {
+      clock = record { 0 = clock + unitsOfFirst c };
+      first = startIn c + 1;
+      count = usedIn c - 1;
+      answer = answer.Finished (firstFinish c (clock + unitsOfFirst c));
+    }))

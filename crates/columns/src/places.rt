@@ -1,10 +1,11 @@
-// The places of pending jobs in arrays: how many are in use, which job is chosen, and how a job is taken out. (docs/RULES.md, 6.10 to 6.13.)
+// The places of pending jobs in arrays: where they stand, where a job that is put in goes, and how room is made for it. (docs/RULES.md, 6.7 and 6.10 to 6.13.)
+use crate::ROOM;
 use jobs::Pending;
 ghost use mathlib.Core.Path.{_≡_};
-ghost use Prim.Native.Nat.{_≤_, _<_, min};
-ghost use lib.ListN.{take};
+ghost use Prim.Native.Nat.{_+_, _-_, _≤_, _<_, min};
+ghost use lib.ListN.{take, drop, length};
 ghost use Rattle.jobs.specs.Places.{maxPlaces};
-ghost use Rattle.columns.specs.FirstAndClosing.{dueBefore, IsFirstOf, ClosesUp};
+ghost use Rattle.columns.specs.Columns.{maxEntries, dueBefore, behind, movedDown, openedUp};
 ghost use Rattle.columns.specs.Ticks.{unitsToGo};
 
 // How many places are in use. A count above the number of places means all of them. (6.1)
@@ -16,6 +17,18 @@ pub(crate) fn in_use(count: usize) -> usize
     } else {
         Pending::PLACES
     }
+}
+
+// The entry at which the first of so many jobs stands. Where they would reach past the end, they are the last entries.
+pub(crate) fn start_of(first: usize, count: usize) -> usize
+    requires { ⌜ count ≤ maxPlaces ⌝ }
+    ensures { λ r. ⌜ r ≡ min first (maxEntries - count) ⌝ }
+{
+    let last = ROOM - count;
+    if first < last {
+        return first;
+    }
+    last
 }
 
 // The units that a job gets before it finishes: its units left, and at least one. (6.13)
@@ -41,40 +54,52 @@ fn goes_before(due: u64, serial: u64, other: u64, its: u64) -> bool
     serial < its
 }
 
-// The place of the job that is chosen. (6.11)
-pub(crate) fn first_due(
-    dues: &[u64; Pending::PLACES],
-    serials: &[u64; Pending::PLACES],
+// The entry at which a job with this due time and serial goes in, among the jobs that stand from `first` on: the jobs behind it are all chosen after it. It is
+// looked for from the last job on, since a new job is mostly due after the others. (6.11)
+pub(crate) fn place_for(
+    dues: &[u64; ROOM],
+    serials: &[u64; ROOM],
+    first: usize,
     count: usize,
+    due: u64,
+    serial: u64,
 ) -> usize
-    requires { ⌜ (1 ≤ count) × (count ≤ maxPlaces) ⌝ }
-    ensures { λ r. ⌜ IsFirstOf (take count (now (dues .entry))) (take count (now (serials .entry))) count r ⌝ }
+    requires { ⌜ first + count ≤ maxEntries ⌝ }
+    ensures { λ r. ⌜ (r ≤ first + count) × (length (now (dues .entry)) ≡ maxEntries → length (now (serials .entry)) ≡ maxEntries
+        → r ≡ first + (count - behind due serial (take count (drop first (now (dues .entry)))) (take count (drop first (now (serials .entry)))))) ⌝ }
 {
-    let mut at: usize = 0;
-    let mut due = dues[0];
-    let mut serial = serials[0];
-    let mut i: usize = 1;
-    while i < count {
-        let other = dues[i];
-        let its = serials[i];
-        if goes_before(other, its, due, serial) {
-            at = i;
-            due = other;
-            serial = its;
+    let mut at = first + count;
+    while first < at {
+        let last = at - 1;
+        if !goes_before(due, serial, dues[last], serials[last]) {
+            return at;
         }
-        i += 1;
+        at = last;
     }
     at
 }
 
-// Takes out the entry at a place. The later entries, up to the one at `last`, move down by one place. (6.13)
-pub(crate) fn close_up(values: &mut [u64; Pending::PLACES], at: usize, last: usize)
-    requires { ⌜ (at ≤ last) × (last < maxPlaces) ⌝ }
-    ensures { λ r. ⌜ ClosesUp at last (now (values .entry)) (now (values .exit)) ⌝ }
+// Moves so many entries from `first` on to the front. The others stay as they were.
+pub(crate) fn move_down(values: &mut [u64; ROOM], first: usize, count: usize)
+    requires { ⌜ first + count ≤ maxEntries ⌝ }
+    ensures { λ r. ⌜ (length (now (values .entry)) ≡ maxEntries → now (values .exit) ≡ movedDown first count (now (values .entry))) ⌝ }
 {
-    let mut i = at;
-    while i < last {
-        values[i] = values[i + 1];
+    let mut i: usize = 0;
+    while i < count {
+        values[i] = values[first + i];
         i += 1;
     }
+}
+
+// Puts a value in at a place. The entries from there on move up by one place, up to `end`.
+pub(crate) fn open_up(values: &mut [u64; ROOM], at: usize, end: usize, value: u64)
+    requires { ⌜ (at ≤ end) × (end < maxEntries) ⌝ }
+    ensures { λ r. ⌜ (length (now (values .entry)) ≡ maxEntries → now (values .exit) ≡ openedUp at end value (now (values .entry))) ⌝ }
+{
+    let mut i = end;
+    while at < i {
+        values[i] = values[i - 1];
+        i -= 1;
+    }
+    values[at] = value;
 }

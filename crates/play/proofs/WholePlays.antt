@@ -71,7 +71,7 @@ way-to-the-end t s p table script e =
     (end .kept, end .nothing-pending)
 
 -- An element of a list stands at some place of it.
-place-of : {A : Type 0} {a : A} {l : List A} (d : A) → List·Memᴰ a l → (k : ℕ) × (k < length l) × (a ≡ getD l k d)
+pub place-of : {A : Type 0} {a : A} {l : List A} (d : A) → List·Memᴰ a l → (k : ℕ) × (k < length l) × (a ≡ getD l k d)
 place-of d (List·Memᴰ·head e) = (0, omega arith, e)
 place-of d (List·Memᴰ·tail m) = let rest = place-of d m in (suc (rest .0), suc-le-suc (rest .1), rest .2)
 

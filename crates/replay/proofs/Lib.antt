@@ -1,6 +1,7 @@
 pub mod Writing
 pub mod Logging
 pub mod FreeTicks
+pub mod Working
 pub mod Strides
 pub mod Ticking
 pub mod OneRecord

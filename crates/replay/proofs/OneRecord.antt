@@ -1,7 +1,8 @@
 -- A play that is held in arrays comes to a record's script time, and the record's job is released there. (docs/RULES.md, sections 6.6 to 6.9 and 8.1 to 8.7.)
 use Prim.Native.Nat.{ℕ, zero, suc, _+_, _-_, _≤_, _<_}
 use mathlib.Core.Path.{_≡_, sym, ap, _∙_}
-use mathlib.Core.List.{List, [], _∷_, _++_, append-nil}
+use mathlib.Core.Logic.{_≢_}
+use mathlib.Core.List.{List, [], _∷_, _++_, append-nil, List·Memᴰ}
 use native.Mathlib.Nat.{add-zero}
 use native.Mathlib.Omega.{arith}
 use lib.Dec.{eqb}
@@ -12,12 +13,14 @@ use Rattle.kinds.specs.declared.Tick.{Tick}
 use Rattle.due.specs.declared.Due.the-variants as due
 use Rattle.due.specs.Kept.{dueOf}
 use Rattle.jobs.specs.declared.Job.{Job}
-use Rattle.jobs.specs.Places.{jobsOf}
+use Rattle.jobs.specs.Places.{noJob, jobsOf}
 use Rattle.jobs.specs.Late.{lateCount}
 use Rattle.jobs.specs.JobChanges.{WellFormed}
 use Rattle.jobs.proofs.Changes.{put-adds-one}
 use Rattle.columns.specs.Columns.{Columns, putIn}
-use Rattle.columns.proofs.Holding as columns
+use Rattle.columns.specs.Ordered.{inPlace}
+use Rattle.columns.proofs.Holding.{put-in-holds}
+use Rattle.columns.proofs.Ordered.{put-keeps-order, put-keeps-jobs, same-are-among}
 use Rattle.run.specs.declared.Released.the-variants as release
 use Rattle.run.specs.declared.ReleaseStep.{ReleaseStep}
 use Rattle.run.specs.Runs.{rowAt, keptOf}
@@ -28,6 +31,7 @@ use Rattle.run.proofs.Release.{Passed, due-settles}
 use Rattle.run.proofs.Ticking.{Good, facts, tick-taken, tick-idle, idle-keeps, tick-keeps-good}
 use Rattle.replay.specs.Arrays.{TickArrays, tickArrays, ArraysHoldRun, HasTimer, LeadsTo}
 use Rattle.play.proofs.SingleTicks.{TicksFrom, tick-clock, ticks-keep}
+use Rattle.play.proofs.WholePlays.{place-of}
 use Rattle.play.proofs.OnItsWay.{on-its-way-ticked, release-adds-one, releasedOn, on-its-way-released}
 
 -- ---- ticks until a time
@@ -113,6 +117,14 @@ module _ {s : SoFar} {log₀ : List ℕ} {h : TickArrays} (w : ArraysHoldRun s l
   accepted-so : released (s .run) row cost .answer ≡ release.Accepted (record { serial = s .run .next; due = t })
   accepted-so = ap (λ (x : ReleaseStep). x .answer) release-accepted
 
+  -- The new job's serial is above that of every pending job.
+  new-serial : (i : Job) → List·Memᴰ i (w .jobs-held .queue) → i .serial .0 ≢ s .run .next .0
+  new-serial i m e =
+      let js = jobsOf (s .run .pending) in
+      let there = place-of noJob (same-are-among (w .jobs-held .queue) js (w .jobs-held .same) i m) in
+      let sound = facts (s .run) (w .on-its-way .good) .jobs (there .0) (there .1) in
+      omega (arith, e, ap (λ (k : Job). k .serial .0) (there .2), sound .serial-given)
+
   -- After the job was put into the arrays, they hold the play with the job released.
   pub stands-released : {after : Columns} → after ≡ putIn (h .jobs) (newJob (s .run) row cost t) → after .count ≡ h .jobs .count + 1
       → ArraysHoldRun (releasedOn s row cost) log₀ (tickArrays after (h .log) (h .clock) (h .logged))
@@ -120,6 +132,7 @@ module _ {s : SoFar} {log₀ : List ℕ} {h : TickArrays} (w : ArraysHoldRun s l
       let good = w .on-its-way .good in
       let js = jobsOf (s .run .pending) in
       let j : Job = newJob (s .run) row cost t in
+      let queue = w .jobs-held .queue in
       let formed : WellFormed (s .run .pending) = record { all-places = good .1 .all-places; in-places = facts (s .run) good .few-pending } in
       let more : jobsOf (released (s .run) row cost .run .pending) ≡ js ++ (j ∷ []) =
       rw release-accepted (put-adds-one (s .run .pending) j formed (p .room)) in
@@ -127,6 +140,11 @@ module _ {s : SoFar} {log₀ : List ℕ} {h : TickArrays} (w : ArraysHoldRun s l
         on-its-way = on-its-way-released s row cost _ accepted-so (w .on-its-way);
         counts = omega (arith, release-adds-one (s .run) row cost _ accepted-so, w .counts);
         clocks = ap (λ (x : ReleaseStep). x .run .clock .0) release-accepted ∙ w .clocks;
-        jobs-held = rw (more, put) (columns.put-in-adds-one (h .jobs) js j (w .jobs-held) (omega (arith, p .room, w .counts)));
+        jobs-held = rw (more, put) (record {
+          queue = inPlace j queue;
+          held = put-in-holds (h .jobs) queue j (w .jobs-held .held) (omega (arith, p .room, w .counts));
+          in-order = put-keeps-order j queue (w .jobs-held .in-order) new-serial;
+          same = put-keeps-jobs j queue js (w .jobs-held .same);
+        });
         logs = w .logs;
       }

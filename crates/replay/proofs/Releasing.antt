@@ -18,7 +18,8 @@ use Rattle.jobs.specs.declared.Job.{Job}
 use Rattle.jobs.specs.Places.{maxPlaces}
 use Rattle.columns.specs.declared.PutAnswer.{PutAnswer}
 use Rattle.columns.specs.declared.PutAnswer.the-variants as put
-use Rattle.columns.specs.Columns.{putIn, answerBeside, countAfter}
+use Rattle.columns.specs.declared.Span.{Span}
+use Rattle.columns.specs.Columns.{Columns, AllEntries, withRoom, putIn, putAnswer, spanAfter}
 use Rattle.rings.specs.Rings.{dueIn, ringsAfter}
 use Rattle.rings.proofs.Holding.{due-is-the-rows, holds-on}
 use Rattle.run.specs.declared.Run.{Run}
@@ -37,11 +38,15 @@ use Rattle.replay.specs.declared.RecordStep.the-variants as step
 use Rattle.replay.specs.Arrays.{TickArrays, ArraysHoldRun, LeadsTo, Lists, columnsIn, ringsIn, tickArraysIn, ArraysHoldPlay, MayRelease, SteppedTo}
 use Rattle.replay.proofs.OneRecord.{heldAt, arrived-keeps, stands-arrived, release-accepted, stands-released}
 
+-- Where a place is unused, the answer to a job put in says where the jobs stand.
+stand-so : (c : Columns) → c .count < maxPlaces → putAnswer c ≡ put.Stand (record { first = withRoom c .first; count = c .count + 1 })
+stand-so c room = rw (lt-ltb (c .count) maxPlaces room)
+
 -- Where a place is unused, putting in a job is never refused.
-pub not-full : {A : Type 0} (count : ℕ) → count < maxPlaces → {answer : PutAnswer} → answer ≡ answerBeside count → {refusal : Refusal}
+pub not-full : {A : Type 0} (c : Columns) → c .count < maxPlaces → {answer : PutAnswer} → answer ≡ putAnswer c → {refusal : Refusal}
     → answer ≡ put.Refused refusal → A
-not-full count room {answer} says r =
-    let done : answer ≡ put.Count (count + 1) = says ∙ rw (lt-ltb count maxPlaces room) in
+not-full c room {answer} says r =
+    let done : answer ≡ put.Stand (record { first = withRoom c .first; count = c .count + 1 }) = says ∙ stand-so c room in
     impossible cc
 
 module _ {p : Progress} {log₀ : List ℕ} {l : Lists} {g : Going} (w : ArraysHoldPlay p log₀ l g) {ts tp : ℕ} {ready : Ready} {row : Row}
@@ -111,14 +116,17 @@ module _ {p : Progress} {log₀ : List ℕ} {l : Lists} {g : Going} (w : ArraysH
           sym (ap₂ (λ (s : Serial). λ (t : Tick).
           record { serial = s; row = ready .row; release = t; due = u; cost = ready .cost; left = ready .cost }) serial clock)
 
-      module _ (after : Lists) {answer : PutAnswer} (says : answer ≡ answerBeside (h .jobs .count))
-          (holds : columnsIn after (countAfter answer (h .jobs .count)) ≡ putIn (h .jobs) job) where
-        module _ {more : ℕ} (counts : answer ≡ put.Count more) (kept : ringsIn after ≡ ringsAfter d (ringsIn l) (ready .row .0) row)
+      module _ (after : Lists) {answer : PutAnswer} (says : answer ≡ putAnswer (h .jobs))
+          (holds : AllEntries (h .jobs)
+          → columnsIn after (spanAfter answer (h .jobs .first) (h .jobs .count) .first) (spanAfter answer (h .jobs .first) (h .jobs .count) .count)
+          ≡ putIn (h .jobs) job) where
+        module _ {span : Span} (counts : answer ≡ put.Stand span) (kept : ringsIn after ≡ ringsAfter d (ringsIn l) (ready .row .0) row)
             (logs : after .log ≡ h .log) where
           -- `going` is how far the play has come after the release.
           abbrev going : Going
           going = record {
-            count = more;
+            first = span .first;
+            count = span .count;
             clock = ready .time;
             next = record { 0 = g .next .0 + 1 };
             length = h .logged .length;
@@ -126,11 +134,14 @@ module _ {p : Progress} {log₀ : List ℕ} {l : Lists} {g : Going} (w : ArraysH
             full = h .logged .full;
           }
 
-          one-more : more ≡ h .jobs .count + 1
-          one-more = let so : answer ≡ put.Count (h .jobs .count + 1) = says ∙ rw (lt-ltb (h .jobs .count) maxPlaces room) in cc
+          one-more : span .count ≡ h .jobs .count + 1
+          one-more =
+              let so : answer ≡ put.Stand (record { first = withRoom (h .jobs) .first; count = h .jobs .count + 1 }) = says ∙ stand-so (h .jobs) room in
+              let same : span ≡ record { first = withRoom (h .jobs) .first; count = h .jobs .count + 1 } = cc in
+              ap (λ (x : Span). x .count) same
 
-          put-so : columnsIn after more ≡ putIn (h .jobs) (newJob run (ready .row .0) (ready .cost) u)
-          put-so = (rw counts at holds) ∙ ap (putIn (h .jobs)) job-so
+          put-so : columnsIn after (span .first) (span .count) ≡ putIn (h .jobs) (newJob run (ready .row .0) (ready .cost) u)
+          put-so = (rw counts at (holds (stands-there .jobs-held .held .all-entries))) ∙ ap (putIn (h .jobs)) job-so
 
           accepted : released run (ready .row .0) (ready .cost) ≡ record {
             run = withJob run (ready .row .0) (ready .cost) u;

@@ -3,7 +3,7 @@
 use Prim.Native.Nat.{ℕ, zero, suc, _+_, _-_, _≤_, _<_}
 use mathlib.Core.Path.{_≡_, refl, sym, ap, ap₂, _∙_}
 use mathlib.Core.Bool.{true, false}
-use mathlib.Core.List.{List}
+use mathlib.Core.List.{List, []}
 use native.Mathlib.Omega.{arith}
 use lib.ListN.{length, take, getD, replicate, length-map, length-take, length-replicate}
 use borrow.Author.Tests.{eq-eqb, ne-eqb}
@@ -21,7 +21,7 @@ use Rattle.table.specs.declared.CostLimit.{CostLimit}
 use Rattle.table.specs.Costs.{csOf, costLimits, limitOf, costAnswer}
 use Rattle.table.proofs.CostLimits.{limit-in-use, cost-allowed, limits-are-the-first}
 use Rattle.table.proofs.SpelledTables.{in-range-means}
-use Rattle.jobs.specs.Places.{maxPlaces}
+use Rattle.columns.specs.Columns.{maxEntries}
 use Rattle.columns.proofs.Holding.{nothing-is-held}
 use Rattle.rings.specs.Rings.{maxTimes}
 use Rattle.rings.proofs.Holding.{rings-empty}
@@ -98,18 +98,18 @@ on-its-table t = record {
 
 -- How far a play has come before its first record.
 abbrev pub notBegun : Going
-notBegun = record { count = 0; clock = record { 0 = 0 }; next = record { 0 = 0 }; length = 0; late = 0; full = false }
+notBegun = record { first = 0; count = 0; clock = record { 0 = 0 }; next = record { 0 = 0 }; length = 0; late = 0; full = false }
 
 -- The arrays at the start of a play: all numbers are 0.
 abbrev pub zeros : (log : List ℕ) → Lists
 zeros log =
-    let places = replicate {A = ℕ} maxPlaces 0 in
+    let places = replicate {A = ℕ} maxEntries 0 in
     lists places places places places places (replicate maxTimes 0) (replicate maxRows 0) (replicate maxRows 0) log
 
 pub plays-first : (s : List ℕ) (t : Table) (log : List ℕ) → Good (freshRun t) → Plays s t log (zeros log) notBegun 0
 plays-first s t log good =
-    let all = length-replicate {A = ℕ} maxPlaces 0 in
-    let none = columnsIn (zeros log) 0 in
+    let all = length-replicate {A = ℕ} maxEntries 0 in
+    let none = columnsIn (zeros log) 0 0 in
     record {
       progress = begun (freshRun t);
       left = length s;
@@ -122,7 +122,12 @@ plays-first s t log good =
           on-its-way = on-its-way-first (freshRun t) good refl refl;
           counts = refl;
           clocks = refl;
-          jobs-held = nothing-is-held none (record { of-serials = all; of-rows = all; of-releases = all; of-dues = all; of-left = all }) refl;
+          jobs-held = record {
+            queue = [];
+            held = nothing-is-held none (record { of-serials = all; of-rows = all; of-releases = all; of-dues = all; of-left = all }) refl;
+            in-order = tt;
+            same = refl;
+          };
           logs = logs-none log;
         };
         kept = rings-empty (t .count) (t .rows) (facts (freshRun t) good .few-rows) (λ row h. in-range-means (getD (t .rows) row noRow) .1 (facts (freshRun t) good .rows row h));
@@ -136,7 +141,6 @@ stands-in-bounds {s} w =
     let way = w .on-its-way in
     let known = facts (s .run) (way .good) in
     record {
-      all-places = w .jobs-held .all-places;
       few-pending = omega (arith, w .counts, known .few-pending);
       within = w .logs .within;
       few-late =

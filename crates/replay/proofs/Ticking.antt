@@ -1,7 +1,7 @@
 -- Free ticks on pending jobs in arrays are the ticks of the run that the arrays hold, and each job that finishes is logged. (docs/RULES.md, sections 6.5, 6.10 to
 -- 6.17, and 8.2 to 8.4.)
 use Prim.Native.Nat.{ℕ, _+_, _-_, _≤_}
-use mathlib.Core.Path.{_≡_, refl, sym, ap, subst, _∙_}
+use mathlib.Core.Path.{_≡_, refl, sym, ap, ap₂, subst, _∙_}
 use mathlib.Core.Bool.{true}
 use mathlib.Core.List.{List, [], _∷_, _++_, append-nil, List·Memᴰ·head, Memᴰ·append-right}
 use native.Mathlib.Omega.{arith}
@@ -9,28 +9,28 @@ use lib.ListN.{length}
 use Rattle.kinds.specs.Numbering.{maxTime}
 use Rattle.kinds.specs.declared.Finish.{Finish}
 use Rattle.theory.specs.Ticks.{freeBefore, timer, freeTickAt}
-use Rattle.theory.proofs.Ticks.{free-before-grows}
 use Rattle.table.specs.Timer.{GoodTimer}
 use Rattle.jobs.specs.declared.Job.{Job}
-use Rattle.jobs.specs.Places.{jobsOf}
+use Rattle.jobs.specs.Places.{maxPlaces, jobsOf}
 use Rattle.columns.specs.declared.Worked.{Worked}
+use Rattle.columns.specs.declared.WorkAnswer.{WorkAnswer}
 use Rattle.columns.specs.declared.WorkAnswer.the-variants as work
-use Rattle.columns.specs.Columns.{Columns, AllColumnPlaces}
-use Rattle.columns.specs.Columns as places
-use Rattle.columns.specs.Outcomes.{OneFinished}
-use Rattle.columns.specs.Ticks.{Reached, workedFor, workedOf, Works}
-use Rattle.columns.proofs.Strides.{finished-means}
-use Rattle.columns.proofs.Holding.{held-are-counted, always-held}
-use Rattle.columns.proofs.WorkContract.{work-holds}
+use Rattle.columns.specs.Columns.{Columns}
+use Rattle.columns.specs.Ticks.{Reached, workedFor, workedFirst, workOn, workAnswer}
+use Rattle.columns.specs.Ordered.{SameReached}
+use Rattle.columns.specs.Outcomes.{WorksAs}
+use Rattle.columns.proofs.Holding.{held-are-counted, work-holds}
+use Rattle.columns.proofs.Ordered.{same-are-as-many, first-is-worked-on}
 use Rattle.run.specs.ManyTicks.{SoFar, ticksWhilePending}
 use Rattle.run.proofs.Ticking.{counted}
 use Rattle.log.specs.Log.{valuesOf, allInRange}
 use Rattle.play.proofs.SingleTicks.{no-more}
 use Rattle.play.proofs.OnItsWay.{on-its-way-ticked}
 use Rattle.replay.specs.declared.Logged.{Logged}
-use Rattle.replay.specs.Arrays.{OneLogged, Logs, TickArrays, tickArrays, InBounds, ArraysHoldRun, HasTimer, LeadsTo}
+use Rattle.replay.specs.Arrays.{OneLogged, Logs, TickArrays, tickArrays, InBounds, HoldsInOrder, ArraysHoldRun, HasTimer, LeadsTo}
 use Rattle.replay.proofs.Logging.{logs-one-more}
 use Rattle.replay.proofs.FreeTicks.{free-after, ended-by}
+use Rattle.replay.proofs.Working.{few-after, FinishedSo, finished-so}
 use Rattle.replay.proofs.Strides.{finishedAtTime, finishesIn, timeOf, Strode, same-timer, strides-until}
 
 -- A play has had some of its ticks until a time: the arrays hold it, and with the ticks that are still to come it comes to the same as from the start.
@@ -64,49 +64,21 @@ no-ticks-due s p until h late x log₀ has w = let none : until - h .clock ≡ 0
 -- `n` free ticks have gone by, and `m` will have gone by at the time `until`. The call of `work` gets these for its clock and its time.
 module _ {s p until : ℕ} (good-timer : GoodTimer s p) {h₀ h : TickArrays} (t : TicksOn s p until h₀ h) (soon : until ≤ maxTime) (some : 1 ≤ h .jobs .count)
     {n m : ℕ} (n-so : n ≡ freeBefore (timer s p) (h .clock)) (m-so : m ≡ freeBefore (timer s p) until) {after : Columns} {r : Worked}
-    (w : Works (h .jobs) n m after r) where
-  -- `here` are the jobs that the arrays hold, and `came-to` is what the ticks on them come to.
-  abbrev here : List Job
-  here = always-held (h .jobs) (t .in-bounds .all-places) .jobs
-
-  here-held : places.ColumnsHold (h .jobs) here
-  here-held = always-held (h .jobs) (t .in-bounds .all-places) .held
-
-  abbrev came-to : Reached
-  came-to = workedFor (m - n) n here
-
-  many-here : length here ≡ h .jobs .count
-  many-here = omega (arith, held-are-counted (h .jobs) here here-held, t .in-bounds .few-pending)
-
-  answers-so : came-to .answer ≡ r .answer
-  answers-so = sym (ap (λ (x : Worked). x .answer) (w here here-held .says))
-
-  counts-so : r .count ≡ length (came-to .jobs)
-  counts-so = ap (λ (x : Worked). x .count) (w here here-held .says)
-
-  clock-here : r .clock .0 ≡ came-to .clock
-  clock-here = ap (λ (x : Worked). x .clock .0) (w here here-held .says)
-
-  -- After the ticks the arrays have all their places.
-  pub places-after : AllColumnPlaces after
-  places-after = work-holds (h .jobs) after n m r here w here-held .all-places
-
+    (says : r ≡ workAnswer (h .jobs) n m) (leaves : after ≡ workOn (h .jobs) n m) where
   module _ {f : Finish} (e : r .answer ≡ work.Finished f) where
-    one-finished-here : OneFinished (m - n) n here f came-to
-    one-finished-here = finished-means (m - n) n here f (answers-so ∙ e)
+    one-finished : FinishedSo (h .jobs) n m r
+    one-finished = rw says (finished-so (h .jobs) n m f (rw says at e))
 
     -- Where a job finished, one job fewer is pending.
     pub one-less : r .count + 1 ≡ h .jobs .count
-    one-less = omega (arith, one-finished-here .one-less, counts-so, many-here)
+    one-less = omega (arith, one-finished .one-less, t .in-bounds .few-pending)
 
     -- Where a job finished, at least one free tick has gone by, and at most those before the time.
     pub some-free : 1 ≤ r .clock .0
-    some-free = omega (arith, one-finished-here .later, clock-here)
+    some-free = omega (arith, one-finished .later)
 
     pub free-in-time : r .clock .0 ≤ m
-    free-in-time =
-        let grows : n ≤ m = omega (arith, n-so, m-so, free-before-grows (timer s p) (h .clock) until (t .not-past)) in
-        omega (arith, one-finished-here .in-time, clock-here, grows)
+    free-in-time = one-finished .in-time
 
     -- The free ticks that have gone by are those before the finish.
     pub free-so : r .clock .0 ≡ freeBefore (timer s p) (freeTickAt s p (r .clock .0 - 1) + 1)
@@ -114,8 +86,33 @@ module _ {s p until : ℕ} (good-timer : GoodTimer s p) {h₀ h : TickArrays} (t
 
   -- If the arrays hold a play before these ticks, they hold it with these ticks afterwards.
   module _ {b : SoFar} {log₀ : List ℕ} (has : HasTimer s p (b .run)) (stands : ArraysHoldRun b log₀ h) where
+    abbrev queue : List Job
+    queue = stands .jobs-held .queue
+
     abbrev there : Reached
     there = workedFor (m - n) n (jobsOf (b .run .pending))
+
+    -- What the ticks on the jobs in order come to is what single ticks on the run's jobs come to.
+    same-there : SameReached (workedFirst (m - n) n queue) there
+    same-there = first-is-worked-on (m - n) n queue (jobsOf (b .run .pending)) (stands .jobs-held .in-order) (stands .jobs-held .same)
+
+    works : WorksAs (h .jobs) queue n m
+    works = work-holds (h .jobs) queue n m (stands .jobs-held .held)
+
+    answer-so : there .answer ≡ r .answer
+    answer-so = sym (same-there .answer) ∙ sym (works .answer-so) ∙ sym (ap (λ (x : Worked). x .answer) says)
+
+    free-reached : there .clock ≡ r .clock .0
+    free-reached = sym (same-there .clock) ∙ sym (works .clock-so) ∙ sym (ap (λ (x : Worked). x .clock .0) says)
+
+    -- After the ticks the arrays hold the jobs that are left, in order.
+    held-after : HoldsInOrder after (there .jobs)
+    held-after = record {
+      queue = workedFirst (m - n) n queue .jobs;
+      held = rw leaves (works .holds);
+      in-order = same-there .in-order;
+      same = same-there .jobs;
+    }
 
     strode : Strode s p until b there
     strode =
@@ -124,31 +121,34 @@ module _ {s p until : ℕ} (good-timer : GoodTimer s p) {h₀ h : TickArrays} (t
         (subst (λ (k : ℕ). Strode s p until b (workedFor (k - freeBefore (timer s p) (b .run .clock .0)) (freeBefore (timer s p) (b .run .clock .0)) (jobsOf (b .run .pending)))) (sym m-so)
         (strides-until s p (good-timer .s-below-p) until b (stands .on-its-way .good) has (omega (arith, stands .counts)) (omega (arith, stands .clocks, t .not-past)) soon))
 
-    says-so : r ≡ workedOf there
-    says-so = w (jobsOf (b .run .pending)) (stands .jobs-held) .says
-
     -- `time` is the time that the ticks have come to.
     abbrev time : ℕ
     time = timeOf s p until (r .clock .0) (r .answer)
 
     time-so : timeOf s p until (there .clock) (there .answer) ≡ time
-    time-so = sym (ap (λ (x : Worked). timeOf s p until (x .clock .0) (x .answer)) says-so)
+    time-so = ap₂ (λ (k : ℕ). λ (a : WorkAnswer). timeOf s p until k a) free-reached answer-so
 
     clock-so : strode .by-now .run .clock .0 ≡ time
     clock-so = strode .clock ∙ time-so
 
     finishes-so : strode .by-now .finishes ≡ b .finishes ++ finishesIn time (r .answer)
     finishes-so =
-        strode .finishes ∙ sym (ap (λ (x : Worked). b .finishes ++ finishesIn (timeOf s p until (x .clock .0) (x .answer)) (x .answer)) says-so)
+        strode .finishes
+        ∙ ap₂ (λ (k : ℕ). λ (a : WorkAnswer). b .finishes ++ finishesIn (timeOf s p until k a) a) free-reached answer-so
 
     -- After the ticks the arrays hold the jobs that are still pending.
     stands-after : {log : List ℕ} {l : Logged} → after .count ≡ r .count → Logs (strode .by-now .finishes) log₀ log l
         → ArraysHoldRun (strode .by-now) log₀ (tickArrays after log time l)
     stands-after same logs = record {
       on-its-way = on-its-way-ticked (stands .on-its-way) (strode .keeps);
-      counts = sym (counted (strode .by-now .run) (strode .keeps .good)) ∙ ap length (strode .jobs) ∙ sym (ap (λ (x : Worked). x .count) says-so) ∙ sym same;
+      counts =
+          let many = held-are-counted after (held-after .queue) (held-after .held) in
+          let few : r .count ≤ maxPlaces = rw says (few-after (h .jobs) n m) in
+          let all : length (held-after .queue) ≡ length (there .jobs) = same-are-as-many (held-after .queue) (there .jobs) (held-after .same) in
+          let here : length (jobsOf (strode .by-now .run .pending)) ≡ length (there .jobs) = ap length (strode .jobs) in
+          omega (arith, many, few, all, here, same, counted (strode .by-now .run) (strode .keeps .good));
       clocks = clock-so;
-      jobs-held = rw (strode .jobs) (work-holds (h .jobs) after n m r (jobsOf (b .run .pending)) w (stands .jobs-held));
+      jobs-held = rw (strode .jobs) held-after;
       logs = logs;
     }
 
@@ -174,7 +174,6 @@ module _ {s p until : ℕ} (good-timer : GoodTimer s p) {h₀ h : TickArrays} (t
       let bounds = t .in-bounds in
       record {
         in-bounds = record {
-          all-places = places-after;
           few-pending = omega (arith, one-less e, bounds .few-pending);
           within = omega (arith, o .within, o .same-length);
           few-late = omega (arith, one-less e, o .few-late, bounds .few-late);

@@ -13,8 +13,9 @@ use Rattle.table.specs.declared.Row.{Row}
 use Rattle.table.specs.declared.CostAnswer.the-variants as cost
 use Rattle.table.specs.Costs.{costLimits, limitOf, costAnswer}
 use Rattle.jobs.specs.Places.{maxPlaces, jobsOf}
-use Rattle.columns.specs.Columns.{Columns, columns, AllColumnPlaces}
-use Rattle.columns.specs.Columns as places
+use Rattle.columns.specs.Columns.{Columns, columns, ColumnsHold}
+use Rattle.columns.specs.Ordered.{InOrder, SameJobs}
+use Rattle.jobs.specs.declared.Job.{Job}
 use Rattle.rings.specs.Rings.{Rings, rings}
 use Rattle.rings.specs.RingShapes.{RingsHold}
 use Rattle.run.specs.declared.Run.{Run}
@@ -94,20 +95,25 @@ loggedBy r = record { length = r .length; late = r .late; full = r .full }
 abbrev pub loggedIn : Going → Logged
 loggedIn g = record { length = g .length; late = g .late; full = g .full }
 
--- The arrays have all their places and no more pending jobs than places, the log is not longer than its buffer, and the jobs late are few enough to go on
--- counting without overflow.
+-- There are no more pending jobs than places, the log is not longer than its buffer, and the jobs late are few enough to go on counting without overflow.
 pub record InBounds (h : TickArrays) : Type 0 where
-  pub all-places : AllColumnPlaces (h .jobs)
   pub few-pending : h .jobs .count ≤ maxPlaces
   pub within : h .logged .length ≤ length (h .log)
   pub few-late : h .logged .late + h .jobs .count ≤ 2 ^ 63
+
+-- The columns hold these jobs in the order in which they are chosen. The jobs themselves may be listed in any order. (6.11)
+pub record HoldsInOrder (c : Columns) (js : List Job) : Type 0 where
+  pub queue : List Job
+  pub held : ColumnsHold c queue
+  pub in-order : InOrder queue
+  pub same : SameJobs queue js
 
 -- The arrays hold a play on its way: its pending jobs, its clock, and the records of the jobs that have finished so far.
 pub record ArraysHoldRun (s : SoFar) (log₀ : List ℕ) (h : TickArrays) : Type 0 where
   pub on-its-way : OnItsWay s
   pub counts : s .run .pending .count ≡ h .jobs .count
   pub clocks : s .run .clock .0 ≡ h .clock
-  pub jobs-held : places.ColumnsHold (h .jobs) (jobsOf (s .run .pending))
+  pub jobs-held : HoldsInOrder (h .jobs) (jobsOf (s .run .pending))
   pub logs : Logs (s .finishes) log₀ (h .log) (h .logged)
 
 -- The timer of the run has this s and p. (3.16, 6.1)
@@ -150,9 +156,9 @@ lists serials rows releases dues left times many oldest log = record {
   log = log;
 }
 
--- The pending jobs that the arrays of a play hold, as many as the count says.
-abbrev pub columnsIn : Lists → (count : ℕ) → Columns
-columnsIn l count = columns (l .serials) (l .rows) (l .releases) (l .dues) (l .left) count
+-- The pending jobs that the arrays of a play hold, from the entry `first` on, as many as the count says.
+abbrev pub columnsIn : Lists → (first count : ℕ) → Columns
+columnsIn l first count = columns (l .serials) (l .rows) (l .releases) (l .dues) (l .left) first count
 
 -- The kept due times of the rows that the arrays of a play hold. (4.6)
 abbrev pub ringsIn : Lists → Rings
@@ -160,7 +166,7 @@ ringsIn l = rings (l .times) (l .many) (l .oldest)
 
 -- The part of a play's arrays and numbers that ticks change.
 abbrev pub tickArraysIn : Lists → Going → TickArrays
-tickArraysIn l g = tickArrays (columnsIn l (g .count)) (l .log) (g .clock .0) (loggedIn g)
+tickArraysIn l g = tickArrays (columnsIn l (g .first) (g .count)) (l .log) (g .clock .0) (loggedIn g)
 
 -- One more record can be played without overflow: the arrays are in bounds, the record's script time is at most 2^40, and the next serial is at most 2^63.
 pub record CanGo (l : Lists) (g : Going) (ready : Ready) : Type 0 where

@@ -4,7 +4,7 @@ mod ticks;
 
 use crate::steps::play_record;
 use crate::ticks::run_until;
-use jobs::Pending;
+use columns::ROOM;
 use kinds::Refusal;
 use kinds::RefusedAt;
 use kinds::Serial;
@@ -43,9 +43,10 @@ struct Logged {
     full: bool,
 }
 
-// Where ticks have come to: how many jobs are pending still, the clock, and what is written of the log. The three fields of `Logged` stand here one by one: a
-// copy of the whole struct copies its unused bytes too, and takes longer.
+// Where ticks have come to: where the pending jobs stand and how many they are, the clock, and what is written of the log. The three fields of `Logged` stand
+// here one by one: a copy of the whole struct copies its unused bytes too, and takes longer.
 struct Reached {
+    first: usize,
     count: usize,
     clock: Tick,
     length: usize,
@@ -53,8 +54,10 @@ struct Reached {
     full: bool,
 }
 
-// How far a play has come: how many jobs are pending, the clock, the next serial, and what is written of the log, one by one as in `Reached`.
+// How far a play has come: where the pending jobs stand and how many they are, the clock, the next serial, and what is written of the log, one by one as in
+// `Reached`.
 struct Going {
+    first: usize,
     count: usize,
     clock: Tick,
     next: Serial,
@@ -91,16 +94,17 @@ fn play(table: Table, script: &[u8], log: &mut [u8]) -> Replayed
     let in_use = table.count;
     let s = table.s;
     let p = table.p;
-    let mut serials: [u64; Pending::PLACES] = [0; Pending::PLACES];
-    let mut rows: [u64; Pending::PLACES] = [0; Pending::PLACES];
-    let mut releases: [u64; Pending::PLACES] = [0; Pending::PLACES];
-    let mut dues: [u64; Pending::PLACES] = [0; Pending::PLACES];
-    let mut left: [u64; Pending::PLACES] = [0; Pending::PLACES];
+    let mut serials: [u64; ROOM] = [0; ROOM];
+    let mut rows: [u64; ROOM] = [0; ROOM];
+    let mut releases: [u64; ROOM] = [0; ROOM];
+    let mut dues: [u64; ROOM] = [0; ROOM];
+    let mut left: [u64; ROOM] = [0; ROOM];
     let mut times: [u64; TIMES] = [0; TIMES];
     let mut many: [usize; Table::MAX_ROWS] = [0; Table::MAX_ROWS];
     let mut oldest: [usize; Table::MAX_ROWS] = [0; Table::MAX_ROWS];
     let mut at: usize = 0;
     let mut going = Going {
+        first: 0,
         count: 0,
         clock: Tick(0),
         next: Serial(0),
@@ -140,6 +144,7 @@ fn play(table: Table, script: &[u8], log: &mut [u8]) -> Replayed
         };
         at = ready.next;
     }
+    let first = going.first;
     let count = going.count;
     let clock = going.clock;
     let logged = Logged {
@@ -149,12 +154,13 @@ fn play(table: Table, script: &[u8], log: &mut [u8]) -> Replayed
     };
     let last = Tick(Tick::MAX);
     let reached = run_until(
-        &mut serials,
-        &mut rows,
-        &mut releases,
-        &mut dues,
+        &serials,
+        &rows,
+        &releases,
+        &dues,
         &mut left,
         log,
+        first,
         count,
         clock,
         last,

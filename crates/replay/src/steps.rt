@@ -4,6 +4,7 @@ use crate::Logged;
 use crate::RecordStep;
 use crate::ticks::run_until;
 use columns::PutAnswer;
+use columns::ROOM;
 use due::Due;
 use jobs::Job;
 use jobs::Pending;
@@ -23,11 +24,11 @@ ghost use Rattle.replay.specs.Arrays.{lists, CanGo, RecordPlayed};
 // pending is crossed in one go. `row` is the record's row, s and p are the table's timer, and `place` is the record's start, at which 8 and 9 are refused.
 // (8.2, 8.4, 8.5)
 pub(crate) fn play_record(
-    serials: &mut [u64; Pending::PLACES],
-    rows: &mut [u64; Pending::PLACES],
-    releases: &mut [u64; Pending::PLACES],
-    dues: &mut [u64; Pending::PLACES],
-    left: &mut [u64; Pending::PLACES],
+    serials: &mut [u64; ROOM],
+    rows: &mut [u64; ROOM],
+    releases: &mut [u64; ROOM],
+    dues: &mut [u64; ROOM],
+    left: &mut [u64; ROOM],
     times: &mut [u64; TIMES],
     many: &mut [usize; Table::MAX_ROWS],
     oldest: &mut [usize; Table::MAX_ROWS],
@@ -49,6 +50,7 @@ pub(crate) fn play_record(
         (now (many .exit)) (now (oldest .exit)) (now (log .exit))) r ⌝ }
 {
     let time = ready.time;
+    let first = going.first;
     let count = going.count;
     let clock = going.clock;
     let logged = Logged {
@@ -63,6 +65,7 @@ pub(crate) fn play_record(
         dues,
         left,
         log,
+        first,
         count,
         clock,
         time,
@@ -70,6 +73,7 @@ pub(crate) fn play_record(
         p,
         logged,
     );
+    let start = reached.first;
     let pending = reached.count;
     if Pending::PLACES <= pending {
         return RecordStep::Refused(RefusedAt {
@@ -93,14 +97,15 @@ pub(crate) fn play_record(
         cost,
         left: cost,
     };
-    let answer = columns::put(serials, rows, releases, dues, left, pending, job);
+    let answer = columns::put(serials, rows, releases, dues, left, start, pending, job);
     match answer {
         PutAnswer::Refused(refusal) => RecordStep::Refused(RefusedAt { refusal, place }),
-        PutAnswer::Count(more) => {
+        PutAnswer::Stand(span) => {
             let after = serial.0 + 1;
             let next = Serial(after);
             RecordStep::Next(Going {
-                count: more,
+                first: span.first,
+                count: span.count,
                 clock: time,
                 next,
                 length: reached.length,

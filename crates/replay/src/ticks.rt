@@ -2,8 +2,8 @@
 // that the timer takes are crossed in one go. (docs/RULES.md, 6.5, 6.10 to 6.13, 8.4 and 8.8 to 8.13.)
 use crate::Logged;
 use crate::Reached;
+use columns::ROOM;
 use columns::WorkAnswer;
-use jobs::Pending;
 use kinds::Finish;
 use kinds::Tick;
 use numbers::Written;
@@ -81,12 +81,13 @@ fn after_free(s: u64, p: u64, n: u64) -> u64
 // Ticks until the clock is at `until`, or until nothing is pending, whichever comes first. Each job that finishes is logged. The timer takes the first s ticks
 // of every p. `columns::work` gets the number of free ticks before the clock for its clock, since jobs get these ticks and no others. (6.5, 8.2 to 8.4)
 pub(crate) fn run_until(
-    serials: &mut [u64; Pending::PLACES],
-    rows: &mut [u64; Pending::PLACES],
-    releases: &mut [u64; Pending::PLACES],
-    dues: &mut [u64; Pending::PLACES],
-    left: &mut [u64; Pending::PLACES],
+    serials: &[u64; ROOM],
+    rows: &[u64; ROOM],
+    releases: &[u64; ROOM],
+    dues: &[u64; ROOM],
+    left: &mut [u64; ROOM],
     log: &mut [u8],
+    first: usize,
     count: usize,
     clock: Tick,
     until: Tick,
@@ -95,19 +96,21 @@ pub(crate) fn run_until(
     logged: Logged,
 ) -> Reached
     requires { ⌜ (until .0 ≤ maxTime) × GoodTimer s p
-        × InBounds (tickArrays (columns (now serials) (now rows) (now releases) (now dues) (now left) count) (now log) (clock .0) logged) ⌝ }
+        × InBounds (tickArrays (columns (now serials) (now rows) (now releases) (now dues) (now left) first count) (now log) (clock .0) logged) ⌝ }
     ensures { λ r. ⌜ (length (now (log .exit)) ≡ length (now (log .entry)))
         × LeadsTo s p (until .0)
-        (tickArrays (columns (now (serials .entry)) (now (rows .entry)) (now (releases .entry)) (now (dues .entry)) (now (left .entry)) count)
+        (tickArrays (columns (now (serials .entry)) (now (rows .entry)) (now (releases .entry)) (now (dues .entry)) (now (left .entry)) first count)
         (now (log .entry)) (clock .0) logged)
-        (tickArrays (columns (now (serials .exit)) (now (rows .exit)) (now (releases .exit)) (now (dues .exit)) (now (left .exit)) (r .count))
+        (tickArrays (columns (now (serials .entry)) (now (rows .entry)) (now (releases .entry)) (now (dues .entry)) (now (left .exit)) (r .first) (r .count))
         (now (log .exit)) (r .clock .0) (loggedBy r)) ⌝ }
 {
+    let mut first = first;
     let mut count = count;
     let mut clock = clock;
     let mut logged = logged;
     if until.0 <= clock.0 {
         return Reached {
+            first,
             count,
             clock,
             length: logged.length,
@@ -118,14 +121,16 @@ pub(crate) fn run_until(
     let end = Tick(free_before(s, p, until.0));
     let mut free = Tick(free_before(s, p, clock.0));
     while 0 < count {
-        let worked = columns::work(serials, rows, releases, dues, left, count, free, end);
+        let worked = columns::work(serials, rows, releases, dues, left, first, count, free, end);
         let answer = worked.answer;
+        first = worked.first;
         count = worked.count;
         free = worked.clock;
         let job = match answer {
             WorkAnswer::Finished(job) => job,
             WorkAnswer::Nobody => {
                 return Reached {
+                    first,
                     count,
                     clock: until,
                     length: logged.length,
@@ -149,6 +154,7 @@ pub(crate) fn run_until(
         logged = log_finish(log, logged, finished);
     }
     Reached {
+        first,
         count,
         clock,
         length: logged.length,

@@ -1,158 +1,123 @@
--- `columns::work` meets its contract. There are four cases: nothing is pending, no time is left, the chosen job needs more units than there are ticks, or it
+-- `columns::work` meets its contract. There are four cases: nothing is pending, no time is left, the first job needs more units than there are ticks, or it
 -- finishes.
-use Prim.Native.Nat.{_-_, _≤_, _<_}
-use native.Mathlib.Omega.{arith}
 use borrow.Author.Needs.{needs}
-use Rattle.jobs.specs.Places.{maxPlaces}
-use Rattle.columns.proofs.Working.{works-nothing, works-no-time, works-on, works-finished}
+use Rattle.columns.specs.Columns.{Columns, columns}
+use Rattle.columns.proofs.WorkContract.{works-nothing, works-no-time, works-on, works-finished}
 use Rattle.columns.proofs.work.Statement.{statement}
 use Rattle.columns.proofs.work.Tie as tie
 
--- The point where the time left was tested, seen from the point where the job was chosen.
-abbrev tested : tie.After-first-due → tie.Else2
-tested c = c .before .before .before .before .before
-
--- The point where the used places were counted, seen from the point where the time left was tested.
-abbrev counted : tie.Else2 → tie.After-in-use
-counted c = c .before .before .before .before
-
--- Past the first test at least one job is pending.
-some : (c : tie.Else2) → 1 ≤ counted c .in-use .result
-some c = omega (arith, c .before .before .before .if1 .left)
-
--- The place of the job that goes first is one of the places.
-inside : (c : tie.After-first-due) → c .first-due .result < maxPlaces
-inside c = omega (arith, c .first-due .ensures .inside, counted (tested c) .in-use .ensures)
-
--- The place of the chosen job and the last used place meet what `close_up` requires.
-closes : (c : tie.After-first-due)
-    → (let n = counted (tested c) .in-use .result in (c .first-due .result ≤ n - 1) × (n - 1 < maxPlaces))
-closes c = (omega (arith, c .first-due .ensures .inside, some (tested c)), omega (arith, counted (tested c) .in-use .ensures, some (tested c)))
-
--- The point where the job was chosen, seen from the point where there are ticks enough.
-abbrev chosen : tie.Else3 → tie.After-first-due
-chosen c = c .before .before .before
+-- The columns as they are when `work` is called.
+abbrev lent : tie.Start → Columns
+lent s =
+    let a = s .args in columns (a .serials .now) (a .rows .now) (a .releases .now) (a .dues .now) (a .left .now) (a .first) (a .count)
 
 in-use-requires : tie.Need-in-use-requires
 in-use-requires c κs = search needs
 
+start-of-requires : tie.Need-start-of-requires
+start-of-requires c κs = search needs
+
 returns : tie.Need-returns
 returns c =
-    let a = c .before .before .args in
-    λ js h. works-nothing h (c .before .in-use .result) (a .clock) (a .until) (c .before .in-use .ensures) (c .if1 .taken)
+    let at = c .before .start-of in
+    let many = c .before .before .in-use in
+    let s = c .before .before .before in
+    works-nothing (lent s) (s .args .clock) (s .args .until) (many .result) (at .result) (many .ensures) (at .ensures) (c .if1 .taken)
 
 returns-2 : tie.Need-returns-2
 returns-2 c =
-    let k = c .before .before .before .before in
-    let a = k .before .args in
-    λ js h. works-no-time h (k .in-use .result) (a .clock) (a .until) (k .in-use .ensures) (c .if2 .taken)
+    let k = c .before .before .before in
+    let at = k .before .start-of in
+    let many = k .before .before .in-use in
+    let s = k .before .before .before in
+    works-no-time (lent s) (s .args .clock) (s .args .until) (many .result) (at .result) (many .ensures) (at .ensures) (k .if1 .left) (c .if2 .taken)
 
 sub-ticks : tie.Need-sub-ticks
-sub-ticks c = omega (arith, c .before .before .if2 .left)
-
-first-due-requires : tie.Need-first-due-requires
-first-due-requires c κs =
-    let t = c .before .before .before .before in
-    (some t, omega (arith, counted t .in-use .ensures))
+sub-ticks c = search needs
 
 mul-units-to-go : tie.Need-mul-units-to-go
-mul-units-to-go c = omega (arith, inside c)
+mul-units-to-go c = search needs
 
 element-copy-out-units-to-go : tie.Need-element-copy-out-units-to-go
-element-copy-out-units-to-go c = inside c
+element-copy-out-units-to-go c = search needs
 
 units-to-go-requires : tie.Need-units-to-go-requires
 units-to-go-requires c κs = search needs
 
 sub-left : tie.Need-sub-left
-sub-left c = omega (arith, c .if3 .taken)
+sub-left c = search needs
 
 mul-left : tie.Need-mul-left
-mul-left c = omega (arith, inside (c .before .before .before))
+mul-left c = search needs
 
 element-write-left : tie.Need-element-write-left
-element-write-left c = inside (c .before .before .before)
+element-write-left c = search needs
 
 returns-3 : tie.Need-returns-3
 returns-3 c =
     let u = c .before in
-    let f = u .before .before in
-    let k = counted (tested f) in
-    let a = k .before .args in
-    λ js h.
-    works-on h (k .in-use .result) (a .clock) (a .until) (k .in-use .ensures) (some (tested f)) (tested f .if2 .left) (f .first-due .result)
-    (f .first-due .ensures) (u .units-to-go .result) (u .units-to-go .ensures) (c .if3 .taken)
+    let t = u .before .before .before .before in
+    let k = t .before .before .before in
+    let at = k .before .start-of in
+    let many = k .before .before .in-use in
+    let s = k .before .before .before in
+    works-on (lent s) (s .args .clock) (s .args .until) (many .result) (at .result) (many .ensures) (at .ensures) (k .if1 .left) (t .if2 .left)
+    (u .units-to-go .result) (u .units-to-go .ensures) (c .if3 .taken)
 
 add-end : tie.Need-add-end
-add-end c = omega (arith, c .before .if3 .left)
+add-end c = search needs
 
-mul-t21 : tie.Need-mul-t21
-mul-t21 c = omega (arith, inside (chosen (c .before)))
+mul-t19 : tie.Need-mul-t19
+mul-t19 c = search needs
 
-element-copy-out-t24 : tie.Need-element-copy-out-t24
-element-copy-out-t24 c = inside (chosen (c .before))
+element-copy-out-t22 : tie.Need-element-copy-out-t22
+element-copy-out-t22 c = search needs
 
-mul-t33 : tie.Need-mul-t33
-mul-t33 c = omega (arith, inside (chosen (c .before .before)))
+mul-t31 : tie.Need-mul-t31
+mul-t31 c = search needs
 
-element-copy-out-t36 : tie.Need-element-copy-out-t36
-element-copy-out-t36 c = inside (chosen (c .before .before))
+element-copy-out-t34 : tie.Need-element-copy-out-t34
+element-copy-out-t34 c = search needs
 
-mul-t38 : tie.Need-mul-t38
-mul-t38 c = omega (arith, inside (chosen (c .before .before .before)))
+mul-t36 : tie.Need-mul-t36
+mul-t36 c = search needs
 
-element-copy-out-t41 : tie.Need-element-copy-out-t41
-element-copy-out-t41 c = inside (chosen (c .before .before .before))
+element-copy-out-t39 : tie.Need-element-copy-out-t39
+element-copy-out-t39 c = search needs
 
-mul-t43 : tie.Need-mul-t43
-mul-t43 c = omega (arith, inside (chosen (c .before .before .before .before)))
+mul-t41 : tie.Need-mul-t41
+mul-t41 c = search needs
 
-element-copy-out-t46 : tie.Need-element-copy-out-t46
-element-copy-out-t46 c = inside (chosen (c .before .before .before .before))
+element-copy-out-t44 : tie.Need-element-copy-out-t44
+element-copy-out-t44 c = search needs
 
-sub-last : tie.Need-sub-last
-sub-last c = some (tested (chosen (c .before .before .before .before .before)))
+add-t19 : tie.Need-add-t19
+add-t19 c = search needs
 
-close-up-requires : tie.Need-close-up-requires
-close-up-requires c κs = closes (chosen (c .before .before .before .before .before .before))
-
-close-up-requires-2 : tie.Need-close-up-requires-2
-close-up-requires-2 c κs = closes (chosen (c .before .before .before .before .before .before .before .before))
-
-close-up-requires-3 : tie.Need-close-up-requires-3
-close-up-requires-3 c κs = closes (chosen (c .before .before .before .before .before .before .before .before .before .before))
-
-close-up-requires-4 : tie.Need-close-up-requires-4
-close-up-requires-4 c κs = closes (chosen (c .before .before .before .before .before .before .before .before .before .before .before .before))
-
-close-up-requires-5 : tie.Need-close-up-requires-5
-close-up-requires-5 c κs = closes (chosen (c .before .before .before .before .before .before .before .before .before .before .before .before .before .before))
+sub-t31 : tie.Need-sub-t31
+sub-t31 c = search needs
 
 returns-4 : tie.Need-returns-4
 returns-4 c =
-    let closed-4 = c .before .before in
-    let closed-3 = closed-4 .before .before in
-    let closed-2 = closed-3 .before .before in
-    let closed-1 = closed-2 .before .before in
-    let enough = closed-1 .before .before .before .before .before .before .before in
-    let u = enough .before in
-    let f = u .before .before in
-    let k = counted (tested f) in
-    let a = k .before .args in
-    λ js h.
-    works-finished h (k .in-use .result) (a .clock) (a .until) (k .in-use .ensures) (some (tested f)) (tested f .if2 .left) (f .first-due .result)
-    (f .first-due .ensures) (u .units-to-go .result) (u .units-to-go .ensures) (enough .if3 .left) (closed-1 .close-up .ensures)
-    (closed-2 .close-up2 .ensures) (closed-3 .close-up3 .ensures) (closed-4 .close-up4 .ensures) (c .close-up5 .ensures)
+    let e = c .before .before .before .before .before in
+    let u = e .before in
+    let t = u .before .before .before .before in
+    let k = t .before .before .before in
+    let at = k .before .start-of in
+    let many = k .before .before .in-use in
+    let s = k .before .before .before in
+    works-finished (lent s) (s .args .clock) (s .args .until) (many .result) (at .result) (many .ensures) (at .ensures) (k .if1 .left) (t .if2 .left)
+    (u .units-to-go .result) (u .units-to-go .ensures) (e .if3 .left)
 
 pub work-spec : {M : Type 1} → statement M
 work-spec =
     tie.close
     (tie.spec
     in-use-requires
+    start-of-requires
     returns
     returns-2
     sub-ticks
-    first-due-requires
     mul-units-to-go
     element-copy-out-units-to-go
     units-to-go-requires
@@ -161,18 +126,14 @@ work-spec =
     element-write-left
     returns-3
     add-end
-    mul-t21
-    element-copy-out-t24
-    mul-t33
-    element-copy-out-t36
-    mul-t38
-    element-copy-out-t41
-    mul-t43
-    element-copy-out-t46
-    sub-last
-    close-up-requires
-    close-up-requires-2
-    close-up-requires-3
-    close-up-requires-4
-    close-up-requires-5
+    mul-t19
+    element-copy-out-t22
+    mul-t31
+    element-copy-out-t34
+    mul-t36
+    element-copy-out-t39
+    mul-t41
+    element-copy-out-t44
+    add-t19
+    sub-t31
     returns-4)

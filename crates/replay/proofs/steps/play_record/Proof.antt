@@ -1,7 +1,9 @@
 -- `replay::steps::play_record` meets its contract: the ticks until the record's script time are given, and then its release settles the answer.
 use native.Mathlib.Omega.{arith}
 use mathlib.Core.Path.{refl}
+use Prim.Native.Nat.{_<_}
 use borrow.Author.Needs.{needs}
+use Rattle.jobs.specs.Places.{maxPlaces}
 use Rattle.replay.proofs.Releasing.{not-full, stops-full, stops-due, goes-further}
 use Rattle.replay.proofs.steps.play_record.Statement.{statement}
 use Rattle.replay.proofs.steps.play_record.Tie as tie
@@ -55,7 +57,8 @@ same-length-3 c = c .before .before .before .before .before .before .before .bef
 returns-3 : tie.Need-returns-3
 returns-3 c =
     let ran = c .before .before .before .before .before .before .before .before .before .before .before .before .before .before .before .before .before .before .before .before .before .run-until in
-    (ran .ensures .0, not-full (ran .result .count) (omega (arith, c .before .before .before .before .before .before .before .before .before .before .before .before .before .before .before .before .before .before .if1 .left)) (c .before .before .before .put .ensures .0) (c .before .answer .given .1))
+    let room : ran .result .count < maxPlaces = omega (arith, c .before .before .before .before .before .before .before .before .before .before .before .before .before .before .before .before .before .before .if1 .left) in
+    (ran .ensures .0, not-full _ room (c .before .before .before .put .ensures .0) (c .before .answer .given .1))
 
 same-length-4 : tie.Need-same-length-4
 same-length-4 c = c .before .before .before .before .before .before .before .before .before .before .before .before .before .before .before .before .before .before .before .before .before .before .run-until .ensures .0

@@ -14,13 +14,13 @@ use Rattle.replay.proofs.ticks.run_until.Statement.{statement}
 use Rattle.replay.proofs.ticks.run_until.Tie as tie
 
 abbrev Inv-loop : tie.InvT-loop
-Inv-loop serials₀ rows₀ releases₀ dues₀ left₀ log₀ count until s p count₀ clock₀ logged₀ end free₀ serials rows releases dues left log count' clock logged free =
-    TicksOn s p (until .0) (tickArrays (columns serials₀ rows₀ releases₀ dues₀ left₀ count₀) log₀ (clock₀ .0) logged₀)
-    (tickArrays (columns serials rows releases dues left count') log (clock .0) logged)
+Inv-loop serials rows releases dues left₀ log₀ first count until s p first₀ count₀ clock₀ logged₀ end free₀ left log first' count' clock logged free =
+    TicksOn s p (until .0) (tickArrays (columns serials rows releases dues left₀ first₀ count₀) log₀ (clock₀ .0) logged₀)
+    (tickArrays (columns serials rows releases dues left first' count') log (clock .0) logged)
     × (free .0 ≡ freeBefore (timer s p) (clock .0))
 
 abbrev μ-loop : tie.MeasureT-loop
-μ-loop serials₀ rows₀ releases₀ dues₀ left₀ log₀ count until s p count₀ clock₀ logged₀ end free₀ serials rows releases dues left log count' clock logged free =
+μ-loop serials rows releases dues left₀ log₀ first count until s p first₀ count₀ clock₀ logged₀ end free₀ left log first' count' clock logged free =
     count'
 
 returns : tie.Need-returns Inv-loop μ-loop
@@ -45,33 +45,33 @@ enum-told : tie.Need-enum-told Inv-loop μ-loop
 enum-told c = search needs
 
 same-length : tie.Need-same-length Inv-loop μ-loop
-same-length c = c .before .before .before .before .before .before .before .before .before .before .loop .inv .0 .same-length
+same-length c = c .before .before .before .before .before .before .loop .inv .0 .same-length
 
 returns-2 : tie.Need-returns-2 Inv-loop μ-loop
 returns-2 c =
-    (c .before .before .before .before .before .before .before .before .before .before .loop .inv .0 .same-length, nobody-on (c .before .before .before .before .before .before .before .before .before .before .before .before .before .before .before .before .before .pre .1) (c .before .before .before .before .before .before .before .before .before .before .loop .inv .0) (c .before .before .before .before .before .before .before .before .before .before .before .before .before .before .before .before .before .pre .0) (omega (arith, c .before .before .before .before .before .before .before .before .before .loop-test .taken)) (c .before .before .before .before .before .before .before .before .before .before .loop .inv .1) (c .before .before .before .before .before .before .before .before .before .before .before .before .free-before .ensures) (c .before .before .before .work .ensures) (c .enum-told .given .1) refl)
+    (c .before .before .before .before .before .before .loop .inv .0 .same-length, nobody-on (c .before .before .before .before .before .before .before .before .before .before .before .before .before .pre .1) (c .before .before .before .before .before .before .loop .inv .0) (c .before .before .before .before .before .before .before .before .before .before .before .before .before .pre .0) (omega (arith, c .before .before .before .before .before .loop-test .taken)) (c .before .before .before .before .before .before .loop .inv .1) (c .before .before .before .before .before .before .before .before .free-before .ensures) (c .before .before .before .work .ensures .0) (c .before .before .before .work .ensures .1) (c .enum-told .given .1) refl)
 
 after-free-requires : tie.Need-after-free-requires Inv-loop μ-loop
 after-free-requires c κs =
-    let some : 1 ≤ c .before .before .before .before .before .before .before .before .before .before .before .before .before .before .before .loop .count = omega (arith, c .before .before .before .before .before .before .before .before .before .before .before .before .before .before .loop-test .taken) in
-    let few : c .before .before .before .before .before .before .before .before .work .result .clock .0 ≤ freeBefore (timer (c .before .before .before .before .before .before .before .before .before .before .before .before .before .before .before .before .before .before .before .before .before .before .args .s) (c .before .before .before .before .before .before .before .before .before .before .before .before .before .before .before .before .before .before .before .before .before .before .args .p)) (c .before .before .before .before .before .before .before .before .before .before .before .before .before .before .before .before .before .before .before .before .before .before .args .until .0) =
-    omega (arith, c .before .before .before .before .before .before .before .before .before .before .before .before .before .before .before .before .before .free-before .ensures, free-in-time (c .before .before .before .before .before .before .before .before .before .before .before .before .before .before .before .before .before .before .before .before .before .before .pre .1) (c .before .before .before .before .before .before .before .before .before .before .before .before .before .before .before .loop .inv .0) (c .before .before .before .before .before .before .before .before .before .before .before .before .before .before .before .before .before .before .before .before .before .before .pre .0) some (c .before .before .before .before .before .before .before .before .before .before .before .before .before .before .before .loop .inv .1) (c .before .before .before .before .before .before .before .before .before .before .before .before .before .before .before .before .before .free-before .ensures) (c .before .before .before .before .before .before .before .before .work .ensures) (c .before .before .before .before .before .answer .given .1)) in
-    let all = free-and-taken (c .before .before .before .before .before .before .before .before .before .before .before .before .before .before .before .before .before .before .before .before .before .before .args .s) (c .before .before .before .before .before .before .before .before .before .before .before .before .before .before .before .before .before .before .before .before .before .before .args .p) (c .before .before .before .before .before .before .before .before .before .before .before .before .before .before .before .before .before .before .before .before .before .before .args .until .0) (c .before .before .before .before .before .before .before .before .before .before .before .before .before .before .before .before .before .before .before .before .before .before .pre .1 .s-below-p) in
-    (c .before .before .before .before .before .before .before .before .before .before .before .before .before .before .before .before .before .before .before .before .before .before .pre .1, some-free (c .before .before .before .before .before .before .before .before .before .before .before .before .before .before .before .before .before .before .before .before .before .before .pre .1) (c .before .before .before .before .before .before .before .before .before .before .before .before .before .before .before .loop .inv .0) (c .before .before .before .before .before .before .before .before .before .before .before .before .before .before .before .before .before .before .before .before .before .before .pre .0) some (c .before .before .before .before .before .before .before .before .before .before .before .before .before .before .before .loop .inv .1) (c .before .before .before .before .before .before .before .before .before .before .before .before .before .before .before .before .before .free-before .ensures) (c .before .before .before .before .before .before .before .before .work .ensures) (c .before .before .before .before .before .answer .given .1), omega (arith, all, few, c .before .before .before .before .before .before .before .before .before .before .before .before .before .before .before .before .before .before .before .before .before .before .pre .0))
+    let some : 1 ≤ c .before .before .before .before .before .before .before .before .before .before .before .loop .count = omega (arith, c .before .before .before .before .before .before .before .before .before .before .loop-test .taken) in
+    let few : c .before .before .before .before .before .before .before .before .work .result .clock .0 ≤ freeBefore (timer (c .before .before .before .before .before .before .before .before .before .before .before .before .before .before .before .before .before .before .args .s) (c .before .before .before .before .before .before .before .before .before .before .before .before .before .before .before .before .before .before .args .p)) (c .before .before .before .before .before .before .before .before .before .before .before .before .before .before .before .before .before .before .args .until .0) =
+    omega (arith, c .before .before .before .before .before .before .before .before .before .before .before .before .before .free-before .ensures, free-in-time (c .before .before .before .before .before .before .before .before .before .before .before .before .before .before .before .before .before .before .pre .1) (c .before .before .before .before .before .before .before .before .before .before .before .loop .inv .0) (c .before .before .before .before .before .before .before .before .before .before .before .before .before .before .before .before .before .before .pre .0) some (c .before .before .before .before .before .before .before .before .before .before .before .loop .inv .1) (c .before .before .before .before .before .before .before .before .before .before .before .before .before .free-before .ensures) (c .before .before .before .before .before .before .before .before .work .ensures .0) (c .before .before .before .before .before .before .before .before .work .ensures .1) (c .before .before .before .before .before .answer .given .1)) in
+    let all = free-and-taken (c .before .before .before .before .before .before .before .before .before .before .before .before .before .before .before .before .before .before .args .s) (c .before .before .before .before .before .before .before .before .before .before .before .before .before .before .before .before .before .before .args .p) (c .before .before .before .before .before .before .before .before .before .before .before .before .before .before .before .before .before .before .args .until .0) (c .before .before .before .before .before .before .before .before .before .before .before .before .before .before .before .before .before .before .pre .1 .s-below-p) in
+    (c .before .before .before .before .before .before .before .before .before .before .before .before .before .before .before .before .before .before .pre .1, some-free (c .before .before .before .before .before .before .before .before .before .before .before .before .before .before .before .before .before .before .pre .1) (c .before .before .before .before .before .before .before .before .before .before .before .loop .inv .0) (c .before .before .before .before .before .before .before .before .before .before .before .before .before .before .before .before .before .before .pre .0) some (c .before .before .before .before .before .before .before .before .before .before .before .loop .inv .1) (c .before .before .before .before .before .before .before .before .before .before .before .before .before .free-before .ensures) (c .before .before .before .before .before .before .before .before .work .ensures .0) (c .before .before .before .before .before .before .before .before .work .ensures .1) (c .before .before .before .before .before .answer .given .1), omega (arith, all, few, c .before .before .before .before .before .before .before .before .before .before .before .before .before .before .before .before .before .before .pre .0))
 
 log-finish-requires : tie.Need-log-finish-requires Inv-loop μ-loop
 log-finish-requires c κs =
-    let bounds = c .before .before .before .before .before .before .before .before .before .before .before .before .before .before .before .before .before .loop .inv .0 .in-bounds in
-    (bounds .within, omega (arith, bounds .few-late, c .before .before .before .before .before .before .before .before .before .before .before .before .before .before .before .before .loop-test .taken))
+    let bounds = c .before .before .before .before .before .before .before .before .before .before .before .before .before .loop .inv .0 .in-bounds in
+    (bounds .within, omega (arith, bounds .few-late, c .before .before .before .before .before .before .before .before .before .before .before .before .loop-test .taken))
 
 loop-less : tie.Need-loop-less Inv-loop μ-loop
-loop-less c = omega (arith, one-less (c .before .before .before .before .before .before .before .before .before .before .before .before .before .before .before .before .before .before .before .before .before .before .before .before .before .before .before .pre .1) (c .before .before .before .before .before .before .before .before .before .before .before .before .before .before .before .before .before .before .before .before .loop .inv .0) (c .before .before .before .before .before .before .before .before .before .before .before .before .before .before .before .before .before .before .before .before .before .before .before .before .before .before .before .pre .0) (omega (arith, c .before .before .before .before .before .before .before .before .before .before .before .before .before .before .before .before .before .before .before .loop-test .taken)) (c .before .before .before .before .before .before .before .before .before .before .before .before .before .before .before .before .before .before .before .before .loop .inv .1) (c .before .before .before .before .before .before .before .before .before .before .before .before .before .before .before .before .before .before .before .before .before .before .free-before .ensures) (c .before .before .before .before .before .before .before .before .before .before .before .before .before .work .ensures) (c .before .before .before .before .before .before .before .before .before .before .answer .given .1))
+loop-less c = omega (arith, one-less (c .before .before .before .before .before .before .before .before .before .before .before .before .before .before .before .before .before .before .before .before .before .before .before .pre .1) (c .before .before .before .before .before .before .before .before .before .before .before .before .before .before .before .before .loop .inv .0) (c .before .before .before .before .before .before .before .before .before .before .before .before .before .before .before .before .before .before .before .before .before .before .before .pre .0) (omega (arith, c .before .before .before .before .before .before .before .before .before .before .before .before .before .before .before .loop-test .taken)) (c .before .before .before .before .before .before .before .before .before .before .before .before .before .before .before .before .loop .inv .1) (c .before .before .before .before .before .before .before .before .before .before .before .before .before .before .before .before .before .before .free-before .ensures) (c .before .before .before .before .before .before .before .before .before .before .before .before .before .work .ensures .0) (c .before .before .before .before .before .before .before .before .before .before .before .before .before .work .ensures .1) (c .before .before .before .before .before .before .before .before .before .before .answer .given .1))
 
 loop-again : tie.Need-loop-again Inv-loop μ-loop
 loop-again c =
     let so = c .before .before .before .before .after-free .ensures in
-    let some : 1 ≤ c .before .before .before .before .before .before .before .before .before .before .before .before .before .before .before .before .before .before .before .before .loop .count = omega (arith, c .before .before .before .before .before .before .before .before .before .before .before .before .before .before .before .before .before .before .before .loop-test .taken) in
-    (rw so (finished-on (c .before .before .before .before .before .before .before .before .before .before .before .before .before .before .before .before .before .before .before .before .before .before .before .before .before .before .before .pre .1) (c .before .before .before .before .before .before .before .before .before .before .before .before .before .before .before .before .before .before .before .before .loop .inv .0) (c .before .before .before .before .before .before .before .before .before .before .before .before .before .before .before .before .before .before .before .before .before .before .before .before .before .before .before .pre .0) some (c .before .before .before .before .before .before .before .before .before .before .before .before .before .before .before .before .before .before .before .before .loop .inv .1) (c .before .before .before .before .before .before .before .before .before .before .before .before .before .before .before .before .before .before .before .before .before .before .free-before .ensures) (c .before .before .before .before .before .before .before .before .before .before .before .before .before .work .ensures) (c .before .before .before .before .before .before .before .before .before .before .answer .given .1) refl (rw so at (c .before .before .log-finish .ensures))), rw so (free-so (c .before .before .before .before .before .before .before .before .before .before .before .before .before .before .before .before .before .before .before .before .before .before .before .before .before .before .before .pre .1) (c .before .before .before .before .before .before .before .before .before .before .before .before .before .before .before .before .before .before .before .before .loop .inv .0) (c .before .before .before .before .before .before .before .before .before .before .before .before .before .before .before .before .before .before .before .before .before .before .before .before .before .before .before .pre .0) some (c .before .before .before .before .before .before .before .before .before .before .before .before .before .before .before .before .before .before .before .before .loop .inv .1) (c .before .before .before .before .before .before .before .before .before .before .before .before .before .before .before .before .before .before .before .before .before .before .free-before .ensures) (c .before .before .before .before .before .before .before .before .before .before .before .before .before .work .ensures) (c .before .before .before .before .before .before .before .before .before .before .answer .given .1)))
+    let some : 1 ≤ c .before .before .before .before .before .before .before .before .before .before .before .before .before .before .before .before .loop .count = omega (arith, c .before .before .before .before .before .before .before .before .before .before .before .before .before .before .before .loop-test .taken) in
+    (rw so (finished-on (c .before .before .before .before .before .before .before .before .before .before .before .before .before .before .before .before .before .before .before .before .before .before .before .pre .1) (c .before .before .before .before .before .before .before .before .before .before .before .before .before .before .before .before .loop .inv .0) (c .before .before .before .before .before .before .before .before .before .before .before .before .before .before .before .before .before .before .before .before .before .before .before .pre .0) some (c .before .before .before .before .before .before .before .before .before .before .before .before .before .before .before .before .loop .inv .1) (c .before .before .before .before .before .before .before .before .before .before .before .before .before .before .before .before .before .before .free-before .ensures) (c .before .before .before .before .before .before .before .before .before .before .before .before .before .work .ensures .0) (c .before .before .before .before .before .before .before .before .before .before .before .before .before .work .ensures .1) (c .before .before .before .before .before .before .before .before .before .before .answer .given .1) refl (rw so at (c .before .before .log-finish .ensures))), rw so (free-so (c .before .before .before .before .before .before .before .before .before .before .before .before .before .before .before .before .before .before .before .before .before .before .before .pre .1) (c .before .before .before .before .before .before .before .before .before .before .before .before .before .before .before .before .loop .inv .0) (c .before .before .before .before .before .before .before .before .before .before .before .before .before .before .before .before .before .before .before .before .before .before .before .pre .0) some (c .before .before .before .before .before .before .before .before .before .before .before .before .before .before .before .before .loop .inv .1) (c .before .before .before .before .before .before .before .before .before .before .before .before .before .before .before .before .before .before .free-before .ensures) (c .before .before .before .before .before .before .before .before .before .before .before .before .before .work .ensures .0) (c .before .before .before .before .before .before .before .before .before .before .before .before .before .work .ensures .1) (c .before .before .before .before .before .before .before .before .before .before .answer .given .1)))
 
 same-length-2 : tie.Need-same-length-2 Inv-loop μ-loop
 same-length-2 c = c .before .loop .inv .0 .same-length

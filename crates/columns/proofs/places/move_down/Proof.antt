@@ -1,22 +1,21 @@
--- `columns::places::close_up` meets its contract. The loop has moved what stood at the places from `at` to i down by one.
+-- `columns::places::move_down` meets its contract. The loop has moved the first i of the entries to the front.
 use Prim.Native.Nat.{_-_, _≤_}
-use mathlib.Core.Path.{_≡_}
+use mathlib.Core.Path.{_≡_, refl}
 use native.Mathlib.Omega.{arith}
 use lib.ListN.{length}
-use Rattle.jobs.specs.Places.{maxPlaces}
-use Rattle.columns.specs.FirstAndClosing.{closedUp}
-use Rattle.columns.proofs.ClosingUp.{closed-none, closed-more}
-use Rattle.columns.proofs.places.close_up.Statement.{statement}
-use Rattle.columns.proofs.places.close_up.Tie as tie
+use Rattle.columns.specs.Columns.{maxEntries, movedDown}
+use Rattle.columns.proofs.Moving.{moved-more}
+use Rattle.columns.proofs.places.move_down.Statement.{statement}
+use Rattle.columns.proofs.places.move_down.Tie as tie
 
 abbrev Inv-loop : tie.InvT-loop
-Inv-loop values₀ at last i₀ values i = (at ≤ i) × (i ≤ last) × (length values₀ ≡ maxPlaces → values ≡ closedUp at i values₀)
+Inv-loop values₀ first count i₀ values i = (i ≤ count) × (length values₀ ≡ maxEntries → values ≡ movedDown first i values₀)
 
 abbrev μ-loop : tie.MeasureT-loop
-μ-loop values₀ at last i₀ values i = last - i
+μ-loop values₀ first count i₀ values i = count - i
 
 loop-holds : tie.Need-loop-holds Inv-loop μ-loop
-loop-holds c = (omega arith, omega arith, λ h. closed-none (c .args .values .now) (c .args .at))
+loop-holds c = (omega arith, λ h. refl)
 
 add-values : tie.Need-add-values Inv-loop μ-loop
 add-values c = omega arith
@@ -43,16 +42,16 @@ loop-again : tie.Need-loop-again Inv-loop μ-loop
 loop-again c =
     let a = c .before .before .before .args in
     let k = c .before .before .loop in
-    (omega arith, omega arith, λ h. rw (k .inv .2 h) (closed-more (a .values .now) (a .at) (k .i) (k .inv .0) (omega arith)))
+    (omega arith, λ h. rw (k .inv .1 h) (moved-more (a .values .now) (a .first) (k .i) (omega arith)))
 
 returns : tie.Need-returns Inv-loop μ-loop
 returns c =
     let k = c .before .loop in
-    let e : k .i ≡ c .before .before .args .last = omega arith in
-    rw (← e) (k .inv .2)
+    let e : k .i ≡ c .before .before .args .count = omega arith in
+    rw (← e) (k .inv .1)
 
-pub close-up-spec : {M : Type 1} → statement M
-close-up-spec =
+pub move-down-spec : {M : Type 1} → statement M
+move-down-spec =
     tie.close
     (tie.spec
     Inv-loop
