@@ -83,6 +83,17 @@ mod tests {
         (status, first, second)
     }
 
+    /// Both calls refuse the table so, whatever the script is, and a replay leaves a log of zeros.
+    fn refused_by_both(table: &[u8], refusal: (u32, u64, u64)) {
+        let mut log = [0xee; 14];
+        assert_eq!(judged(table), refusal);
+        for script in [&R1[..], &[0x80, 0x00], &[]] {
+            assert_eq!(replayed(table, script, &mut log), refusal);
+            assert_eq!(log, [0; 14]);
+            log.fill(0xee);
+        }
+    }
+
     fn replayed(table: &[u8], script: &[u8], log: &mut [u8]) -> (u32, u64, u64) {
         let mut answer = [0xee; 16];
         let status = replay(table, script, log, &mut answer);
@@ -122,13 +133,7 @@ mod tests {
             (&[0x80, 0x20], (1, 2, 0)),
             (&spell_with([0, 919], &[[1, 1_141, 1, 1]]), (5, 9, 0)),
         ] {
-            let mut log = [0xee; 14];
-            assert_eq!(judged(table), refusal);
-            for script in [&R1[..], &[0x80, 0x00], &[]] {
-                assert_eq!(replayed(table, script, &mut log), refusal);
-                assert_eq!(log, [0; 14]);
-                log.fill(0xee);
-            }
+            refused_by_both(table, refusal);
         }
     }
 
@@ -169,13 +174,7 @@ mod tests {
             (&spell(&[[1, 4, 4, 5_000]]), (3, 6, 0)),
             (&spell_with([3, 128], &[[1, 4, 4, 5]]), (16, 7, 0)),
         ] {
-            let mut log = [0xee; 14];
-            assert_eq!(judged(table), refusal);
-            for script in [&R1[..], &[0x80, 0x00], &[]] {
-                assert_eq!(replayed(table, script, &mut log), refusal);
-                assert_eq!(log, [0; 14]);
-                log.fill(0xee);
-            }
+            refused_by_both(table, refusal);
         }
     }
 
