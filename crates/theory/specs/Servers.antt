@@ -5,10 +5,9 @@
 use Prim.Native.Nat.{ℕ, _+_, _-_, _*_, _/_, _≤_, _<_, _∣_, max}
 use mathlib.Core.Path.{_≡_}
 use mathlib.Core.List.{List, [], _∷_}
-use Rattle.theory.specs.Lists.{All}
 use Rattle.theory.specs.Curves.{Curve}
 use Rattle.theory.specs.Jobs.{Job, BoundedBy}
-use Rattle.theory.specs.DueTimes.{latest, dues}
+use Rattle.theory.specs.DueTimes.{dues}
 
 -- How many ticks a cost of e units takes at the size a/b: e · b / a, rounded up. (4.9)
 unfoldable pub ticksFor : (a b e : ℕ) → ℕ
@@ -32,16 +31,11 @@ serverDemand a b L = a * L / b
 abbrev pub serverGrowth : (a b period : ℕ) → ℕ
 serverGrowth a b period = a * (period / b)
 
--- The job j may come next after the earlier jobs of its server: it is not released before them, and its due time is that of the rule after them. Its cost may be
--- any. (4.9)
-pub record NextOdd (a b : ℕ) (earlier : List Job) (j : Job) : Type 0 where
-  pub in-order : latest earlier ≤ j .release
-  pub due-by-rule : j .due ≡ serverDue a b (lastDue (dues earlier)) (j .release) (j .cost)
-
--- The jobs are those of one server, newest first, and each has the due time that the rule gives it after the jobs before it. (4.9)
+-- The jobs are those of one server, newest first, and each has the due time that the rule gives it after the jobs before it. Nothing else is asked of them:
+-- their costs and releases may be any. (4.9)
 unfoldable pub ByServer : (a b : ℕ) → List Job → Type 0
 ByServer a b [] = Unit {0}
-ByServer a b (j ∷ earlier) = NextOdd a b earlier j × ByServer a b earlier
+ByServer a b (j ∷ earlier) = (j .due ≡ serverDue a b (lastDue (dues earlier)) (j .release) (j .cost)) × ByServer a b earlier
 
 -- The one odd job that a length L names: released at zero, as the server's first, with a cost of floor(a · L / b), as large as the length allows. (5.17)
 abbrev pub longestOdd : (a b source name L : ℕ) → Job
