@@ -96,5 +96,5 @@ NoOrderOnAnyTick = (bytes : List ℕ) → Bytes bytes → (rows : List Row) → 
 -- accepted. (3.6)
 abbrev pub SpelledSaysRowsAlone : Type 0
 SpelledSaysRowsAlone = (rows : List Row) (period : ℕ) → GoodRows rows
-    → let bytes = 0x00 ∷ 0x01 ∷ (spelledRows rows ++ (0x00 ∷ [])) in
+    → let bytes : List ℕ = 0x00 ∷ 0x01 ∷ (spelledRows rows ++ (0x00 ∷ [])) in
     tableSays (tableRead bytes .answer) ≡ values (period ∷ []) → SaysRowsAlone bytes rows

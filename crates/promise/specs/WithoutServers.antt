@@ -73,5 +73,5 @@ NamedOfRowsAlone = (bytes : List ℕ) (s p : ℕ) (rows : List Row) → SaysNoSe
 -- Such tables exist: of a timer and rows that a table may have, the bytes of before there were servers and the byte `00` say them wherever they are accepted. (3.6)
 abbrev pub SpelledSaysNoServers : Type 0
 SpelledSaysNoServers = (s p : ℕ) (rows : List Row) (period : ℕ) → GoodTimer s p → GoodRows rows
-    → let bytes = spelledBefore s p rows ++ (0x00 ∷ []) in
+    → let bytes : List ℕ = spelledBefore s p rows ++ (0x00 ∷ []) in
     tableSays (tableRead bytes .answer) ≡ values (period ∷ []) → SaysNoServers bytes s p rows
