@@ -100,7 +100,7 @@ abbrev pub heldServersAs : Servers → ServersRead
 heldServersAs (servers vs next) = record { servers = heldServers vs; count = length vs; answer = answer.Until next }
 heldServersAs (refused r) = record { servers = heldServers []; count = 0; answer = answer.Refused r }
 
--- ---- what is proved (proofs/Servers.antt)
+-- ---- what is proved (proofs/ReadingServers.antt)
 
 -- A server passes the test `serverInRange` exactly when 1 ≤ a ≤ b and b is at most its limit. (3.18)
 abbrev pub ServerInRangeMeans : Type 0
