@@ -81,7 +81,11 @@ pub(crate) fn rows_sound(table: Table, kept: [Kept; Table::MAX_ROWS]) -> bool
 }
 
 // Each server in use is one that a table may have, and its last due time is not above 2^40. (6.21, 6.24)
-pub(crate) fn servers_sound(servers: [Server; Table::MAX_SERVERS], serving: usize, last: [Tick; Table::MAX_SERVERS]) -> bool
+pub(crate) fn servers_sound(
+    servers: [Server; Table::MAX_SERVERS],
+    serving: usize,
+    last: [Tick; Table::MAX_SERVERS],
+) -> bool
     requires { ⌜ serving ≤ maxServers ⌝ }
     ensures { λ r. ⌜ r ≡ serversSound (take serving servers) last ⌝ }
 {

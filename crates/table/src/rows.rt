@@ -1,8 +1,8 @@
 // How rows are read: a value, a row of four values, and rows one after another after their count. (docs/RULES.md, 3.3 and 3.6 to 3.10.)
+use crate::PartAnswer;
 use crate::Row;
 use crate::RowAt;
 use crate::RowRead;
-use crate::PartAnswer;
 use crate::RowsRead;
 use crate::Table;
 use crate::within_limit;
