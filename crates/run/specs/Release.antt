@@ -32,12 +32,12 @@ abbrev pub newJob : Run → (row cost : ℕ) → (due : Tick) → Job
 newJob run row cost due = record { serial = run .next; row = record { 0 = row }; release = run .clock; due = due; cost = cost; left = cost }
 
 -- The kept due times after an accepted release. A row's due time is kept for that row, and a server's is kept for no row. (4.6, 6.7)
-abbrev pub keptAfter : Run → (row : ℕ) → (due : Tick) → List Kept
-keptAfter run row due = cond (isRow (run .table) row) (set (run .kept) row (keptWith (keptOf run row) (rowAt (run .table) row) due)) (run .kept)
+abbrev pub keptByRelease : Run → (row : ℕ) → (due : Tick) → List Kept
+keptByRelease run row due = cond (isRow (run .table) row) (set (run .kept) row (keptWith (keptOf run row) (rowAt (run .table) row) due)) (run .kept)
 
 -- The servers' last due times after an accepted release. A server's due time becomes its last due time, and a row's leaves them all alone. (4.9, 6.7)
-abbrev pub lastAfter : Run → (row : ℕ) → (due : Tick) → List Tick
-lastAfter run row due = cond (isRow (run .table) row) (run .last) (set (run .last) (row - run .table .count) due)
+abbrev pub lastByRelease : Run → (row : ℕ) → (due : Tick) → List Tick
+lastByRelease run row due = cond (isRow (run .table) row) (run .last) (set (run .last) (row - run .table .count) due)
 
 -- The run after an accepted release. The job is in the first unused place, the next serial is one higher, and the due time is kept for the job's row, or is the
 -- last due time of its server. The clock, the rows, the servers and the other jobs stay as they were. (6.7)
@@ -47,8 +47,8 @@ withJob run row cost due = record {
   clock = run .clock;
   pending = put (run .pending) (newJob run row cost due);
   next = record { 0 = run .next .0 + 1 };
-  kept = keptAfter run row due;
-  last = lastAfter run row due;
+  kept = keptByRelease run row due;
+  last = lastByRelease run row due;
 }
 
 -- The last test of a release: a due time above 2^40 is refusal 9. An accepted release answers the job's serial and due time. (6.6, 6.8)
