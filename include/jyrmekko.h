@@ -98,11 +98,11 @@ extern "C" {
 #define JYRMEKKO_LOG_SIZE(script_len) (10 * (script_len))
 
 /* The limits. */
-#define JYRMEKKO_MOST_ROWS 64          /* A table has no more rows than this. */
+#define JYRMEKKO_MOST_ROWS 64           /* A table has no more rows than this. */
 #define JYRMEKKO_MOST_SERVERS 8         /* A table has no more servers than this. */
 #define JYRMEKKO_MOST_SERVER_VALUE 4096 /* A server's a and b are no more than this. */
 #define JYRMEKKO_MOST_ODD_COST 4096     /* An odd job costs no more than this. */
-#define JYRMEKKO_MOST_PENDING 256      /* No more jobs than this are pending at a time. */
+#define JYRMEKKO_MOST_PENDING 256       /* No more jobs than this are pending at a time. */
 
 /*
  * The bytes of stack with which a thread can make either call. Measured on x86-64, with any input: below its caller
