@@ -1,4 +1,4 @@
--- The five numbers of a record are first measured and then written, one after another. (docs/RULES.md, section 8.)
+-- The five numbers of a record are first tested and measured, and then written, one after another. (docs/RULES.md, section 8.)
 use Prim.Native.Nat.{ℕ, _+_, _-_, _*_, _≤_, _<_}
 use native.Mathlib.Nat.{zero-add}
 use native.Mathlib.Numerals.{add-one}
@@ -7,8 +7,8 @@ use mathlib.Core.Path.{_≡_, refl, sym, ap, _∙_}
 use mathlib.Core.Bool.{Bool, true, false, _&&_, and-eq-true-iff}
 use mathlib.Core.List.{List, [], _∷_, _++_, flatten, append-nil, append-assoc}
 use lib.Dec.{leb}
-use lib.ListN.{length, getD, take, drop, length-append, length-drop, drop-of-length-le}
-use lib.Seq.{sets, sets-eq, length-sets, drop-cons, drop-drop, drop-length, take-length}
+use lib.ListN.{length, getD, take, drop, length-append, length-take, length-drop, take-append-drop, drop-of-length-le}
+use lib.Seq.{sets, sets-eq, length-sets, drop-cons, drop-drop, drop-append-le, drop-length, take-length}
 use borrow.Author.Tests.{le-leb, lt-leb}
 use borrow.Rule.Slice.PartMut.{midOf, putMid}
 use Rattle.kinds.specs.declared.Finish.{Finish}
@@ -59,6 +59,22 @@ module _ (f : Finish) (room : ℕ) where
 
   pub answers-length : allInRange (valuesOf f) ≡ true → length (spelledFinish f) ≤ room → writtenRecord f room ≡ Length (length (spelledFinish f))
   answers-length e h = simp (e, le-leb _ _ h)
+
+-- ---- the numbers are tested
+
+module _ (values : List ℕ) (i : ℕ) where
+  -- Where value i is above 2^42 - 1, and all depends on the values from i on, not all values have spellings.
+  pub too-big-here : i < length values → maxNumber < getD values i 0 → allInRange (drop i values) ≡ allInRange values → false ≡ allInRange values
+  too-big-here h big e = sym (range-next values i h ∙ simp (lt-leb _ _ big)) ∙ e
+
+  -- Where value i is at most 2^42 - 1, and all depends on the values from i on, all depends on those after it.
+  pub range-left : i < length values → getD values i 0 ≤ maxNumber → allInRange (drop i values) ≡ allInRange values
+      → allInRange (drop (i + 1) values) ≡ allInRange values
+  range-left h fits e = sym (range-next values i h ∙ simp (le-leb _ _ fits)) ∙ e
+
+  -- Where all depends on no value any more, all values have spellings.
+  pub all-tested : length values ≤ i → allInRange (drop i values) ≡ allInRange values → true ≡ allInRange values
+  all-tested h e = rw (drop-of-length-le values h) at e
 
 -- ---- the numbers are counted
 
@@ -117,10 +133,14 @@ module _ (log : List ℕ) (at : ℕ) where
   pub rest-put : (rest : List ℕ) → putMid at (length log - at) log rest ≡ take at log ++ rest
   rest-put rest = rw (← length-drop, drop-length, append-nil)
 
-  -- After a number was written at the place, the log has the number's groups there, one after another.
-  number-put : (v n : ℕ) (rest : List ℕ) → n ≡ length (spelling v) → at + n ≤ length log
-      → rest ≡ bufferAfter (Length n) v (midOf at (length log - at) log) → putMid at (length log - at) log rest ≡ sets log at (spelling v)
-  number-put v n rest e h w = rw (rest-put rest, w, rest-of, drop-drop, e, ← append-assoc) (sym (sets-eq (spelling v) log at (omega arith)))
+  -- After a number was written into a part from the place on that has room for it, the log has the number's groups there, one after another.
+  number-put : (v n size : ℕ) (part : List ℕ) → n ≡ length (spelling v) → n ≤ length (midOf at size log) → part ≡ bufferAfter (Length n) v (midOf at size log)
+      → putMid at size log part ≡ sets log at (spelling v)
+  number-put v n size part e h w =
+      let kept : drop n (midOf at size log) ++ drop size (drop at log) ≡ drop (at + n) log =
+      sym (drop-append-le n (midOf at size log) _ h) ∙ rw (take-append-drop, drop-drop) in
+      let within : at + n ≤ length log = omega (arith, simp (length-take, length-drop) at h, spelling-length v) in
+      rw (w, append-assoc, kept, ← append-assoc, e) (sym (sets-eq (spelling v) log at (omega arith)))
 
 -- ---- the numbers are written
 
@@ -148,23 +168,27 @@ module _ {values rest₀ rest : List ℕ} {at k : ℕ} (p : Standing values rest
   next-has-room : at + length (spelling (getD values k 0)) ≤ length rest
   next-has-room = omega (arith, takes-next values k h, p .takes, p .same-length, p .has-room)
 
-  -- The number writer answers the next value's length.
-  next-fits : written (getD values k 0) (length (midOf at (length rest - at) rest)) ≡ Length (length (spelling (getD values k 0)))
-  next-fits =
-      let room : length (spelling (getD values k 0)) ≤ length (midOf at (length rest - at) rest) = rw (rest-of, length-drop) (omega (arith, next-has-room)) in
-      simp (next-in-range .0, le-leb _ _ room)
+  -- The rest from the place on has room for the next value.
+  pub rest-has-room : length (spelling (getD values k 0)) ≤ length (midOf at (length rest - at) rest)
+  rest-has-room = rw (rest-of, length-drop) (omega (arith, next-has-room))
 
-  module _ {answer : Written} (e : answer ≡ written (getD values k 0) (length (midOf at (length rest - at) rest))) where
+  -- The next value is written into a part from the place on that has room for it.
+  module _ (size : ℕ) (has-room : length (spelling (getD values k 0)) ≤ length (midOf at size rest))
+      {answer : Written} (e : answer ≡ written (getD values k 0) (length (midOf at size rest))) where
+    -- The number writer answers the next value's length.
+    next-fits : written (getD values k 0) (length (midOf at size rest)) ≡ Length (length (spelling (getD values k 0)))
+    next-fits = simp (next-in-range .0, le-leb _ _ has-room)
+
     -- The next value is never refused.
     pub never-refused : {r : Refusal} → answer ≡ Refused r → ⊥
     never-refused a = let f = next-fits in impossible cc
 
     -- After it was written, the next value stands behind the others.
-    pub one-standing : {n : ℕ} {after : List ℕ} → after ≡ bufferAfter answer (getD values k 0) (midOf at (length rest - at) rest) → answer ≡ Length n
-        → Standing values rest₀ (putMid at (length rest - at) rest after) (at + n) (k + 1)
+    pub one-standing : {n : ℕ} {after : List ℕ} → after ≡ bufferAfter answer (getD values k 0) (midOf at size rest) → answer ≡ Length n
+        → Standing values rest₀ (putMid at size rest after) (at + n) (k + 1)
     one-standing {n} {after} w a =
         let took = length-answered (getD values k 0) _ n (sym e ∙ a) .spelled in
-        rw (number-put rest at (getD values k 0) n after took (omega (arith, next-has-room)) (rw a at w)) record {
+        rw (number-put rest at (getD values k 0) n size after took (omega arith) (rw a at w)) record {
           not-past = omega arith;
           in-range = next-in-range .1;
           takes = omega (arith, took, takes-next values k h, p .takes);

@@ -5,6 +5,7 @@ use kinds::Refusal;
 use kinds::RefusedAt;
 ghost use mathlib.Core.Path.{_≡_};
 ghost use Prim.Native.Nat.{_≤_};
+ghost use lib.Dec.{leb};
 ghost use lib.ListN.{length};
 ghost use Rattle.numbers.specs.Spelling.{maxGroups, maxNumber, spelling};
 ghost use Rattle.numbers.specs.Reading.{readAt, misspelledAt};
@@ -123,6 +124,17 @@ pub fn length_of(value: u64) -> Written
     Written::Length(spelled_length(value))
 }
 
+// Whether the spelling of a number of at most 2^42 − 1 has room in so many bytes. It has at most six, so it is measured only where there are fewer. (2.2)
+fn has_room(value: u64, room: usize) -> bool
+    requires { ⌜ value ≤ maxNumber ⌝ }
+    ensures { λ r. ⌜ r ≡ leb (length (spelling value)) room ⌝ }
+{
+    if Number::MAX_GROUPS <= room {
+        return true;
+    }
+    spelled_length(value) <= room
+}
+
 // Writes a number's spelling at the buffer's start, keeps the rest of the buffer as it was, and answers the spelling's length. A number above 2^42 − 1 is
 // refusal 25, and after that a spelling longer than the buffer is refusal 12. With either refusal the whole buffer is unchanged. (2.12 to 2.14)
 pub fn write(buffer: &mut [u8], value: u64) -> Written
@@ -132,8 +144,7 @@ pub fn write(buffer: &mut [u8], value: u64) -> Written
     if value > Number::MAX {
         return Written::Refused(Refusal::NumberTooBig);
     }
-    let n = spelled_length(value);
-    if n > buffer.len() {
+    if !has_room(value, buffer.len()) {
         return Written::Refused(Refusal::NoRoom);
     }
     let mut rest = value;
@@ -144,5 +155,5 @@ pub fn write(buffer: &mut [u8], value: u64) -> Written
         i += 1;
     }
     buffer[i] = rest as u8;
-    Written::Length(n)
+    Written::Length(i + 1)
 }

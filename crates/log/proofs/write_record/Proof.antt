@@ -1,159 +1,152 @@
--- `log::write_record` meets its contract. The invariant of the first loop is that the numbers so far have spellings and are counted. The invariant of the
--- second is that the numbers so far stand at the start of the rest. A number that was counted is never refused.
-use Prim.Native.Nat.{_+_, _-_}
+-- `log::write_record` meets its contract. The loop's invariant is that the numbers so far stand at the start of the rest, in at most six bytes each. A number
+-- that was tested is never refused.
+use Prim.Native.Nat.{_+_, _-_, _*_, _≤_}
 use native.Mathlib.Omega.{arith}
 use mathlib.Core.Path.{_≡_, refl, sym, ap, _∙_}
 use mathlib.Core.Bool.{true}
-use lib.ListN.{length}
+use lib.ListN.{length, getD}
 use borrow.Author.Needs.{needs}
-use borrow.Rule.Slice.PartMut.{putMid}
+use borrow.Author.Tests.{not-true, not-false}
+use borrow.Rule.Slice.PartMut.{midOf, putMid, mid-len}
 use Rattle.numbers.specs.declared.Written.the-variants.{Length}
-use Rattle.log.specs.Log.{valuesOf, spelledFinish, allInRange}
-use Rattle.log.proofs.Records.{spelled-length, answers-too-big, answers-no-room, answers-length}
-use Rattle.log.proofs.Records.{Counted, none-counted, one-counted, one-too-big, all-counted}
+use Rattle.numbers.specs.Spelling.{maxGroups, spelling}
+use Rattle.numbers.proofs.Spellings.{spelling-length, length-answered}
+use Rattle.log.specs.Log.{allInRange}
+use Rattle.log.proofs.Records.{spelled-length, answers-too-big, answers-length}
 use Rattle.log.proofs.Records.{Standing, none-standing, never-refused, one-standing, all-standing}
 use Rattle.log.proofs.write_record.Statement.{statement}
 use Rattle.log.proofs.write_record.Tie as tie
 
 abbrev Inv-loop : tie.InvT-loop
-Inv-loop rest values room₀ i₀ room i = Counted values room i
+Inv-loop rest₀ values at₀ k₀ rest at k = Standing values rest₀ rest at k × (at ≤ maxGroups * k)
 
 abbrev μ-loop : tie.MeasureT-loop
-μ-loop rest values room₀ i₀ room i = length values - i
+μ-loop rest₀ values at₀ k₀ rest at k = length values - k
 
-abbrev Inv-loop2 : tie.InvT-loop2
-Inv-loop2 rest₀ values room i at₀ k₀ rest at k = Standing values rest₀ rest at k
+-- After the test all numbers have spellings.
+all : (c : tie.Else2 Inv-loop μ-loop) → allInRange (c .before .before .values-of .result) ≡ true
+all c = sym (c .before .all-in-range .ensures) ∙ not-false _ (c .if2 .left)
 
-abbrev μ-loop2 : tie.MeasureT-loop2
-μ-loop2 rest₀ values room i at₀ k₀ rest at k = length values - k
+-- The six bytes that are lent have room for the next number.
+room : (c : tie.In-loop Inv-loop μ-loop)
+    → (let l = c .before .loop in
+    let values = c .before .before .before .before .values-of .result in
+    length (spelling (getD values (l .k) 0)) ≤ length (midOf (l .at) (l .at + maxGroups - l .at) (l .rest)))
+room c =
+    let l = c .before .loop in
+    let values = c .before .before .before .before .values-of .result in
+    rw (mid-len (l .at) (l .at + maxGroups) (l .rest) (omega (arith, l .inv .0 .same-length))) (omega (arith, spelling-length (getD values (l .k) 0)))
 
--- One turn of the first loop counts one more number.
-counted : (c : tie.After-known-told Inv-loop μ-loop Inv-loop2 μ-loop2)
-    → (let at-loop = c .before .before .before .before .before in
-    let l = at-loop .loop in
-    Counted (valuesOf (at-loop .before .before .args .job)) (l .room + c .before .n .given .0 .0) (l .i + 1))
-counted c =
-    let answered = sym (c .before .before .before .length-of .ensures) ∙ c .before .n .given .1 in
-    one-counted (c .before .before .before .before .before .loop .inv) (omega arith) answered
-
--- After the first loop all numbers have spellings, and `room` is the record's length.
-all : (c : tie.After-loop Inv-loop μ-loop Inv-loop2 μ-loop2)
-    → (let f = c .before .before .before .args .job in (allInRange (valuesOf f) ≡ true) × (c .before .loop .room ≡ length (spelledFinish f)))
-all c = all-counted (c .before .loop .inv) (omega arith)
-
--- One turn of the second loop puts one more number behind the others.
-standing : (c : tie.After-known-told3 Inv-loop μ-loop Inv-loop2 μ-loop2)
+-- One turn of the loop puts one more number behind the others.
+standing : (c : tie.After-known-told Inv-loop μ-loop)
     → (let at-loop = c .before .before .before .before .before .before .before .before in
-    let a = at-loop .before .before .before .before .before .args in
-    let l = at-loop .loop2 in
-    let after = putMid (l .at) (length (l .rest) - l .at) (l .rest) (c .before .before .before .before .before .write .last .0) in
-    Standing (valuesOf (a .job)) (a .rest .now) after (l .at + c .before .n2 .given .0 .0) (l .k + 1))
+    let entered = at-loop .before .before .before in
+    let l = at-loop .loop in
+    let after = putMid (l .at) (l .at + maxGroups - l .at) (l .rest) (c .before .before .before .before .before .write .last .0) in
+    Standing (entered .values-of .result) (entered .before .before .before .args .rest .now) after (l .at + c .before .n .given .0 .0) (l .k + 1)
+    × (l .at + c .before .n .given .0 .0 ≤ maxGroups * (l .k + 1)))
 standing c =
     let e = c .before .before .before .before .before .write .ensures in
-    one-standing (c .before .before .before .before .before .before .before .before .loop2 .inv) (omega arith) (e .0) (e .1) (c .before .n2 .given .1)
+    let in-loop = c .before .before .before .before .before .before .before in
+    let l = in-loop .before .loop in
+    let values = in-loop .before .before .before .before .values-of .result in
+    let took = length-answered (getD values (l .k) 0) _ (c .before .n .given .0 .0) (sym (e .0) ∙ c .before .n .given .1) .spelled in (
+      one-standing (l .inv .0) (omega arith) (l .at + maxGroups - l .at) (room in-loop) (e .0) (e .1) (c .before .n .given .1),
+      omega (arith, took, spelling-length (getD values (l .k) 0)),
+    )
 
--- The number writer never refuses in the second loop.
-never : (c : tie.After-known-told4 Inv-loop μ-loop Inv-loop2 μ-loop2) → ⊥
+-- The number writer never refuses.
+never : (c : tie.After-known-told2 Inv-loop μ-loop) → ⊥
 never c =
     let e = c .before .before .before .before .before .write .ensures in
-    never-refused (c .before .before .before .before .before .before .before .before .loop2 .inv) (omega arith) (e .0) (c .before .r2 .given .1)
+    let in-loop = c .before .before .before .before .before .before .before in
+    let l = in-loop .before .loop in
+    never-refused (l .inv .0) (omega arith) (l .at + maxGroups - l .at) (room in-loop) (e .0) (c .before .r .given .1)
 
-loop-holds : tie.Need-loop-holds Inv-loop μ-loop Inv-loop2 μ-loop2
-loop-holds c = none-counted (valuesOf (c .before .args .job))
+mul-if1 : tie.Need-mul-if1 Inv-loop μ-loop
+mul-if1 c = omega arith
 
-mul-length-of : tie.Need-mul-length-of Inv-loop μ-loop Inv-loop2 μ-loop2
-mul-length-of c = omega arith
+write-measured-requires : tie.Need-write-measured-requires Inv-loop μ-loop
+write-measured-requires c κs = search needs
 
-array-read-length-of : tie.Need-array-read-length-of Inv-loop μ-loop Inv-loop2 μ-loop2
-array-read-length-of c = omega arith
+same-length : tie.Need-same-length Inv-loop μ-loop
+same-length c = omega arith
 
-length-of-requires : tie.Need-length-of-requires Inv-loop μ-loop Inv-loop2 μ-loop2
-length-of-requires c κs = search needs
+returns : tie.Need-returns Inv-loop μ-loop
+returns c = c .before .before .write-measured .ensures
 
-enum-known-n : tie.Need-enum-known-n Inv-loop μ-loop Inv-loop2 μ-loop2
-enum-known-n c = omega arith
+values-of-requires : tie.Need-values-of-requires Inv-loop μ-loop
+values-of-requires c κs = search needs
 
-add-room : tie.Need-add-room Inv-loop μ-loop Inv-loop2 μ-loop2
-add-room c = omega (arith, counted c, spelled-length (valuesOf (c .before .before .before .before .before .before .before .args .job)))
+all-in-range-requires : tie.Need-all-in-range-requires Inv-loop μ-loop
+all-in-range-requires c κs = search needs
 
-enum-known-r : tie.Need-enum-known-r Inv-loop μ-loop Inv-loop2 μ-loop2
-enum-known-r c = omega arith
-
-returns : tie.Need-returns Inv-loop μ-loop Inv-loop2 μ-loop2
-returns c =
-    let at-loop = c .before .before .before .before .before in
-    let answered = sym (c .before .before .before .length-of .ensures) ∙ c .before .r .given .1 in
-    let t = one-too-big (at-loop .loop .inv) (omega arith) answered in
-    (rw (t .1) (sym (answers-too-big (at-loop .before .before .args .job) _ (t .0))), refl)
-
-add-i : tie.Need-add-i Inv-loop μ-loop Inv-loop2 μ-loop2
-add-i c = omega arith
-
-loop-less : tie.Need-loop-less Inv-loop μ-loop Inv-loop2 μ-loop2
-loop-less c = omega arith
-
-loop-again : tie.Need-loop-again Inv-loop μ-loop Inv-loop2 μ-loop2
-loop-again c = counted c
-
-returns-2 : tie.Need-returns-2 Inv-loop μ-loop Inv-loop2 μ-loop2
+returns-2 : tie.Need-returns-2 Inv-loop μ-loop
 returns-2 c =
-    let f = c .before .before .before .before .args .job in
-    (sym (answers-no-room f _ (all (c .before) .0) (omega (arith, all (c .before)))), refl)
+    let f = c .before .before .before .before .before .args .job in
+    let big = rw (c .before .before .values-of .ensures) at (sym (c .before .all-in-range .ensures) ∙ not-true _ (c .if2 .taken)) in
+    (sym (answers-too-big f _ big), refl)
 
-loop2-holds : tie.Need-loop2-holds Inv-loop μ-loop Inv-loop2 μ-loop2
-loop2-holds c = none-standing _ _ (all (c .before) .0) (omega (arith, all (c .before)))
+loop-holds : tie.Need-loop-holds Inv-loop μ-loop
+loop-holds c =
+    let values = c .before .before .values-of .result in
+    (none-standing _ _ (all c) (omega (arith, spelled-length values)), omega arith)
 
-sub-write : tie.Need-sub-write Inv-loop μ-loop Inv-loop2 μ-loop2
+add-end : tie.Need-add-end Inv-loop μ-loop
+add-end c = omega arith
+
+sub-write : tie.Need-sub-write Inv-loop μ-loop
 sub-write c = omega arith
 
-part-write-start : tie.Need-part-write-start Inv-loop μ-loop Inv-loop2 μ-loop2
+part-write-start : tie.Need-part-write-start Inv-loop μ-loop
 part-write-start c = omega arith
 
-part-write-end : tie.Need-part-write-end Inv-loop μ-loop Inv-loop2 μ-loop2
-part-write-end c = omega arith
+part-write-end : tie.Need-part-write-end Inv-loop μ-loop
+part-write-end c = omega (arith, c .before .loop .inv .0 .same-length)
 
-mul-write : tie.Need-mul-write Inv-loop μ-loop Inv-loop2 μ-loop2
+mul-write : tie.Need-mul-write Inv-loop μ-loop
 mul-write c = omega arith
 
-array-read-write : tie.Need-array-read-write Inv-loop μ-loop Inv-loop2 μ-loop2
+array-read-write : tie.Need-array-read-write Inv-loop μ-loop
 array-read-write c = omega arith
 
-write-requires : tie.Need-write-requires Inv-loop μ-loop Inv-loop2 μ-loop2
+write-requires : tie.Need-write-requires Inv-loop μ-loop
 write-requires c κs = search needs
 
-enum-known-n-2 : tie.Need-enum-known-n-2 Inv-loop μ-loop Inv-loop2 μ-loop2
-enum-known-n-2 c = omega arith
+enum-known-n : tie.Need-enum-known-n Inv-loop μ-loop
+enum-known-n c = omega arith
 
-add-at : tie.Need-add-at Inv-loop μ-loop Inv-loop2 μ-loop2
+add-at : tie.Need-add-at Inv-loop μ-loop
 add-at c = omega (arith, standing c)
 
-enum-known-r-2 : tie.Need-enum-known-r-2 Inv-loop μ-loop Inv-loop2 μ-loop2
-enum-known-r-2 c = omega arith
+enum-known-r : tie.Need-enum-known-r Inv-loop μ-loop
+enum-known-r c = omega arith
 
-same-length : tie.Need-same-length Inv-loop μ-loop Inv-loop2 μ-loop2
-same-length c = absurd (never c)
+same-length-2 : tie.Need-same-length-2 Inv-loop μ-loop
+same-length-2 c = absurd (never c)
 
-returns-3 : tie.Need-returns-3 Inv-loop μ-loop Inv-loop2 μ-loop2
+returns-3 : tie.Need-returns-3 Inv-loop μ-loop
 returns-3 c = absurd (never c)
 
-add-k : tie.Need-add-k Inv-loop μ-loop Inv-loop2 μ-loop2
+add-k : tie.Need-add-k Inv-loop μ-loop
 add-k c = omega arith
 
-loop2-less : tie.Need-loop2-less Inv-loop μ-loop Inv-loop2 μ-loop2
-loop2-less c = omega arith
+loop-less : tie.Need-loop-less Inv-loop μ-loop
+loop-less c = omega arith
 
-loop2-again : tie.Need-loop2-again Inv-loop μ-loop Inv-loop2 μ-loop2
-loop2-again c = standing c
+loop-again : tie.Need-loop-again Inv-loop μ-loop
+loop-again c = standing c
 
-same-length-2 : tie.Need-same-length-2 Inv-loop μ-loop Inv-loop2 μ-loop2
-same-length-2 c = c .before .loop2 .inv .same-length
+same-length-3 : tie.Need-same-length-3 Inv-loop μ-loop
+same-length-3 c = c .before .loop .inv .0 .same-length
 
-returns-4 : tie.Need-returns-4 Inv-loop μ-loop Inv-loop2 μ-loop2
+returns-4 : tie.Need-returns-4 Inv-loop μ-loop
 returns-4 c =
-    let f = c .before .before .before .before .before .before .args .job in
-    let p = c .before .loop2 .inv in
+    let entered = c .before .before .before .before in
+    let f = entered .before .before .before .args .job in
+    let p = rw (entered .values-of .ensures) at (c .before .loop .inv .0) in
     let s = all-standing p (omega arith) in
-    (ap Length (s .0) ∙ sym (answers-length f _ (all (c .before .before .before) .0) (p .has-room)), s .1)
+    (ap Length (s .0) ∙ sym (answers-length f _ (rw (entered .values-of .ensures) at (all (c .before .before))) (p .has-room)), s .1)
 
 pub write-record-spec : {M : Type 1} → statement M
 write-record-spec =
@@ -161,34 +154,28 @@ write-record-spec =
     (tie.spec
     Inv-loop
     μ-loop
-    Inv-loop2
-    μ-loop2
-    loop-holds
-    mul-length-of
-    array-read-length-of
-    length-of-requires
-    enum-known-n
-    add-room
-    enum-known-r
+    mul-if1
+    write-measured-requires
+    same-length
     returns
-    add-i
-    loop-less
-    loop-again
+    values-of-requires
+    all-in-range-requires
     returns-2
-    loop2-holds
+    loop-holds
+    add-end
     sub-write
     part-write-start
     part-write-end
     mul-write
     array-read-write
     write-requires
-    enum-known-n-2
+    enum-known-n
     add-at
-    enum-known-r-2
-    same-length
+    enum-known-r
+    same-length-2
     returns-3
     add-k
-    loop2-less
-    loop2-again
-    same-length-2
+    loop-less
+    loop-again
+    same-length-3
     returns-4)
