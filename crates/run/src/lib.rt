@@ -134,6 +134,8 @@ impl Run {
         let table = self.table;
         let pending = self.pending;
         let kept = self.kept;
+        let servers = table.servers;
+        let last = self.last;
         let clock = self.clock;
         let next = self.next;
         if !table::timer_in_range(table.s, table.p) {
@@ -154,7 +156,7 @@ impl Run {
         if !rows_sound(table, kept) {
             return false;
         }
-        if !servers_sound(table.servers, table.serving, self.last) {
+        if !servers_sound(servers, table.serving, last) {
             return false;
         }
         let limits = table.cost_limits();
