@@ -1,10 +1,10 @@
--- Tables without a timer: the proofs. Where s is 0, the timer's count is 0 in every length and the timer takes no tick. So what was proved with a timer is what
--- would be proved without one. (3.16, 5.14, 6.5)
+-- Tables without a timer: the proofs. Where s is 0, the timer's count is 0 in every length and the timer takes no tick, and without servers there is no demand
+-- of theirs. So what was proved with a timer and servers is what would be proved without them. (3.16, 5.14, 6.5)
 use Prim.Native.Nat.{ℕ}
 use mathlib.Core.Path.{_≡_, refl, sym, ap, fun-ext, subst, _∙_}
 use mathlib.Core.Logic.{_↔_}
 use mathlib.Core.Bool.{Bool, true, false, cond}
-use mathlib.Core.List.{List, [], _∷_, append-nil}
+use mathlib.Core.List.{List, [], _∷_, _++_, flatten, append-nil, List·Memᴰ·not-nil}
 use native.Mathlib.Omega.{arith}
 use lib.Dec.{ltb, eqb, leb}
 use lib.ListN.{length}
@@ -14,7 +14,8 @@ use Rattle.kinds.specs.Numbering.{maxTime, values, refusedWith}
 use Rattle.kinds.specs.declared.Refusal.the-variants.{TimeTooLate, RunNotSound}
 use Rattle.kinds.proofs.Apart.{impossible}
 use Rattle.numbers.specs.Spelling as spelling
-use Rattle.theory.specs.Curves.{SmallestFailing}
+use Rattle.theory.specs.Lists.{total}
+use Rattle.theory.specs.Curves.{SmallestFailing, sumOver}
 use Rattle.theory.specs.Ticks.{timerTakes, noneTaken}
 use Rattle.theory.specs.Trace.{Trace, ServesEarliestDue, NeverIdlesInVain}
 use Rattle.theory.proofs.Cases.{by-test}
@@ -26,17 +27,19 @@ use Rattle.table.specs.declared.TableAnswer.the-variants as answer
 use Rattle.table.specs.Limits.{maxPeriod}
 use Rattle.table.specs.Content.{Content, rowsAlone}
 use Rattle.table.specs.Period.{periodOf}
-use Rattle.table.specs.Tables.{contentOf, atEnd, tableRead}
+use Rattle.table.specs.Tables.{serversOf, contentOf, atEnd, tableRead}
 use Rattle.table.specs.SpelledTables.{GoodRows, spelledRows, spelledTable}
 use Rattle.table.specs.Answers.{tableSays}
-use Rattle.table.specs.Refusals.{ContentEnds}
+use Rattle.table.specs.Refusals.{PartStands, ContentEnds}
 use Rattle.table.proofs.Answers.{said-accepted}
 use Rattle.table.proofs.Ranges.{limits-of}
+use Rattle.table.proofs.Spelling.{parted}
 use Rattle.table.proofs.SpelledTables.{content-of-table, content-then}
 use Rattle.table.proofs.SpelledTables as tables
 use Rattle.table.proofs.TableAnswers.{accepted-is-spelled}
 use Rattle.verdict.specs.declared.Verdict.{Verdict}
 use Rattle.verdict.specs.declared.Verdict.the-variants as verdict
+use Rattle.verdict.specs.Demand.{serverDemandOf}
 use Rattle.verdict.specs.Verdict.{RightFor, Judged, verdictSays}
 use Rattle.verdict.specs.RowsAlone.{demandOfRows}
 use Rattle.verdict.proofs.RowsAlone.{judged-by-rows-alone}
@@ -67,6 +70,11 @@ module _ {bytes : List ℕ} {rows : List Row} (says : SaysRowsAlone bytes rows) 
   -- The timer's count is 0 in every length.
   takes-nothing : (L : ℕ) → timerTakes (tableRead bytes .table .s) (tableRead bytes .table .p) L ≡ 0
   takes-nothing L = rw no-s (no-timer (tableRead bytes .table .p) .1 L)
+
+  -- There are no servers, so their demand is 0 in every length.
+  nothing-served : (L : ℕ) → sumOver serverDemandOf (serversOf (tableRead bytes .table)) L ≡ 0
+  unfolding total
+  nothing-served L = rw (ap (λ (content : Content). content .servers) (says .alone))
 
   -- The timer takes no tick.
   none-taken : takenOn (tableRead bytes .table) ≡ noneTaken
@@ -105,7 +113,7 @@ pub feasible-is-the-papers : FeasibleIsThePapers
 feasible-is-the-papers bytes fine rows says v judged =
     let timed = feasible-is-theorem42 bytes fine (says .period) (says .accepted) v judged in (
       (λ said L some. omega (arith, timed .0 said L some)),
-      (λ fits. timed .1 (λ L some. omega (arith, fits L some, takes-nothing says L))),
+      (λ fits. timed .1 (λ L some. omega (arith, fits L some, nothing-served says L, takes-nothing says L))),
     )
 
 -- ---- the run
@@ -173,22 +181,31 @@ no-order-on-any-tick bytes fine rows says v judged L demand said who =
 
 -- ---- such tables exist
 
--- In `00 01` and the spelling of good rows, these rows and their timer end with the bytes.
-rows-end-with-the-bytes : (rows : List Row) → GoodRows rows
-    → ContentEnds (0x00 ∷ 0x01 ∷ spelledRows rows) (length (0x00 ∷ 0x01 ∷ spelledRows rows)) (rowsAlone rows)
-unfolding spelling.groupsOf
-rows-end-with-the-bytes rows good = record {
-  from = 2;
-  timer = record {
-    good-timer = record { some-p = omega arith; most-p = omega arith; s-below-p = omega arith };
-    before = record { here = refl; ends = refl };
-  };
-  its-rows = record {
-    few-rows = good .few-rows;
-    rows-acceptable = λ r m. record { within-limits = limits-of r (good .in-range r m); c-within-d = good .c-within-d r m };
-    before = record { here = rw (drop-length, append-nil); ends = omega arith };
-  };
-}
+-- `alone` are the bytes `00 01`, the spelling of some rows, and the byte `00`.
+abbrev alone : List Row → List ℕ
+alone rows = 0x00 ∷ 0x01 ∷ (spelledRows rows ++ (0x00 ∷ []))
+
+-- In `00 01`, the spelling of good rows and `00`, these rows, their timer and no servers end with the bytes.
+rows-end-with-the-bytes : (rows : List Row) → GoodRows rows → ContentEnds (alone rows) (length (alone rows)) (rowsAlone rows)
+unfolding spelling.groupsOf flatten
+rows-end-with-the-bytes rows good =
+    let behind : PartStands (alone rows) 2 (spelledRows rows ++ (0x00 ∷ [])) (length (alone rows)) =
+    record { here = rw (drop-length (alone rows), append-nil); ends = omega arith } in
+    let parts = parted (spelledRows rows) (0x00 ∷ []) behind in
+    record {
+      from = 2;
+      then = parts .0;
+      timer = record {
+        good-timer = record { some-p = omega arith; most-p = omega arith; s-below-p = omega arith };
+        before = record { here = refl; ends = refl };
+      };
+      its-rows = record {
+        few-rows = good .few-rows;
+        rows-acceptable = λ r m. record { within-limits = limits-of r (good .in-range r m); c-within-d = good .c-within-d r m };
+        before = parts .1;
+      };
+      its-servers = record { few-servers = omega arith; each-good = λ v m. absurd (List·Memᴰ·not-nil m); before = parts .2 };
+    }
 
 -- What is said of an accepted table is not said of a refused one.
 not-accepted-and-refused : (period number place : ℕ) → ¬ (values (period ∷ []) ≡ refusedWith number place)
@@ -196,7 +213,7 @@ not-accepted-and-refused period number place e = impossible cc
 
 pub spelled-says-rows-alone : SpelledSaysRowsAlone
 spelled-says-rows-alone rows period good says =
-    let s : List ℕ = 0x00 ∷ 0x01 ∷ spelledRows rows in
+    let s : List ℕ = alone rows in
     let read : tableRead s ≡ atEnd s (rowsAlone rows) (length s) = content-then (rows-end-with-the-bytes rows good) in
     let nothing-after : ltb (length s) (length s) ≡ false = le-ltb (length s) (length s) (omega arith) in
     record {
