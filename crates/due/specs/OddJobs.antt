@@ -16,15 +16,16 @@ use Rattle.due.specs.declared.Due.the-variants as due
 use Rattle.due.specs.Kept.{notTooLate}
 use Rattle.due.specs.Answers.{dueSays}
 
--- This is the due time of a server's next job, released at t with a stated cost, where `last` is the server's last due time. A server out of range is refusal 3,
--- a cost that no odd job may have is 7, and a due time above 2^40 is 9. (3.20, 4.7, 4.9, 10.7)
+-- This is the due time of a server's next job, released at t with a stated cost, where `last` is the server's last due time. A server out of range is refusal
+-- 3, a cost that no odd job may have is 7, and a due time above 2^40 is 9. (3.20, 4.7, 4.9, 10.7)
 unfoldable pub oddDueOf : Server → (last t cost : ℕ) → Due
 oddDueOf v last t cost =
     cond (serverInRange v)
     (cond (fromOneTo maxC cost) (notTooLate (serverDue (v .a) (v .b) last t cost)) (due.Refused CostOutOfRange))
     (due.Refused ValueOutOfRange)
 
--- The due time `at` is given to an odd job: the server is in range, the cost is from 1 to 4,096, `at` is the due time by the rule, and it is at most 2^40. (4.9)
+-- The due time `at` is given to an odd job: the server is in range, the cost is from 1 to 4,096, `at` is the due time by the rule, and it is at most 2^40.
+-- (4.9)
 pub record GivenOddDue (v : Server) (last t cost at : ℕ) : Type 0 where
   pub in-range : serverInRange v ≡ true
   pub cost-allowed : fromOneTo maxC cost ≡ true

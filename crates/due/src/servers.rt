@@ -7,9 +7,9 @@ use table::Server;
 ghost use mathlib.Core.Path.{_≡_};
 ghost use Rattle.due.specs.OddJobs.{oddDueOf};
 
-// The answer is the due time of a server's next job, where `last` is the server's last due time. A server out of range is refusal 3, a cost that no odd job may
-// have is 7, and a due time above 2^40 is 9. A release or a last due time above 2^40 is refused before it is added to, so that no sum overflows. Asking moves no
-// last due time. (4.4, 4.7, 4.9)
+// The answer is the due time of a server's next job, where `last` is the server's last due time. A server out of range is refusal 3, a cost that no odd job
+// may have is 7, and a due time above 2^40 is 9. A release or a last due time above 2^40 is refused before it is added to, so that no sum overflows. Asking
+// moves no last due time. (4.4, 4.7, 4.9)
 pub fn odd_due(server: Server, last: Tick, release: Tick, cost: u64) -> Due
     ensures { λ r. ⌜ r ≡ oddDueOf server (last .0) (release .0) cost ⌝ }
 {

@@ -19,8 +19,8 @@ use Rattle.verdict.specs.Demand.{tableDemand}
 use Rattle.verdict.specs.Verdict.{Judged, verdictSays}
 use Rattle.promise.specs.NoOrder.{dueAt}
 
--- An example is a table's bytes and what their verdict says, or a table's demand in a length, or releases of a row with their due times, or releases of a server
--- with their costs and due times. (4.8, 4.10, 5.13, 5.15, 5.19)
+-- An example is a table's bytes and what their verdict says, or a table's demand in a length, or releases of a row with their due times, or releases of a
+-- server with their costs and due times. (4.8, 4.10, 5.13, 5.15, 5.19)
 pub data Example : Type 0 where
   verdict : (bytes : List ℕ) → Said → Example
   demand : (bytes : List ℕ) (L units : ℕ) → Example
@@ -162,8 +162,8 @@ s7 = spelledTable (served 1 4 [] (server 4 5 ∷ []))
 abbrev pub s8 : List ℕ
 s8 = spelledTable (served 0 1 (row 1 4 7 2 ∷ []) (server 1 3 ∷ server 1 4 ∷ []))
 
--- The list has V1 to V8, T1 to T7 and S2 to S8 with their verdicts, the demand of V3 and T3 in 12 ticks and of T2 in 4, D1 to D3 with their due times, and S1 with
--- its due times. (4.8, 4.10, 5.13, 5.15, 5.19)
+-- The list has V1 to V8, T1 to T7 and S2 to S8 with their verdicts, the demand of V3 and T3 in 12 ticks and of T2 in 4, D1 to D3 with their due times, and S1
+-- with its due times. (4.8, 4.10, 5.13, 5.15, 5.19)
 abbrev pub examples : List Example
 examples =
     verdict v1 feasible

@@ -1,6 +1,7 @@
--- The promises at work. The first instance is a feasible table of two rows, with a trace of releases, refusals and ticks to which *In time* and *Share* apply.
--- The second is an overloaded table, with the jobs that its witness names. The third is a feasible table with a timer, the fourth a table on which a job
--- becomes late in a taken tick, the fifth a feasible table with a server, and the last two are what a witness names of servers. This page promises nothing new: it shows that the promises are not empty.
+-- The promises at work. The first instance is a feasible table of two rows, with a trace of releases, refusals and ticks to which *In time* and *Share*
+-- apply. The second is an overloaded table, with the jobs that its witness names. The third is a feasible table with a timer, the fourth a table on which a
+-- job becomes late in a taken tick, the fifth a feasible table with a server, and the last two are what a witness names of servers. This page promises
+-- nothing new: it shows that the promises are not empty.
 use Prim.Native.Nat.{ℕ, zero, suc, _+_}
 use mathlib.Core.Path.{_≡_}
 use mathlib.Core.Bool.{true, false}
@@ -145,8 +146,8 @@ LateInATakenTick = trace dueInATakenStretch lateCalls
 abbrev pub r3 : List ℕ
 r3 = 0x00 ∷ 0x01 ∷ 0x01 ∷ 0x01 ∷ 0x04 ∷ 0x04 ∷ 0x02 ∷ 0x01 ∷ 0x01 ∷ 0x04 ∷ []
 
--- The calls on the table of R3, newest first, are a release of the row and one of the server, a tick, an odd job of a cost that none may have, a row number that
--- is not in use, one more odd job, and four ticks.
+-- The calls on the table of R3, newest first, are a release of the row and one of the server, a tick, an odd job of a cost that none may have, a row number
+-- that is not in use, one more odd job, and four ticks.
 abbrev pub oddCalls : List Call
 oddCalls =
     Call.tick ∷ Call.tick ∷ Call.tick ∷ Call.tick
@@ -155,7 +156,8 @@ oddCalls =
     ∷ Call.release 1 1 ∷ Call.release 0 2
     ∷ []
 
--- The second odd job is released at 1, when the server's last due time is 4. So it is due at 4 + 8, and the refused one in between counts for nothing. (4.9, 8.20)
+-- The second odd job is released at 1, when the server's last due time is 4. So it is due at 4 + 8, and the refused one in between counts for nothing. (4.9,
+-- 8.20)
 abbrev pub OddAnswers : Type 0
 OddAnswers = trace r3 oddCalls
     ≡ Event.tick (ran 2 true) 0 ∷ Event.tick (ran 2 false) 0 ∷ Event.tick (ran 1 true) 0 ∷ Event.tick (ran 0 true) 0

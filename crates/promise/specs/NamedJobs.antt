@@ -1,7 +1,7 @@
 -- The jobs that a length names are the paper's. Of each row there are as many as the row's demand in this length counts. All are released at zero and at full
--- cost, and they are due as the paper's recurrence (1) says, within the length. Of each server there is one job that costs all of the server's demand, or none
--- where that is 0, and it is due within the length by the server's rule. Together with the ticks that the timer takes they make up the table's demand. So no due
--- time among them stands for a refused one. (5.1, 5.3, 5.10, 5.17)
+-- cost, and they are due as the paper's recurrence (1) says, within the length. Of each server there is one job that costs all of the server's demand, or
+-- none where that is 0, and it is due within the length by the server's rule. Together with the ticks that the timer takes they make up the table's demand.
+-- So no due time among them stands for a refused one. (5.1, 5.3, 5.10, 5.17)
 use Prim.Native.Nat.{ℕ, _+_, _≤_, _<_}
 use mathlib.Core.Path.{_≡_}
 use mathlib.Core.List.{List, []}
@@ -34,8 +34,8 @@ pub record NamedOfRow (r : Row) (L : ℕ) (js : List Job) : Type 0 where
   pub by-the-recurrence : RecurrenceOne (r .x) (r .y) (r .d) (length js) (λ _. 0) (jth (dues js))
   pub due-within : All (λ j. j .due ≤ L) js
 
--- These are the jobs of one server that a length L names: one, or none where the server's demand in L is 0, released at zero, of cost floor(a · L / b), due by the
--- server's rule, and due within L. (4.9, 5.17)
+-- These are the jobs of one server that a length L names: one, or none where the server's demand in L is 0, released at zero, of cost floor(a · L / b), due
+-- by the server's rule, and due within L. (4.9, 5.17)
 pub record NamedOfServer (v : Server) (L : ℕ) (js : List Job) : Type 0 where
   pub none-of-zero : serverDemandOf v L ≡ 0 → js ≡ []
   pub one-otherwise : 1 ≤ serverDemandOf v L → length js ≡ 1
@@ -53,7 +53,8 @@ pub record Named (t : Table) (L : ℕ) (js : List Job) : Type 0 where
   pub distinct : DistinctNames js
   pub cost-the-demand : total (λ j. j .cost) js + timerTakes (t .s) (t .p) L ≡ tableDemand t L
 
--- For any table and every length up to 2^40, the jobs that the length names are as `Named` says: as many as 5.10 and 5.17 count, and due as the rules say. (5.10, 5.17)
+-- For any table and every length up to 2^40, the jobs that the length names are as `Named` says: as many as 5.10 and 5.17 count, and due as the rules say.
+-- (5.10, 5.17)
 abbrev pub NamedJobsAreThePapers : Type 0
 NamedJobsAreThePapers = (bytes : List ℕ) → Bytes bytes → (L : ℕ) → L ≤ maxTime → Named (tableRead bytes .table) L (namedJobs (tableRead bytes .table) L)
 

@@ -1,5 +1,5 @@
--- The paper. The verdict is the paper's Theorem 4.2, with the demand of its Lemma 4.1, and with the servers' demand and the ticks that the timer takes beside it.
--- Due times of rows are those of its recurrence (1), and those of odd jobs are the server's rule. (1.19, 4.2, 4.3, 4.9, 5.2 to 5.4)
+-- The paper. The verdict is the paper's Theorem 4.2, with the demand of its Lemma 4.1, and with the servers' demand and the ticks that the timer takes beside
+-- it. Due times of rows are those of its recurrence (1), and those of odd jobs are the server's rule. (1.19, 4.2, 4.3, 4.9, 5.2 to 5.4)
 use Prim.Native.Nat.{ℕ, _+_, _≤_, _<_}
 use mathlib.Core.Path.{_≡_}
 use mathlib.Core.Logic.{_↔_}

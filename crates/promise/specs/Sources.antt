@@ -1,5 +1,5 @@
--- Sources. A row number in use names a row or a server, and either is a source of jobs. What is promised about demand, share, due times and the witness's jobs is
--- promised for every source alike. (1.2, 3.14, 5.12)
+-- Sources. A row number in use names a row or a server, and either is a source of jobs. What is promised about demand, share, due times and the witness's
+-- jobs is promised for every source alike. (1.2, 3.14, 5.12)
 use Prim.Native.Nat.{ℕ, _+_, _≤_, _<_}
 use mathlib.Core.Path.{_≡_}
 use mathlib.Core.Bool.{cond}
@@ -35,8 +35,8 @@ sourceDemand (Source.row r) L = rowDemandOf r L
 sourceDemand (Source.server v) L = serverDemandOf v L
 
 -- The due time of a source's next job, released at t with a stated cost, where `earlier` has the due times of the source's accepted jobs, newest first. For a
--- row it is that of the paper's recurrence, in which the cost plays no part. For a server it is the later of t and the last due time, plus e · b / a rounded up.
--- (4.2, 4.3, 4.9)
+-- row it is that of the paper's recurrence, in which the cost plays no part. For a server it is the later of t and the last due time, plus e · b / a rounded
+-- up. (4.2, 4.3, 4.9)
 abbrev pub sourceDue : Source → (earlier : List ℕ) (t cost : ℕ) → ℕ
 sourceDue (Source.row r) earlier t cost = dueTime (r .x) (r .y) (r .d) earlier t
 sourceDue (Source.server v) earlier t cost = serverDue (v .a) (v .b) (lastDue earlier) t cost

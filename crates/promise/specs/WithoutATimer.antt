@@ -1,6 +1,6 @@
--- Tables without a timer. Where s is 0 and p is 1 and there are no servers, the table is its rows alone, as it was before there were timers and servers. Its verdict is what the rows alone say, no
--- tick is ever taken, and every trace and every replay is what it is where every tick is free. So whoever trusted a table keeps all that was promised for it:
--- `00 01` is put in front of its bytes and `00` after them, and nothing else changes. (3.16, 5.14, 6.5)
+-- Tables without a timer. Where s is 0 and p is 1 and there are no servers, the table is its rows alone, as it was before there were timers and servers. Its
+-- verdict is what the rows alone say, no tick is ever taken, and every trace and every replay is what it is where every tick is free. So whoever trusted a
+-- table keeps all that was promised for it: `00 01` is put in front of its bytes and `00` after them, and nothing else changes. (3.16, 5.14, 6.5)
 use Prim.Native.Nat.{ℕ, _≤_}
 use mathlib.Core.Path.{_≡_}
 use mathlib.Core.Logic.{_↔_, _≢_}

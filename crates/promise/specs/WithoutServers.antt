@@ -1,6 +1,6 @@
--- Tables without servers. Where the server count is 0, the table is its timer and its rows, as it was before there were servers. Its verdict is what rows and timer
--- say, a release is what it was, no last due time ever moves, and the witness names the rows' jobs alone. So whoever trusted a table keeps all that was promised
--- for it: the byte `00` is put after its bytes, and nothing else changes. (3.6, 5.18)
+-- Tables without servers. Where the server count is 0, the table is its timer and its rows, as it was before there were servers. Its verdict is what rows and
+-- timer say, a release is what it was, no last due time ever moves, and the witness names the rows' jobs alone. So whoever trusted a table keeps all that was
+-- promised for it: the byte `00` is put after its bytes, and nothing else changes. (3.6, 5.18)
 use Prim.Native.Nat.{ℕ}
 use mathlib.Core.Path.{_≡_}
 use mathlib.Core.Logic.{_↔_}
@@ -47,8 +47,8 @@ abbrev pub FeasibleWithoutServers : Type 0
 FeasibleWithoutServers = (bytes : List ℕ) (s p : ℕ) (rows : List Row) → SaysNoServers bytes s p rows → (v : Verdict) → Judged bytes v
     → (verdictSays v .number ≡ 20) ↔ EveryLengthFits (demandOfRowsAndTimer s p rows)
 
--- The verdict is overloaded with a length and a demand exactly when this is the smallest length that the rows' demands and the taken ticks exceed, and the demand
--- is their sum. (5.18)
+-- The verdict is overloaded with a length and a demand exactly when this is the smallest length that the rows' demands and the taken ticks exceed, and the
+-- demand is their sum. (5.18)
 abbrev pub OverloadedWithoutServers : Type 0
 OverloadedWithoutServers = (bytes : List ℕ) (s p : ℕ) (rows : List Row) → SaysNoServers bytes s p rows → (v : Verdict) → Judged bytes v → (L units : ℕ)
     → (verdictSays v ≡ record { number = 21; first = L; second = units })
@@ -70,7 +70,8 @@ NamedOfRowsAlone = (bytes : List ℕ) (s p : ℕ) (rows : List Row) → SaysNoSe
     → namedJobs (tableRead bytes .table) L
     ≡ flatten (inTurn (λ source first (r : Row). firstJobs source first r (rowJobs (r .x) (r .y) (r .d) L)) 0 0 rows)
 
--- Such tables exist: of a timer and rows that a table may have, the bytes of before there were servers and the byte `00` say them wherever they are accepted. (3.6)
+-- Such tables exist: of a timer and rows that a table may have, the bytes of before there were servers and the byte `00` say them wherever they are accepted.
+-- (3.6)
 abbrev pub SpelledSaysNoServers : Type 0
 SpelledSaysNoServers = (s p : ℕ) (rows : List Row) (period : ℕ) → GoodTimer s p → GoodRows rows
     → let bytes : List ℕ = spelledBefore s p rows ++ (0x00 ∷ []) in

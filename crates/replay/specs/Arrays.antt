@@ -187,7 +187,8 @@ pub record CanGo (l : Lists) (g : Going) (ready : Ready) : Type 0 where
   pub in-time : ready .time .0 ≤ maxTime
   pub few-serials : g .next .0 ≤ 2 ^ 63
 
--- The arrays hold a play that has come as far as `p`: its pending jobs, its clock, its log, its kept due times, its servers' last due times and its next serial.
+-- The arrays hold a play that has come as far as `p`: its pending jobs, its clock, its log, its kept due times, its servers' last due times and its next
+-- serial.
 pub record ArraysHoldPlay (p : Progress) (log₀ : List ℕ) (l : Lists) (g : Going) : Type 0 where
   pub stands : ArraysHoldRun (p .so-far) log₀ (tickArraysIn l g)
   pub kept : RingsHold (ringsIn l) (p .so-far .run .table .count) (p .so-far .run .table .rows) (p .so-far .run .kept)
@@ -205,8 +206,8 @@ SourceOf t number (source.Row r) = (number < t .count) × (r ≡ rowAt t number)
 SourceOf t number (source.Server o) =
     (t .count ≤ number) × (number < t .count + t .serving) × (o .server ≡ serverAt t number) × (o .place ≡ number - t .count)
 
--- A record passed its tests at the point that a play has reached: `source` is its row or server, which is in use, its cost is allowed, and the clock is not past
--- its script time. The run has the timer that is handed in. (8.5, steps 4 and 6)
+-- A record passed its tests at the point that a play has reached: `source` is its row or server, which is in use, its cost is allowed, and the clock is not
+-- past its script time. The run has the timer that is handed in. (8.5, steps 4 and 6)
 pub record MayRelease (ts tp : ℕ) (p : Progress) (ready : Ready) (source : Source) : Type 0 where
   pub its-timer : HasTimer ts tp (p .so-far .run)
   pub its-source : SourceOf (p .so-far .run .table) (ready .row .0) source

@@ -97,8 +97,8 @@ fn clear(log: &mut [u8])
     }
 }
 
-// Plays a script on a table. The pending jobs, the kept due times and the last due times stand in arrays of numbers, so that no run is copied for a record. After a refusal the log
-// may hold anything: the caller fills it with zeros. (8.2, 8.3)
+// Plays a script on a table. The pending jobs, the kept due times and the last due times stand in arrays of numbers, so that no run is copied for a record.
+// After a refusal the log may hold anything: the caller fills it with zeros. (8.2, 8.3)
 fn play(table: Table, script: &[u8], log: &mut [u8]) -> Replayed
     requires { ⌜ (soundOf (freshRun table) ≡ true) × Whole (freshRun table) ⌝ }
     ensures { λ r. ⌜ (r ≡ replayOutcome (length (now (log .entry))) (length (now (script .entry))) (playedOn (now (script .entry)) (freshRun table)))

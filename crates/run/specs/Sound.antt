@@ -59,8 +59,8 @@ rowsSound [] ks = true
 rowsSound (r ∷ rs) [] = true
 rowsSound (r ∷ rs) (k ∷ ks) = rowAcceptable r && keptSound k r && rowsSound rs ks
 
--- Each server is one that a table may have, and its last due time is at most 2^40. A run has a last due time for every server that a table may have, so the case
--- of a server without one does not come up. (6.21, 6.24)
+-- Each server is one that a table may have, and its last due time is at most 2^40. A run has a last due time for every server that a table may have, so the
+-- case of a server without one does not come up. (6.21, 6.24)
 abbrev pub serversSound : List Server → List Tick → Bool
 serversSound [] ls = true
 serversSound (v ∷ vs) [] = true

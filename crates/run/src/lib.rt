@@ -167,8 +167,8 @@ impl Run {
         next.0 <= clock.0 + pending.count as u64
     }
 
-    // Releases a job of a row or of a server at the clock. It answers the job's serial and due time, or refuses with 11, 6, 7, 8 or 9, in this order. A refused release leaves
-    // the run unchanged. (6.6 to 6.8, 6.18)
+    // Releases a job of a row or of a server at the clock. It answers the job's serial and due time, or refuses with 11, 6, 7, 8 or 9, in this order. A
+    // refused release leaves the run unchanged. (6.6 to 6.8, 6.18)
     pub fn release(self, row: RowNumber, cost: u64) -> ReleaseStep
         ensures { λ r. ⌜ r ≡ released self (row .0) cost ⌝ }
     {

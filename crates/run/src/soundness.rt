@@ -18,8 +18,8 @@ ghost use Rattle.jobs.specs.Places.{maxPlaces, jobsOf};
 ghost use Rattle.jobs.specs.Serials.{distinctSerials};
 ghost use Rattle.run.specs.Sound.{jobFits, jobsSound, rowsSound, serversSound};
 
-// Every pending job is sound, and no two have the same serial. `limits` has the most that a job may cost, for each row number in use. In a run that came from a fresh
-// one the serials rise from place to place, so one look at each job tests all of it. Otherwise every two serials are compared. (6.22)
+// Every pending job is sound, and no two have the same serial. `limits` has the most that a job may cost, for each row number in use. In a run that came from
+// a fresh one the serials rise from place to place, so one look at each job tests all of it. Otherwise every two serials are compared. (6.22)
 pub(crate) fn jobs_sound(limits: &[u64], clock: Tick, next: Serial, pending: Pending) -> bool
     requires { ⌜ pending .count ≤ maxPlaces ⌝ }
     ensures { λ r. ⌜ r ≡ (jobsSound (now (limits .entry)) (clock .0) (next .0) (jobsOf pending) && distinctSerials (jobsOf pending)) ⌝ }

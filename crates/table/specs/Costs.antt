@@ -31,7 +31,8 @@ costLimits t = csOf (rowsOf t) ++ replicate (t .serving) maxC
 abbrev pub heldLimits : Table → List ℕ
 heldLimits t = csOf (rowsOf t) ++ replicate (maxSources - length (rowsOf t)) maxC
 
--- `limits` has one cost limit for each row number in use. A row number below their count has the limit at that number, and any other number is not in use. (6.8)
+-- `limits` has one cost limit for each row number in use. A row number below their count has the limit at that number, and any other number is not in use.
+-- (6.8)
 abbrev pub limitOf : (limits : List ℕ) (number : ℕ) → CostLimit
 limitOf limits number = cond (ltb number (length limits)) (limit.Units (getD limits number 0)) limit.NoSuchRow
 

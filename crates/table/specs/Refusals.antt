@@ -122,8 +122,8 @@ pub record ServersEnd (s : List ℕ) (from at : ℕ) (servers : List Server) : T
   pub each-good : (v : Server) → List·Memᴰ v servers → GoodServer v
   pub before : PartStands s from (spelledServers servers) at
 
--- A b that begins at `at`, after this a, is refused with 1, at its bad byte, if it can't be read, and with 3, at its start, if it is below a or above its limit.
--- (3.8, 3.19)
+-- A b that begins at `at`, after this a, is refused with 1, at its bad byte, if it can't be read, and with 3, at its start, if it is below a or above its
+-- limit. (3.8, 3.19)
 pub data BadB (s : List ℕ) (at a : ℕ) : (number place : ℕ) → Type 0 where
   misspelled-b : {place : ℕ} → BadByteAt s at place → BadB s at a 1 place
   b-out-of-range : (n : Number) → Spelled s at n → (n .value < a) ⊎ (maxB < n .value) → BadB s at a 3 at
@@ -137,8 +137,8 @@ pub data ServersRefusedSo (s : List ℕ) (from : ℕ) : (number place : ℕ) →
   -- If an a can't be read, that is refusal 1, at its bad byte. If it is out of its range, that is refusal 3, at its start. (3.8, 3.19)
   bad-a : {number place at : ℕ} → ServerNext s from at → BadValue s at maxB number place → ServersRefusedSo s from number place
   -- If a b can't be read, that is refusal 1, at its bad byte. If it is below a or above its limit, that is refusal 3, at its start. (3.8, 3.19)
-  bad-b : {number place at : ℕ} → ServerNext s from at → (a : Number) → Spelled s at a → 1 ≤ a .value → a .value ≤ maxB → BadB s (a .next) (a .value) number place
-      → ServersRefusedSo s from number place
+  bad-b : {number place at : ℕ} → ServerNext s from at → (a : Number) → Spelled s at a → 1 ≤ a .value → a .value ≤ maxB
+      → BadB s (a .next) (a .value) number place → ServersRefusedSo s from number place
 
 -- ---- tables
 

@@ -122,8 +122,8 @@ heldAs (refused r) = record { rows = heldRows []; count = 0; answer = answer.Ref
 abbrev pub refusedTable : RefusedAt → TableRead
 refusedTable at = record { table = emptyTable; answer = Refused at }
 
--- The rows and servers were read up to the place `next`. Bytes after them are refusal 4. After that test, an H above 1,048,576 is refusal 5. Otherwise the table is
--- accepted, with its H. (3.11, 3.12, 3.13)
+-- The rows and servers were read up to the place `next`. Bytes after them are refusal 4. After that test, an H above 1,048,576 is refusal 5. Otherwise the
+-- table is accepted, with its H. (3.11, 3.12, 3.13)
 abbrev pub atEnd : List ℕ → Content → (next : ℕ) → TableRead
 atEnd s content next =
     cond (ltb next (length s)) (refusedTable (record { refusal = ExtraBytes; place = next }))

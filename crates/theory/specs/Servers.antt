@@ -1,7 +1,7 @@
--- Servers. A server of size a/b gives odd jobs, which have no rate, a share of the processor: a units in b ticks. A job's due time is set on its arrival, as far
--- after the later of its release and the server's last due time as its cost takes at the server's size. From this alone it follows that in any window of L
--- ticks the jobs of a server cost at most floor(a · L / b), whatever their costs and releases are, and one job reaches that bound. (docs/RULES.md, 4.9, 4.10
--- and 5.16; the total bandwidth server.)
+-- Servers. A server of size a/b gives odd jobs, which have no rate, a share of the processor: a units in b ticks. A job's due time is set on its arrival, as
+-- far after the later of its release and the server's last due time as its cost takes at the server's size. From this alone it follows that in any window of
+-- L ticks the jobs of a server cost at most floor(a · L / b), whatever their costs and releases are, and one job reaches that bound. (docs/RULES.md, 4.9,
+-- 4.10 and 5.16; the total bandwidth server.)
 use Prim.Native.Nat.{ℕ, _+_, _-_, _*_, _/_, _≤_, _<_, _∣_, max}
 use mathlib.Core.Path.{_≡_}
 use mathlib.Core.List.{List, [], _∷_}

@@ -34,8 +34,8 @@ serversDemandOf content L = sumOver serverDemandOf (content .servers) L
 abbrev pub demandOf : Content → (L : ℕ) → ℕ
 demandOf content L = rowsDemandOf content L + (serversDemandOf content L + timerTakes (content .s) (content .p) L)
 
--- In a period that p, every y and every b divide, the demand of a content grows by the sum of x · c · (period/y) over its rows, by the sum of a · (period/b) over
--- its servers, and by s · (period/p). (5.7)
+-- In a period that p, every y and every b divide, the demand of a content grows by the sum of x · c · (period/y) over its rows, by the sum of a · (period/b)
+-- over its servers, and by s · (period/p). (5.7)
 abbrev pub growthOf : Content → (period : ℕ) → ℕ
 growthOf content period =
     total (λ (r : Row). rowGrowth (r .x) (r .y) (r .c) period) (content .rows)
