@@ -59,19 +59,19 @@ sources-are-numbered t in-range =
     let servers : length vs ≡ t .serving = length-map (serversOf t) Source.server ∙ servers-used in-range in (
       omega (arith, length-append rs vs),
       (λ number other in-use. by-lt number (t .count)
-      (λ below.
-      rw (source-of-row t number below)
-      (List·getD-append rs vs other number (omega arith)
-      ∙ at-map Source.row (rowsOf t) number noRow other (omega (arith, rows-used in-range))
-      ∙ ap Source.row (getD-take (t .count) (t .rows) number noRow below)))
-      (λ above.
-      let k = number - t .count in
-      let place : number ≡ length rs + k = omega arith in
-      rw (source-of-server t number above)
-      (ap (λ (n : ℕ). getD (rs ++ vs) n other) place
-      ∙ getD-append-add rs vs k other
-      ∙ at-map Source.server (serversOf t) k noServer other (omega (arith, servers-used in-range))
-      ∙ ap Source.server (getD-take (t .serving) (t .servers) k noServer (omega arith))))),
+          (λ below.
+          rw (source-of-row t number below)
+          (List·getD-append rs vs other number (omega arith)
+          ∙ at-map Source.row (rowsOf t) number noRow other (omega (arith, rows-used in-range))
+          ∙ ap Source.row (getD-take (t .count) (t .rows) number noRow below)))
+          (λ above.
+          let k = number - t .count in
+          let place : number ≡ length rs + k = omega arith in
+          rw (source-of-server t number above)
+          (ap (λ (n : ℕ). getD (rs ++ vs) n other) place
+          ∙ getD-append-add rs vs k other
+          ∙ at-map Source.server (serversOf t) k noServer other (omega (arith, servers-used in-range))
+          ∙ ap Source.server (getD-take (t .serving) (t .servers) k noServer (omega arith))))),
     )
 
 -- ---- demand
