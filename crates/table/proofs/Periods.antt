@@ -5,9 +5,11 @@ use native.Mathlib.Omega.{arith}
 use native.Mathlib.Nat.{mod-one}
 use mathlib.Core.Path.{_≡_, refl, ap, _∙_}
 use mathlib.Core.Bool.{cond}
-use mathlib.Core.List.{List, _∷_, append-nil}
+use mathlib.Core.List.{List, [], _∷_, append-nil}
 use Rattle.periods.specs.Multiples.{isMultiple, product}
-use Rattle.table.specs.Period.{firstMultiple, leastCommonMultiple, ysOf, PeriodWithoutServers, PeriodOfRowsAlone}
+use Rattle.periods.proofs.Multiples.{period-is-least, alone}
+use Rattle.table.specs.Period.{firstMultiple, leastCommonMultiple, ysOf, PeriodOfOneServer, PeriodWithoutServers, PeriodOfRowsAlone}
+use Rattle.table.proofs.Each.{each-none, each-cons}
 
 pub period-without-servers : PeriodWithoutServers
 period-without-servers s p rows = ap (λ ys. leastCommonMultiple (p ∷ ys)) (append-nil (ysOf rows))
@@ -27,3 +29,7 @@ one-in-front ys =
 
 pub period-of-rows-alone : PeriodOfRowsAlone
 period-of-rows-alone rows = period-without-servers 0 1 rows ∙ one-in-front (ysOf rows)
+
+-- One server's b is the only number that counts beside the 1 of the timer.
+pub period-of-one-server : PeriodOfOneServer
+period-of-one-server v some = one-in-front (v .b ∷ []) ∙ alone (period-is-least (v .b ∷ []) (each-cons some (each-none _)))

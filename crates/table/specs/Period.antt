@@ -1,7 +1,7 @@
 -- The period of a table, H: the least common multiple of the timer's p, every row's y and every server's b. (docs/RULES.md, 3.4 and 3.5.)
-use Prim.Native.Nat.{ℕ}
+use Prim.Native.Nat.{ℕ, _≤_}
 use mathlib.Core.Path.{_≡_}
-use mathlib.Core.List.{List, _∷_, _++_, map}
+use mathlib.Core.List.{List, [], _∷_, _++_, map}
 unfoldable pub use Rattle.periods.specs.Multiples.{firstMultiple, leastCommonMultiple}
 use Rattle.table.specs.declared.Row.{Row}
 use Rattle.table.specs.declared.Server.{Server}
@@ -24,6 +24,10 @@ abbrev pub periodOf : Content → ℕ
 periodOf content = leastCommonMultiple (periodsOf content)
 
 -- ---- what is proved (proofs/Periods.antt)
+
+-- A server's b joins H as it stands: with p = 1 and no rows, the H of one server is its b, whatever its a is. (3.4)
+abbrev pub PeriodOfOneServer : Type 0
+PeriodOfOneServer = (v : Server) → 1 ≤ v .b → periodOf (record { s = 0; p = 1; rows = []; servers = v ∷ [] }) ≡ v .b
 
 -- Without servers, H is the least common multiple of p and the y of all rows. (5.18)
 abbrev pub PeriodWithoutServers : Type 0
