@@ -15,7 +15,7 @@ use Rattle.numbers.specs.SpelledNumbers.{Bytes}
 use Rattle.table.specs.declared.Table.{Table}
 use Rattle.table.specs.Limits.{maxRows, maxServers}
 use Rattle.table.specs.Timer.{GoodTimer}
-use Rattle.table.specs.Tables.{noRow}
+use Rattle.table.specs.Tables.{noRow, tableRead}
 use Rattle.table.specs.declared.CostLimit.{CostLimit}
 use Rattle.table.specs.Costs.{costLimits, heldLimits, limitOf, costAnswer}
 use Rattle.table.proofs.CostLimits.{limit-in-use, cost-allowed}
@@ -25,9 +25,9 @@ use Rattle.columns.proofs.Holding.{nothing-is-held}
 use Rattle.rings.specs.Rings.{maxTimes}
 use Rattle.rings.proofs.Holding.{rings-empty}
 use Rattle.run.specs.declared.Run.{Run}
-use Rattle.run.specs.declared.Started.{Started}
-use Rattle.run.specs.declared.StartAnswer.the-variants as start
-use Rattle.run.specs.Runs.{freshRun, started, rowAt, serverAt}
+use Rattle.table.specs.declared.TableRead.{TableRead}
+use Rattle.table.specs.declared.TableAnswer.the-variants as table-answer
+use Rattle.run.specs.Runs.{freshRun, startAnswer, rowAt, serverAt}
 use Rattle.run.specs.ManyTicks.{SoFar, ticksWhilePending}
 use Rattle.run.proofs.Fresh.{started-is-sound}
 use Rattle.run.proofs.Sound.{in-use-where, limits-lent, enough-limits}
@@ -369,28 +369,25 @@ module _ {s : List ℕ} {t : Table} {log₀ log : List ℕ} {l : Logged} (w : Pl
 abbrev pub Replays : (t s log₀ log : List ℕ) → Replayed → Type 0
 Replays t s log₀ log r = (r ≡ replayOf t s (length log₀)) × (log ≡ logAfter r (finishedIn (played t s)) log₀)
 
-module _ (t s log₀ : List ℕ) {x : Started} (starts : x ≡ started t) where
-  -- The run that is started on a table is sound, and it is the fresh run of its own table.
-  pub started-ready : Bytes t → Good (freshRun (x .run .table))
-  started-ready bytes = rw starts (started-is-sound t bytes)
+module _ (t s log₀ : List ℕ) {x : TableRead} (reads : x ≡ tableRead t) where
+  -- The fresh run of a table that was read is sound.
+  pub started-ready : Bytes t → Good (freshRun (x .table))
+  started-ready bytes = rw reads (started-is-sound t bytes)
 
-  fresh-so : freshRun (x .run .table) ≡ x .run
-  fresh-so = rw starts
-
-  -- What is played goes by the answer of the start.
-  by-start : played t s ≡ onceStarted s (x .run) (x .answer)
+  -- What is played goes by the answer of reading the table: a run is started on it, or it is refused.
+  by-start : played t s ≡ onceStarted s (freshRun (x .table)) (startAnswer (x .answer))
   unfolding played
-  by-start = ap (λ (y : Started). onceStarted s (y .run) (y .answer)) (sym starts)
+  by-start = ap (λ (y : TableRead). onceStarted s (freshRun (y .table)) (startAnswer (y .answer))) (sym reads)
 
   -- A table that is refused stops the play at once, and the log is zeros.
-  pub table-refused : {r : RefusedAt} {log : List ℕ} → x .answer ≡ start.Refused r → log ≡ replicate (length log₀) 0
+  pub table-refused : {r : RefusedAt} {log : List ℕ} → x .answer ≡ table-answer.Refused r → log ≡ replicate (length log₀) 0
       → Replays t s log₀ log (replayed.Refused r)
   table-refused {r} e zeros = let so : played t s ≡ stopped r = by-start ∙ rw e in (rw so, zeros)
 
   -- On an accepted table the script is played, and after a refusal the log is filled with zeros.
-  module _ (ready : x .answer ≡ start.Ready) (log : List ℕ) {out : Replayed} (ends : Ends s (x .run .table) log₀ log out) where
-    played-so : played t s ≡ playedOn s (freshRun (x .run .table))
-    played-so = by-start ∙ rw (ready, fresh-so)
+  module _ {period : ℕ} (accepted : x .answer ≡ table-answer.Accepted period) (log : List ℕ) {out : Replayed} (ends : Ends s (x .table) log₀ log out) where
+    played-so : played t s ≡ playedOn s (freshRun (x .table))
+    played-so = by-start ∙ rw accepted
 
     pub replay-in-time : {n : ℕ} → out ≡ replayed.InTime n → Replays t s log₀ log (replayed.InTime n)
     replay-in-time e = rw played-so (rw e at ends)

@@ -11,10 +11,10 @@ use kinds::Serial;
 use kinds::Tick;
 use records::Tested;
 use rings::TIMES;
-use run::StartAnswer;
 use table::Row;
 use table::Server;
 use table::Table;
+use table::TableAnswer;
 ghost use mathlib.Core.Path.{_≡_};
 ghost use mathlib.Core.Bool.{true};
 ghost use lib.ListN.{length, replicate};
@@ -220,16 +220,15 @@ pub fn replay(table: &[u8], script: &[u8], log: &mut [u8]) -> Replayed
     ensures { λ r. ⌜ (r ≡ replayOf (now (table .entry)) (now (script .entry)) (length (now (log .entry))))
         × (now (log .exit) ≡ logAfter r (finishedIn (played (now (table .entry)) (now (script .entry)))) (now (log .entry))) ⌝ }
 {
-    let started = run::start(table);
-    let answer = started.answer;
-    let run = started.run;
+    let read = table::read_table(table);
+    let answer = read.answer;
     match answer {
-        StartAnswer::Refused(r) => {
+        TableAnswer::Refused(r) => {
             clear(log);
             Replayed::Refused(r)
         }
-        StartAnswer::Ready => {
-            let outcome = play(run.table, script, log);
+        TableAnswer::Accepted(_) => {
+            let outcome = play(read.table, script, log);
             match outcome {
                 Replayed::InTime(length) => Replayed::InTime(length),
                 Replayed::Late(jobs) => Replayed::Late(jobs),
