@@ -106,8 +106,8 @@ extern "C" {
 
 /*
  * The bytes of stack with which a thread can make either call. Measured on x86-64, with any input: below its caller
- * verdict() takes less than 12,000 bytes, and replay() less than 69,000. With what the system itself puts on a thread's
- * stack, a thread needs 73,728 bytes. The other 24,576 are room, for the functions that make the call and for signal
+ * verdict() takes less than 13,000 bytes, and replay() less than 77,000. With what the system itself puts on a thread's
+ * stack, a thread needs 81,920 bytes. The other 16,384 are room, for the functions that make the call and for signal
  * handlers.
  */
 #define JYRMEKKO_STACK_SIZE 98304
