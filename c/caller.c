@@ -93,7 +93,26 @@ static bool is_replayed(uint32_t status)
     return status == JYRMEKKO_IN_TIME || status == JYRMEKKO_LATE;
 }
 
-/* Expects the refusal of the table that the rules want, or none of 1 to 4 and 16 where they want none. */
+/* Returns the least common multiple of a period and of some numbers, or 0 where it is above the limit. */
+static uint64_t joined(uint64_t period, const uint64_t *numbers, uint64_t count)
+{
+    enum { LONGEST_PERIOD = 1048576 };
+    for (uint64_t i = 0; i < count && period != 0; i++) {
+        uint64_t multiple = period;
+        while (multiple % numbers[i] != 0)
+            multiple += period;
+        period = multiple > LONGEST_PERIOD ? 0 : multiple;
+    }
+    return period;
+}
+
+/* Returns H of a table that none of 1 to 4 and 16 is wanted for (docs/RULES.md, 3.4), or 0 where it is above the limit. */
+static uint64_t period_of(const struct rows *rows)
+{
+    return joined(joined(rows->p, rows->y, rows->count), rows->b, rows->servers);
+}
+
+/* Expects the refusal of the table that the rules want, or none where they want none. */
 static void expect_table_answer(struct answer answer, struct bytes table)
 {
     struct rows rows;
@@ -107,6 +126,9 @@ static void expect_table_answer(struct answer answer, struct bytes table)
         expect((refuses_table(answer.status) ? answer.status : 0) == wanted.status,
                "1 to 4 are answered exactly when their rules say, and so is 16");
     }
+    if (wanted.status == 0)
+        expect((answer.status == JYRMEKKO_PERIOD_TOO_LONG) == (period_of(&rows) == 0),
+               "5 is answered exactly when H is above its limit");
     if (wanted.status == JYRMEKKO_MISSPELLED)
         expect(answer.first == wanted.place, "the place of 1 is the bad byte, or the table's length if it is cut off");
     else if (wanted.status != 0)
@@ -207,19 +229,46 @@ static uint64_t free_between(const struct rows *rows, uint64_t start, uint64_t e
     return end - start - (taken_of(rows, end) - taken_of(rows, start));
 }
 
+/* What a script says about a job. */
+struct stated {
+    uint64_t time;
+    uint64_t row;
+    uint64_t cost;
+    uint64_t due; /* For an odd job this is its due time, and else it is 0. */
+};
+
+/* Reads the jobs of a script that is played. The caller frees them. */
+static struct stated *stated_jobs(struct bytes script, const struct rows *rows, uint64_t jobs)
+{
+    struct stated *stated = allocate(jobs * sizeof *stated);
+    uint64_t last[JYRMEKKO_MOST_SERVERS] = {0}, time = 0;
+    size_t at = 0;
+    for (uint64_t i = 0; i < jobs; i++) {
+        uint64_t gap = 0;
+        struct stated *job = &stated[i];
+        expect(read_number(script, &at, &gap) && read_number(script, &at, &job->row) &&
+                   read_number(script, &at, &job->cost), "a script that is played can be read");
+        job->time = time += gap;
+        job->due = 0;
+        if (job->row >= rows->count) {
+            uint64_t server = job->row - rows->count;
+            expect(server < rows->servers, "a script that is played has row numbers in use only");
+            job->due = last[server] = odd_due(rows, server, time, last[server], job->cost);
+        }
+    }
+    return stated;
+}
+
 /* Expects one log record for each job, in the order of finishing, and as many late ones as the answer says. */
 static void expect_log(struct bytes log, struct bytes table, struct bytes script, uint64_t late_answered)
 {
     enum { SERIAL, ROW, RELEASE, DUE, FINISH, NUMBERS };
     uint64_t jobs = count_numbers(script) / SCRIPT_NUMBERS, records = 0, late = 0, last_finish = 0;
     uint64_t *releases = allocate(jobs * sizeof *releases), *finishes = allocate(jobs * sizeof *finishes);
-    uint64_t *costs = allocate(jobs * sizeof *costs);
     struct rows rows;
     size_t at = 0;
     wanted_of_table(table.at, table.length, &rows);
-    for (uint64_t i = 0; i < SCRIPT_NUMBERS * jobs; i++) /* The cost is the last number of a record. */
-        expect(read_number(script, &at, &costs[i / SCRIPT_NUMBERS]), "a script that is played can be read");
-    at = 0;
+    struct stated *stated = stated_jobs(script, &rows, jobs);
     for (uint64_t i = 0; i < jobs; i++)
         releases[i] = UINT64_MAX;
     while (at < log.length) {
@@ -228,10 +277,14 @@ static void expect_log(struct bytes log, struct bytes table, struct bytes script
             expect(read_number(log, &at, &job[i]), "the log is whole records of well spelled numbers");
         expect(job[SERIAL] < jobs && releases[job[SERIAL]] == UINT64_MAX,
                "serials are below the number of jobs, and no two are equal");
+        expect(job[ROW] == stated[job[SERIAL]].row && job[RELEASE] == stated[job[SERIAL]].time,
+               "a job has the row number and the release that its script says");
         expect(job[RELEASE] < job[DUE] && job[RELEASE] < job[FINISH], "jobs are due, and finish, after their release");
+        expect(stated[job[SERIAL]].due == 0 || job[DUE] == stated[job[SERIAL]].due,
+               "an odd job is due by its cost, after its release and its server's last due time");
         expect(job[FINISH] > last_finish, "at most one job finishes in a tick");
         expect(!is_taken(&rows, job[FINISH] - 1), "no job finishes in a tick that is taken");
-        expect(free_between(&rows, job[RELEASE], job[FINISH]) >= costs[job[SERIAL]],
+        expect(free_between(&rows, job[RELEASE], job[FINISH]) >= stated[job[SERIAL]].cost,
                "a job costs no more than the free ticks from its release to its finish");
         last_finish = job[FINISH];
         late += job[FINISH] > job[DUE];
@@ -243,7 +296,7 @@ static void expect_log(struct bytes log, struct bytes table, struct bytes script
     expect_places(releases, finishes, jobs);
     free(releases);
     free(finishes);
-    free(costs);
+    free(stated);
     expect(late == late_answered, "the answer counts as many late jobs as the log has");
 }
 
@@ -302,20 +355,17 @@ static struct answer replay_with(struct bytes table, struct bytes script, size_t
  */
 static uint64_t search_of(struct bytes table)
 {
-    enum { LONGEST_PERIOD = 1048576 };
     struct rows rows;
     if (wanted_of_table(table.at, table.length, &rows).status != 0)
         return 0;
-    uint64_t period = rows.p, longest = 0, spared = 0;
-    for (uint64_t i = 0; i < rows.count; i++) {
-        uint64_t multiple = period;
-        while (multiple % rows.y[i] != 0)
-            multiple += period;
-        if (multiple > LONGEST_PERIOD)
-            return 0;
-        period = multiple;
-    }
+    uint64_t period = period_of(&rows), longest = 0, spared = 0;
+    if (period == 0)
+        return 0;
     uint64_t per_period = rows.s * (period / rows.p);
+    for (uint64_t i = 0; i < rows.servers; i++) {
+        per_period += rows.a[i] * (period / rows.b[i]);
+        spared += period; /* Less than one unit of a server's share is cut off by rounding. */
+    }
     for (uint64_t i = 0; i < rows.count; i++) {
         uint64_t units = rows.x[i] * rows.cost[i] * (period / rows.y[i]);
         per_period += units;
@@ -326,8 +376,8 @@ static uint64_t search_of(struct bytes table)
     if (per_period <= period)
         return period + longest;
     /*
-     * A row's demand in L is above units * (L - d) / period, and at least s * L / p ticks of L are taken. So at this
-     * length L the table's demand is above L.
+     * A row's demand in L is above units * (L - d) / period, a server's is above a * L / b - 1, and at least s * L / p
+     * ticks of L are taken. So at this length L the table's demand is above L.
      */
     return spared / (per_period - period) + 1;
 }

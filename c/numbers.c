@@ -19,14 +19,6 @@ bool read_number(struct bytes bytes, size_t *at, uint64_t *value)
     return false; /* The number is cut off. */
 }
 
-bool read_timer(struct bytes table, size_t *at, struct timer *timer)
-{
-    if (!read_number(table, at, &timer->s))
-        return false;
-    timer->start_of_p = *at;
-    return read_number(table, at, &timer->p);
-}
-
 const char *bad_byte(struct bytes bytes, uint64_t place)
 {
     static char sixth[] = "the byte .. is a sixth group that asks for more";

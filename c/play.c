@@ -23,13 +23,14 @@ static const struct refusal {
     const char *why;
 } refusals[] = {
     {JYRMEKKO_MISSPELLED, "table", NULL},
-    {JYRMEKKO_TOO_MANY_ROWS, "table", "the row count is above " TEXT_OF(JYRMEKKO_MOST_ROWS)},
+    {JYRMEKKO_TOO_MANY_ROWS, "table", NULL},
     {JYRMEKKO_VALUE_OUT_OF_RANGE, "table", NULL},
-    {JYRMEKKO_EXTRA_BYTES, "table", "there are bytes after the last row"},
-    {JYRMEKKO_PERIOD_TOO_LONG, "table", "H, the least common multiple of p and all y, is above 1,048,576"},
+    {JYRMEKKO_EXTRA_BYTES, "table", "there are bytes after the last server, or after a server count of 0"},
+    {JYRMEKKO_PERIOD_TOO_LONG, "table", "H, the least common multiple of p, all y and all b, is above 1,048,576"},
     {JYRMEKKO_HOPELESS_ROW, "table", NULL},
-    {JYRMEKKO_NO_SUCH_ROW, "script", "the row number is not in use"},
-    {JYRMEKKO_COST_OUT_OF_RANGE, "script", "the cost is 0 or above the row's c"},
+    {JYRMEKKO_NO_SUCH_ROW, "script", "the row number is not in use, by a row or by a server"},
+    {JYRMEKKO_COST_OUT_OF_RANGE, "script",
+     "the cost is 0 or above the row's c, for an odd job above " TEXT_OF(JYRMEKKO_MOST_ODD_COST)},
     {JYRMEKKO_PLACES_FULL, "script", TEXT_OF(JYRMEKKO_MOST_PENDING) " jobs are pending at this release"},
     {JYRMEKKO_DUE_TOO_LATE, "script", "the due time would be above 2^40"},
     {JYRMEKKO_TIME_TOO_LATE, "script", "a script time is above 2^40, or a job is pending at 2^40 after the script"},
@@ -41,6 +42,8 @@ static const struct refusal {
 static const char *missing_there(uint32_t status)
 {
     switch (status) {
+    case JYRMEKKO_TOO_MANY_ROWS:
+        return "count is above its limit";
     case JYRMEKKO_VALUE_OUT_OF_RANGE:
         return "number is out of its range";
     case JYRMEKKO_HOPELESS_ROW:
@@ -66,91 +69,23 @@ void say_refusal(FILE *out, const char *call, struct answer answer, const char *
     stop(RIG_NO_ANSWER, "the library's %s says %" PRIu32 ", which is no answer", call, answer.status);
 }
 
-/* No more bytes of a table matter: s, p, the count and four values of each row, all at their longest, and one extra. */
-#define LONGEST_TABLE ((size_t)MOST_GROUPS * (3 + 4 * JYRMEKKO_MOST_ROWS) + 1)
-
-enum { LARGEST_P = 4096 };
-
-static bool is_good_p(uint64_t p)
+struct bytes read_table_file(const char *path)
 {
-    return p >= 1 && p <= LARGEST_P;
+    /* These are s, p, the two counts, and the values of all rows and servers. After them one extra byte is enough. */
+    enum { MOST_NUMBERS = 2 + 2 + 4 * JYRMEKKO_MOST_ROWS + 2 * JYRMEKKO_MOST_SERVERS };
+    return read_file(path, (size_t)MOST_GROUPS * MOST_NUMBERS + 1);
 }
 
-/*
- * Says which number of a table is out of its range at this place (docs/RULES.md, 3.10 and 3.17). Returns null where the
- * place is that of the timer, and none of its two numbers is refused there. The text stays until the next call.
- */
-static const char *out_of_range(struct bytes table, uint64_t place)
-{
-    static char says[128];
-    struct timer timer;
-    size_t after = 0;
-    if (!read_timer(table, &after, &timer))
-        return NULL;
-    if (!is_good_p(timer.p)) {
-        snprintf(says, sizeof says, "the timer's p is %" PRIu64 ", and must be 1 to %d", timer.p, LARGEST_P);
-        return place == timer.start_of_p ? says : NULL;
-    }
-    if (timer.s >= timer.p) {
-        snprintf(says, sizeof says, "the timer's s is %" PRIu64 ", and must be below its p, which is %" PRIu64, timer.s,
-                 timer.p);
-        return place == 0 ? says : NULL;
-    }
-    return place > after ? "an x, y, d or c is out of its range" : NULL;
-}
-
-/* Returns how many ticks of a length from clock 0 on the timer of an accepted table takes (docs/RULES.md, 5.3). */
-static uint64_t taken_ticks(struct bytes table, uint64_t length)
-{
-    struct timer timer;
-    size_t after = 0;
-    if (!read_timer(table, &after, &timer) || !is_good_p(timer.p))
-        return 0;
-    uint64_t rest = length % timer.p;
-    return length / timer.p * timer.s + (rest < timer.s ? rest : timer.s);
-}
-
-/*
- * Says what a hopeless row asks for (docs/RULES.md, 3.3): its number, its c and its d. Returns null where no row's c
- * starts at this place, and where that c or its d is out of range, or c is not above d. The text stays until the next
- * call.
- */
-static const char *hopeless_row(struct bytes table, uint64_t place)
-{
-    enum { X, Y, D, C, VALUES, LARGEST_COST = 4096 };
-    static char asks[128];
-    struct timer timer;
-    uint64_t count, values[VALUES];
-    size_t at = 0, start = 0;
-    if (!read_timer(table, &at, &timer) || !is_good_p(timer.p) || timer.s >= timer.p)
-        return NULL;
-    if (!read_number(table, &at, &count) || count > JYRMEKKO_MOST_ROWS)
-        return NULL;
-    for (uint64_t row = 0; row < count && start < place; row++) {
-        for (int value = X; value < VALUES; value++) {
-            start = at;
-            if (!read_number(table, &at, &values[value]))
-                return NULL;
-        }
-        if (start == place && values[D] >= 1 && values[C] > values[D] && values[C] <= LARGEST_COST) {
-            snprintf(asks, sizeof asks, "row %" PRIu64 " asks for %" PRIu64 " units within %" PRIu64 " tick%s, which "
-                     "no processor can give", row, values[C], values[D], values[D] == 1 ? "" : "s");
-            return asks;
-        }
-    }
-    return NULL;
-}
-
-/* Says what is wrong at the place of 1, 3 or 16 in a table. Returns null with every other status. */
+/* Says what is wrong at the place of 1, 2, 3 or 16 in a table. Returns null with every other status. */
 static const char *wrong_in_table(struct bytes table, struct answer answer)
 {
     switch (answer.status) {
     case JYRMEKKO_MISSPELLED:
-        return bad_byte(table, answer.first);
+        return bad_table_byte(table, answer.first);
+    case JYRMEKKO_TOO_MANY_ROWS:
     case JYRMEKKO_VALUE_OUT_OF_RANGE:
-        return out_of_range(table, answer.first);
     case JYRMEKKO_HOPELESS_ROW:
-        return hopeless_row(table, answer.first);
+        return wrong_number(table, answer.status, answer.first);
     default:
         return NULL;
     }
@@ -158,13 +93,13 @@ static const char *wrong_in_table(struct bytes table, struct answer answer)
 
 struct judged judge_file(const char *table_path)
 {
-    struct bytes table = read_file(table_path, LONGEST_TABLE);
+    struct bytes table = read_table_file(table_path);
     uint8_t buffer[JYRMEKKO_ANSWER_SIZE] = {0};
     uint32_t status = verdict(table.at, table.length, buffer, sizeof buffer);
-    struct judged result = {answer_of(status, buffer), NULL, 0};
+    struct judged result = {answer_of(status, buffer), NULL, {0, 0, 0}};
     result.wrong = wrong_in_table(table, result.answer);
     if (status == JYRMEKKO_OVERLOADED)
-        result.taken = taken_ticks(table, result.answer.first);
+        result.shares = shares_of(table, result.answer.first);
     free(table.at);
     return result;
 }
@@ -204,10 +139,10 @@ static bool is_played(uint32_t status)
 
 struct replayed replay_files(const char *table_path, const char *script_path, const char *out_path)
 {
-    struct replayed result = {{0, 0, 0}, NULL, {NULL, 0}};
+    struct replayed result = {{0, 0, 0}, NULL, {NULL, 0}, 0, 0};
     if (is_standard(table_path) && is_standard(script_path))
         stop(RIG_USAGE, "standard input can't be both the table and the script");
-    struct bytes table = read_file(table_path, LONGEST_TABLE);
+    struct bytes table = read_table_file(table_path);
     struct source script = open_source(script_path);
     if (out_path != NULL)
         expect_not_read(out_path);
@@ -230,6 +165,11 @@ struct replayed replay_files(const char *table_path, const char *script_path, co
         if (result.answer.first > result.log.length)
             stop(RIG_NO_ANSWER, "the library's replay says that its log is longer than the buffer");
         result.log.length = (size_t)result.answer.first;
+        struct table read = start_table(table);
+        while (read_part(&read))
+            continue;
+        result.rows = read.rows;
+        result.servers = read.servers;
     } else {
         result.log.length = 0;
     }

@@ -15,7 +15,8 @@ static const char help[] =
     "rig verdict TABLE                says whether the jobs of a table can always be run in time\n"
     "rig replay TABLE SCRIPT [LOG]    runs the releases of a script, and writes a record for each job to LOG\n"
     "rig show table|script|log FILE   shows the numbers of a file in columns\n"
-    "rig show log LOG TABLE SCRIPT    shows a log, and says whether it is the whole log of that replay\n"
+    "rig show script SCRIPT TABLE     shows a script, and names the odd jobs and their servers\n"
+    "rig show log LOG TABLE SCRIPT    shows a log with its odd jobs, and says whether it is the whole log of that replay\n"
     "rig spell TEXT OUT               turns decimal numbers, with # comments, into the bytes of a table or a script\n"
     "rig demo                         shows all of this on examples/ (only as ./rig demo)\n"
     "rig --help                       shows this page\n"
@@ -24,16 +25,25 @@ static const char help[] =
     "is 22 or 23. A file that is read is never written over.\n"
     "\n"
     "A table starts with s and p of the sampling timer, which takes the first s ticks of every p. Then come the row\n"
-    "count, and x, y, d and c of each row. A rig without a timer has '0 1' in front, and a table that was written\n"
-    "before tables had a timer needs these two numbers there. Taken ticks count in a table's demand, and where it is\n"
-    "overloaded (21) the program says how many of its units they are.\n"
+    "count, on a line of its own, and x, y, d and c of each row. A rig without a timer has '0 1' in front, and a table\n"
+    "that was written before tables had a timer needs these two numbers there.\n"
+    "\n"
+    "After the rows each server has a line 'server a b'. It gives a units in b ticks to odd jobs, which may come at any\n"
+    "time. An odd job is due b/a ticks for each unit of its cost, rounded up, after its release or after the due time of\n"
+    "the server's job before it, if that is later. In scripts and logs the servers have the row numbers after those of\n"
+    "the rows. As bytes the server count stands before them, and a table without servers ends with 00. 'spell' writes\n"
+    "that count, so a text without servers stays as it was. The bytes of a table from before there were servers need 00\n"
+    "at their end. What 'show' says about a table or a script is a text that 'spell' turns into the same bytes.\n"
+    "\n"
+    "Taken ticks and servers count in a table's demand, and where it is overloaded (21) the program says how many of its\n"
+    "units are theirs.\n"
     "\n"
     "The bytes of a file are counted from 0. Where a number can't be read (1, 14, and 65 of show), the bad byte is\n"
     "named with its value: a superfluous zero group, or a sixth group that asks for more. Where the bytes end inside\n"
-    "a number, or where a number should stand, the byte after the last one is named. Where the timer's p or s is out\n"
-    "of its range (3), it is named with its value: p must be 1 to 4096, and s must be below p. Where a row's c is\n"
-    "above its d (16), the row is named with both: it asks for more units than it has ticks, which no processor can\n"
-    "give.\n"
+    "a number, or where a number should stand, the byte after the last one is named. Where a number is out of its range\n"
+    "(3), it is named with its value and its range: p must be 1 to 4096 and s must be below p, and for a server a must\n"
+    "be 1 to 4096 and b must be a to 4096. Where a row's c is above its d (16), the row is named with both: it asks for\n"
+    "more units than it has ticks, which no processor can give.\n"
     "\n"
     "Exit status: never 0, so that no silence reads as a pass.\n"
     "\n"
@@ -54,6 +64,17 @@ static const char help[] =
     "    71  there is not enough memory\n"
     "    74  a file or standard output can't be written\n";
 
+/* Says how much of a witness's demand is the timer's and how much is the servers', where they have any of it. */
+static void say_shares(struct shares shares)
+{
+    if (shares.taken > 0 || shares.odd > 0)
+        printf(", of which");
+    if (shares.taken > 0)
+        printf(" the timer takes %" PRIu64 "%s", shares.taken, shares.odd > 0 ? " and" : "");
+    if (shares.odd > 0)
+        printf(" the %s for %" PRIu64, shares.servers == 1 ? "server asks" : "servers ask", shares.odd);
+}
+
 static int judge(const char *table_path)
 {
     struct judged judged = judge_file(table_path);
@@ -65,8 +86,7 @@ static int judge(const char *table_path)
     case JYRMEKKO_OVERLOADED:
         printf("overloaded %" PRIu32 ": the demand in %" PRIu64 " tick%s is %" PRIu64 " units", answer.status,
                answer.first, answer.first == 1 ? "" : "s", answer.second);
-        if (judged.taken > 0)
-            printf(", of which the timer takes %" PRIu64, judged.taken);
+        say_shares(judged.shares);
         putchar('\n');
         break;
     default:
@@ -120,6 +140,8 @@ int main(int words, char **word)
         status = play(word[2], word[3], words == 5 ? word[4] : NULL);
     else if (strcmp(command, "show") == 0 && words == 4)
         show(word[2], word[3], NULL, NULL);
+    else if (strcmp(command, "show") == 0 && words == 5 && strcmp(word[2], "script") == 0)
+        show(word[2], word[3], word[4], NULL);
     else if (strcmp(command, "show") == 0 && words == 6 && strcmp(word[2], "log") == 0)
         show(word[2], word[3], word[4], word[5]);
     else if (strcmp(command, "spell") == 0 && words == 4)

@@ -25,7 +25,8 @@ static bool tampering(const char *name)
                                         "log-past-its-length", "log-kept", "log-cut", "log-too-long", "number-start",
                                         "byte-before", "byte-after", "end-for-byte", "fewer-rows", "fewer-places",
                                         "period-before-hopeless", "taken-left-out", "taken-given", "s-before-p",
-                                        "old-spelling"};
+                                        "old-spelling", "servers-left-out", "odd-due-early", "fewer-servers",
+                                        "no-server-count", "period-let-through"};
     const char *chosen = getenv("TAMPER");
     for (size_t i = 0; chosen != NULL && i < sizeof names / sizeof names[0]; i++)
         if (strcmp(chosen, names[i]) == 0)
@@ -41,6 +42,22 @@ static bool is_refusal(uint32_t status)
 static bool has_most_rows(const uint8_t *table, size_t table_len)
 {
     return table_len > COUNT && table[COUNT] == JYRMEKKO_MOST_ROWS;
+}
+
+/* Returns where the server count of a table starts, if its numbers are well spelled and its row count has one group. */
+static size_t server_count_at(const uint8_t *table, size_t table_len)
+{
+    size_t at = 0, numbers = 0, before = COUNT + 1; /* So many numbers stand before the server count. */
+    for (; at < table_len && numbers < before; at++)
+        if (table[at] < 0x80 && numbers++ == COUNT)
+            before += (size_t)4 * table[at];
+    return at;
+}
+
+static bool has_most_servers(const uint8_t *table, size_t table_len)
+{
+    size_t at = server_count_at(table, table_len);
+    return at < table_len && table[at] == JYRMEKKO_MOST_SERVERS;
 }
 
 /* Copies a table with bytes in front of it. The caller frees the copy. */
@@ -63,6 +80,43 @@ static uint8_t *untimed(const uint8_t *table, size_t table_len)
     if (table_len >= COUNT && table[S] < table[P] && table[P] < 0x80)
         copy[S] = 0;
     return copy;
+}
+
+/* Copies a table that has no server then. *length is the table's length before, and the copy's after. */
+static uint8_t *without_servers(const uint8_t *table, size_t *length)
+{
+    uint8_t *copy = copied(NULL, 0, table, *length);
+    size_t at = server_count_at(table, *length);
+    if (at < *length) {
+        copy[at] = 0;
+        *length = at + 1;
+    }
+    return copy;
+}
+
+/* Copies a table whose good servers then give every tick, as far as each a and b has one group. */
+static uint8_t *with_whole_servers(const uint8_t *table, size_t table_len)
+{
+    uint8_t *copy = copied(NULL, 0, table, table_len);
+    for (size_t at = server_count_at(table, table_len) + 1; at + 1 < table_len; at += 2)
+        if (copy[at] >= 1 && copy[at + 1] > copy[at] && copy[at + 1] < 0x80)
+            copy[at + 1] = copy[at];
+    return copy;
+}
+
+/* Reads a table in the spelling that has no server count too, and judges it. Returns whether that gives an answer. */
+static bool judged_without_server_count(const uint8_t *table, size_t table_len, uint8_t *answer, uint32_t *status)
+{
+    uint8_t other[JYRMEKKO_ANSWER_SIZE];
+    uint8_t *copy = copied(NULL, 0, table, table_len); /* The copy has room for one byte more. */
+    copy[table_len] = 0;
+    uint32_t judged = __real_verdict(copy, table_len + 1, other, sizeof other);
+    free(copy);
+    if (is_refusal(judged))
+        return false;
+    memcpy(answer, other, sizeof other);
+    *status = judged;
+    return true;
 }
 
 /* Reads a table in the spelling that has no timer too, and judges it. Returns whether that gives an answer. */
@@ -134,6 +188,8 @@ static uint32_t tampered(uint32_t status, const uint8_t *table, size_t table_len
             return refused(JYRMEKKO_PERIOD_TOO_LONG, table_len, answer);
         if (tampering("fewer-rows") && has_most_rows(table, table_len))
             return refused(JYRMEKKO_TOO_MANY_ROWS, COUNT, answer);
+        if (tampering("fewer-servers") && has_most_servers(table, table_len))
+            return refused(JYRMEKKO_TOO_MANY_ROWS, server_count_at(table, table_len), answer);
         if (tampering("s-before-p") && status == JYRMEKKO_VALUE_OUT_OF_RANGE && table[S] >= table[P])
             return refused(status, S, answer);
         if (tampering("status"))
@@ -148,9 +204,18 @@ static uint32_t tampered(uint32_t status, const uint8_t *table, size_t table_len
 uint32_t __wrap_verdict(const uint8_t *table, size_t table_len, uint8_t *answer, size_t answer_len)
 {
     uint8_t before = answer_len > 0 ? answer[FIRST] : 0;
-    uint8_t *judged = tampering("taken-left-out") ? untimed(table, table_len) : NULL;
-    uint32_t status = __real_verdict(judged != NULL ? judged : table, table_len, answer, answer_len);
+    size_t judged_len = table_len;
+    uint8_t *judged = tampering("taken-left-out")   ? untimed(table, table_len)
+                    : tampering("servers-left-out") ? without_servers(table, &judged_len) : NULL;
+    uint32_t status = __real_verdict(judged != NULL ? judged : table, judged_len, answer, answer_len);
     free(judged);
+    if (tampering("no-server-count") && status == JYRMEKKO_MISSPELLED &&
+        judged_without_server_count(table, table_len, answer, &status))
+        return status;
+    if (tampering("period-let-through") && status == JYRMEKKO_PERIOD_TOO_LONG) {
+        memset(answer, 0, answer_len);
+        return JYRMEKKO_FEASIBLE;
+    }
     if (tampering("old-spelling") && status != JYRMEKKO_ANSWER_NOT_16_BYTES && is_refusal(status) &&
         judged_without_timer(table, table_len, answer, &status))
         return status;
@@ -165,7 +230,8 @@ uint32_t __wrap_replay(const uint8_t *table, size_t table_len, const uint8_t *sc
                        uint8_t *log, size_t log_len, uint8_t *answer, size_t answer_len)
 {
     uint8_t before = answer_len > 0 ? answer[FIRST] : 0;
-    uint8_t *played = tampering("taken-given") ? untimed(table, table_len) : NULL;
+    uint8_t *played = tampering("taken-given")   ? untimed(table, table_len)
+                    : tampering("odd-due-early") ? with_whole_servers(table, table_len) : NULL;
     uint32_t status = __real_replay(played != NULL ? played : table, table_len, script, script_len, log, log_len,
                                     answer, answer_len);
     free(played);
@@ -182,7 +248,8 @@ uint32_t __wrap_replay(const uint8_t *table, size_t table_len, const uint8_t *sc
             answer[FIRST]--;
         if (tampering("log-too-long") && !is_refusal(status))
             answer[SECOND - 1] = 1;
-        if (tampering("fewer-rows") && has_most_rows(table, table_len))
+        if ((tampering("fewer-rows") && has_most_rows(table, table_len)) ||
+            (tampering("fewer-servers") && has_most_servers(table, table_len)))
             memset(log, 0, log_len);
         if (tampering("fewer-places") && !is_refusal(status) && script_len == 3 * JYRMEKKO_MOST_PENDING) {
             memset(log, 0, log_len);

@@ -1,7 +1,7 @@
 /*
  * The refusals that the rules want for a table and a script, worked out from the bytes alone (docs/RULES.md, 10.3 and
- * 10.4), and a table's demand, by its definition (5.1 and 5.3). The tests compare the two calls with it. It shares no
- * code with the library or with the technician's program.
+ * 10.4), a table's demand, by its definition (5.1, 5.3 and 5.16), and the due times of odd jobs (4.9). The tests compare
+ * the two calls with it. It shares no code with the library or with the technician's program.
  */
 #ifndef WANTED_H
 #define WANTED_H
@@ -56,12 +56,55 @@ static inline struct wanted wanted_at(uint32_t status, size_t place, enum spelle
     return wanted;
 }
 
-/* The timer and the rows of a table that wants no refusal. */
+/* The timer, the rows and the servers of a table that wants no refusal. */
 struct rows {
     uint64_t s, p;
     uint64_t count;
     uint64_t x[JYRMEKKO_MOST_ROWS], y[JYRMEKKO_MOST_ROWS], due[JYRMEKKO_MOST_ROWS], cost[JYRMEKKO_MOST_ROWS];
+    uint64_t servers;
+    uint64_t a[JYRMEKKO_MOST_SERVERS], b[JYRMEKKO_MOST_SERVERS];
 };
+
+/*
+ * Returns which of 1 to 3 is wanted for the server count that starts at this place, and for the servers after it. Where
+ * none is wanted, *end is the place after the last server.
+ */
+static inline struct wanted wanted_of_servers(const uint8_t *table, size_t length, size_t start, struct rows *rows,
+                                              size_t *end)
+{
+    enum { MOST_VALUE = 4096 };
+    struct found found = find_number(table, length, start);
+    size_t i;
+    if (found.spelled != READABLE) {
+        return wanted_at(JYRMEKKO_MISSPELLED, found.place, found.spelled, 0);
+    }
+    if (found.value > JYRMEKKO_MOST_SERVERS) {
+        return wanted_at(JYRMEKKO_TOO_MANY_ROWS, start, READABLE, 0);
+    }
+    rows->servers = found.value;
+    for (i = 0; i < rows->servers; i++) {
+        start = found.place;
+        found = find_number(table, length, start);
+        if (found.spelled != READABLE) {
+            return wanted_at(JYRMEKKO_MISSPELLED, found.place, found.spelled, 0);
+        }
+        rows->a[i] = found.value;
+        if (rows->a[i] < 1 || rows->a[i] > MOST_VALUE) {
+            return wanted_at(JYRMEKKO_VALUE_OUT_OF_RANGE, start, READABLE, 0);
+        }
+        start = found.place;
+        found = find_number(table, length, start);
+        if (found.spelled != READABLE) {
+            return wanted_at(JYRMEKKO_MISSPELLED, found.place, found.spelled, 0);
+        }
+        rows->b[i] = found.value;
+        if (rows->b[i] < rows->a[i] || rows->b[i] > MOST_VALUE) {
+            return wanted_at(JYRMEKKO_VALUE_OUT_OF_RANGE, start, READABLE, 0);
+        }
+    }
+    *end = found.place;
+    return wanted_at(0, 0, READABLE, 0);
+}
 
 /* Returns which of 1 to 4 and 16 is wanted. 5 is left out. */
 static inline struct wanted wanted_of_table(const uint8_t *table, size_t length, struct rows *rows)
@@ -69,10 +112,12 @@ static inline struct wanted wanted_of_table(const uint8_t *table, size_t length,
     enum { VALUES = 4, MOST_P = 4096 };
     static const uint64_t most[VALUES] = {64, 4096, 16384, 4096};
     struct found found = find_number(table, length, 0);
-    size_t i, start;
+    struct wanted wanted;
+    size_t i, start, end = 0;
     rows->s = found.value;
     rows->p = 1;
     rows->count = 0;
+    rows->servers = 0;
     if (found.spelled != READABLE) {
         return wanted_at(JYRMEKKO_MISSPELLED, found.place, found.spelled, 0);
     }
@@ -112,10 +157,11 @@ static inline struct wanted wanted_of_table(const uint8_t *table, size_t length,
             return wanted_at(JYRMEKKO_HOPELESS_ROW, start, READABLE, 0);
         }
     }
-    if (found.place < length) {
-        return wanted_at(JYRMEKKO_EXTRA_BYTES, found.place, READABLE, 0);
+    wanted = wanted_of_servers(table, length, found.place, rows, &end);
+    if (wanted.status == 0 && end < length) {
+        return wanted_at(JYRMEKKO_EXTRA_BYTES, end, READABLE, 0);
     }
-    return wanted_at(0, 0, READABLE, 0);
+    return wanted;
 }
 
 /* Returns whether the timer takes the tick at this clock. */
@@ -141,14 +187,24 @@ static inline uint64_t demand_of(const struct rows *rows, uint64_t length)
             sum += ((length - rows->due[i]) / rows->y[i] + 1) * rows->x[i] * rows->cost[i];
         }
     }
+    for (i = 0; i < rows->servers; i++) {
+        sum += rows->a[i] * length / rows->b[i];
+    }
     return sum;
+}
+
+/* Returns when an odd job of this cost is due, released at this time. `last` is its server's last due time. */
+static inline uint64_t odd_due(const struct rows *rows, uint64_t server, uint64_t time, uint64_t last, uint64_t cost)
+{
+    uint64_t start = time > last ? time : last, ticks = cost * rows->b[server] / rows->a[server];
+    return start + ticks + (ticks * rows->a[server] < cost * rows->b[server] ? 1 : 0);
 }
 
 /* Returns which of 14, 10, 6 and 7 is wanted where no release before it is refused with 8 or 9. */
 static inline struct wanted wanted_of_script(const uint8_t *script, size_t length, const struct rows *rows)
 {
     enum { GAP, ROW, COST, NUMBERS };
-    const uint64_t last_tick = (uint64_t)1 << 40;
+    const uint64_t last_tick = (uint64_t)1 << 40, most_odd_cost = 4096;
     uint64_t time = 0, row = 0;
     size_t i, start = 0, record = 0;
     for (i = 0; i % NUMBERS != GAP || start < length; i++) {
@@ -166,10 +222,10 @@ static inline struct wanted wanted_of_script(const uint8_t *script, size_t lengt
             }
         } else if (i % NUMBERS == ROW) {
             row = found.value;
-            if (row >= rows->count) {
+            if (row >= rows->count + rows->servers) {
                 return wanted_at(JYRMEKKO_NO_SUCH_ROW, start, READABLE, record);
             }
-        } else if (found.value < 1 || found.value > rows->cost[row]) {
+        } else if (found.value < 1 || found.value > (row < rows->count ? rows->cost[row] : most_odd_cost)) {
             return wanted_at(JYRMEKKO_COST_OUT_OF_RANGE, start, READABLE, record);
         }
         start = found.place;

@@ -2,9 +2,10 @@
  * jyrmekko.h: the rig's scheduler, for a host in C or C++
  *
  * verdict() says whether a table is feasible: whether its jobs can all be run in time at every load that it allows, in
- * the ticks that the sampling timer leaves free. replay() runs a script of releases on a table and writes a log of the
- * jobs. Both return a status, which is one of the numbers below. Zero is none of them, and no refusal looks like a yes.
- * Test for the status that you want, and never for the absence of another.
+ * the ticks that the sampling timer leaves free. Jobs that have a rate belong to rows, and odd jobs, which have none, to
+ * servers. replay() runs a script of releases on a table and writes a log of the jobs. Both return a status, which is
+ * one of the numbers below. Zero is none of them, and no refusal looks like a yes. Test for the status that you want,
+ * and never for the absence of another.
  *
  * Buffers. Each buffer is lent as a pointer and a length in bytes. The buffers of one call must not overlap. A null
  * pointer is allowed only with length 0. Any bytes may be handed in, and nothing has to be checked beforehand. The
@@ -18,30 +19,44 @@
  * 00, 127 is 7F, 128 is 80 01, 300 is AC 02. Time is counted in ticks, from 0 to 2^40.
  *
  * Tables. A table is s and p of the sampling timer, then its row count, from 0 to JYRMEKKO_MOST_ROWS, then x, y, d and
- * c of each row, and nothing after. In a row, x executions are expected in any y ticks, each is due d ticks after its
- * release, and each costs at most c units. One unit is one tick of the processor. x is 1 to 64, y is 1 to 4,096, d is 1
- * to 16,384 and c is 1 to 4,096. A row with c above d is hopeless, since no job gets more units than it has ticks, and
- * no table may have one. H, the least common multiple of p and the y of all rows, is at most 1,048,576.
+ * c of each row, then its server count, from 0 to JYRMEKKO_MOST_SERVERS, then a and b of each server, and nothing after.
+ * In a row, x executions are expected in any y ticks, each is due d ticks after its release, and each costs at most c
+ * units. One unit is one tick of the processor. x is 1 to 64, y is 1 to 4,096, d is 1 to 16,384 and c is 1 to 4,096. A
+ * row with c above d is hopeless, since no job gets more units than it has ticks, and no table may have one. H, the
+ * least common multiple of p, the y of all rows and the b of all servers, is at most 1,048,576.
  *
  * Timer. The sampling timer takes the first s ticks of every p, counted from clock 0, and no job can have them: the
  * tick at the clock t is taken when t modulo p is below s. Every other tick is free for jobs. p is 1 to 4,096 and s is
- * 0 to p - 1. With s = 0 no tick is taken, but p counts in H all the same. A rig without a timer has s = 0 and p = 1. A
- * table of the earlier spelling, which starts with its row count, is not read any more. With 00 01 put in front it is
- * the table of that rig, and its verdict is what it was.
+ * 0 to p - 1. With s = 0 no tick is taken, but p counts in H all the same. A rig without a timer has s = 0 and p = 1.
+ *
+ * Servers. A server is for odd jobs: they have no rate, and may come at any time. It gives them a share of the
+ * processor, a units in b ticks. a is 1 to JYRMEKKO_MOST_SERVER_VALUE, and b is a to JYRMEKKO_MOST_SERVER_VALUE. b counts
+ * in H as it stands, also where a / b could be reduced. Servers are numbered after the rows: server k, counted from 0,
+ * has the row number k plus the row count, in scripts and in logs. An odd job costs 1 to JYRMEKKO_MOST_ODD_COST units.
+ * What it costs decides when it is due, so on a feasible table odd jobs make nobody late, however many there are.
+ *
+ * Earlier spellings. A table without a server count at its end is not read any more, and a table that starts with its
+ * row count is not either. A table from before there were servers gains 00 at its end, and one from before there were
+ * timers gains 00 01 in front besides. Then it is the table of that rig, and its verdict is what it was.
  *
  * Scripts. A script is any number of records of three numbers: the gap, which is the time since the last record (for
  * the first record since 0); the row number, counted from 0; and the cost. A row number is in use when it is below the
- * table's row count. A record's script time is the sum of all gaps up to and including its own. Each record releases
- * one job at its script time, and at most JYRMEKKO_MOST_PENDING jobs may be pending at a time. Jobs get their serials
- * from 0 on, in the order of release. The j-th job of a row, released at t, is due at t + d. Where j is above x, it is
- * due at the later of t + d and y ticks after the due time of job j - x. Each tick that is not taken gives one unit to
- * the pending job with the earliest due time, and among equal due times to the lowest serial. A taken tick gives no
- * unit, and jobs become late in it as in any other.
+ * sum of the table's row count and its server count. A record's script time is the sum of all gaps up to and including
+ * its own. Each record releases one job at its script time, and at most JYRMEKKO_MOST_PENDING jobs, of rows and servers
+ * together, may be pending at a time. Jobs get their serials from 0 on, in the order of release, over all rows and
+ * servers.
+ *
+ * Due times. The j-th job of a row, released at t, is due at t + d. Where j is above x, it is due at the later of t + d
+ * and y ticks after the due time of job j - x. An odd job of cost e, released at t, is due e * b / a ticks, rounded up,
+ * after the later of t and its server's last due time. That is the due time of the server's job before it, finished or
+ * not, and 0 before the first. Each tick that is not taken gives one unit to the pending job with the earliest due
+ * time, and among equal due times to the lowest serial. A taken tick gives no unit, and jobs become late in it as in any
+ * other.
  *
  * Logs. A log has one record of five numbers for each job, in the order of finishing: serial, row number, release, due
- * time, finish. A job that finishes after its due time is late, and one that finishes exactly at it is not. A record of
- * a log takes at most 30 bytes and a record of a script at least 3. So a log buffer of JYRMEKKO_LOG_SIZE(script_len)
- * bytes is always long enough.
+ * time, finish. The row number of an odd job is its server's. A job that finishes after its due time is late, and one
+ * that finishes exactly at it is not. A record of a log takes at most 30 bytes and a record of a script at least 3. So a
+ * log buffer of JYRMEKKO_LOG_SIZE(script_len) bytes is always long enough.
  *
  * Answers. The answer buffer has exactly 16 bytes and takes two numbers of eight bytes each, the lowest byte first. For
  * a refusal they are its place and 0. A place counts bytes from 0. For 1 to 5 and 16 it is a place in the table, and
@@ -54,16 +69,19 @@
  *   - Where the bytes end inside a number, or where a number should stand, it is the length of the table or script. No
  *     byte stands there.
  * So the table 80 00 is refused with 1 at place 1, the table 00 01 01 01 80 80 80 80 80 80 01 with 1 at place 9, and
- * the table 00 01 01 with 1 at place 3, its length. On a table with a row, the script 00 00 is refused with 14 at place
- * 2, its length.
+ * the table 00 01 00, which has no server count, with 1 at place 3, its length. On a table with a row, the script 00 00
+ * is refused with 14 at place 2, its length.
  *
  * Example:
  *
- *     uint8_t table[] = {0, 1, 1, 1, 2, 6, 1}, script[] = {0, 0, 1, 4, 0, 1};
+ *     uint8_t table[] = {0, 1, 1, 1, 2, 6, 1, 0}, script[] = {0, 0, 1, 4, 0, 1};
  *     uint8_t log[JYRMEKKO_LOG_SIZE(sizeof script)], answer[JYRMEKKO_ANSWER_SIZE];
  *     if (verdict(table, sizeof table, answer, sizeof answer) != JYRMEKKO_FEASIBLE) return 1;
  *     if (replay(table, sizeof table, script, sizeof script, log, sizeof log, answer, sizeof answer) != JYRMEKKO_IN_TIME) return 1;
  *     printf("in time, %d bytes of log\n", answer[0] + 256 * answer[1]);
+ *
+ * The same rig with a server that gives 1 unit in 4 ticks has the table {0, 1, 1, 1, 2, 6, 1, 1, 1, 4}. On it the
+ * script {0, 0, 1, 0, 1, 2} releases a job of the row and an odd job of cost 2, which is due at tick 8.
  */
 #ifndef JYRMEKKO_H
 #define JYRMEKKO_H
@@ -80,13 +98,16 @@ extern "C" {
 #define JYRMEKKO_LOG_SIZE(script_len) (10 * (script_len))
 
 /* The limits. */
-#define JYRMEKKO_MOST_ROWS 64     /* A table has no more rows than this. */
-#define JYRMEKKO_MOST_PENDING 256 /* No more jobs than this are pending at a time. */
+#define JYRMEKKO_MOST_ROWS 64           /* A table has no more rows than this. */
+#define JYRMEKKO_MOST_SERVERS 8         /* A table has no more servers than this. */
+#define JYRMEKKO_MOST_SERVER_VALUE 4096 /* A server's a and b are no more than this. */
+#define JYRMEKKO_MOST_ODD_COST 4096     /* An odd job costs no more than this. */
+#define JYRMEKKO_MOST_PENDING 256       /* No more jobs than this are pending at a time. */
 
 /*
  * The bytes of stack with which a thread can make either call. Measured on x86-64, with any input: below its caller
- * verdict() takes less than 12,000 bytes, and replay() less than 69,000. With what the system itself puts on a thread's
- * stack, a thread needs 73,728 bytes. The other 24,576 are room, for the functions that make the call and for signal
+ * verdict() takes less than 13,000 bytes, and replay() less than 77,000. With what the system itself puts on a thread's
+ * stack, a thread needs 81,920 bytes. The other 16,384 are room, for the functions that make the call and for signal
  * handlers.
  */
 #define JYRMEKKO_STACK_SIZE 98304
@@ -99,7 +120,7 @@ enum jyrmekko_status {
     /* The answers of verdict(). */
     JYRMEKKO_FEASIBLE = 20,            /* No length of time has more demand than length. Numbers: 0 and 0. */
     JYRMEKKO_OVERLOADED = 21,          /* Some length has. Numbers: the smallest such length and its demand, in */
-                                       /* which the taken ticks are counted. */
+                                       /* which the servers and the taken ticks are counted. */
 
     /* The answers of replay(). */
     JYRMEKKO_IN_TIME = 22,             /* All jobs are in time. Numbers: the log's length in bytes, and 0. */
@@ -108,19 +129,25 @@ enum jyrmekko_status {
     /* The refusals of a table, by both calls. */
     JYRMEKKO_MISSPELLED = 1,           /* A number is misspelled or too long. Place: the bad byte. */
                                        /* Or a number is cut off. Place: the table's length. */
-    JYRMEKKO_TOO_MANY_ROWS = 2,        /* The row count is above JYRMEKKO_MOST_ROWS. Place: the count's start. */
-    JYRMEKKO_VALUE_OUT_OF_RANGE = 3,   /* A p, x, y, d or c is out of its range. Place: the number's start. */
+    JYRMEKKO_TOO_MANY_ROWS = 2,        /* The row count is above JYRMEKKO_MOST_ROWS, or the server count is above */
+                                       /* JYRMEKKO_MOST_SERVERS. Place: the count's start. */
+    JYRMEKKO_VALUE_OUT_OF_RANGE = 3,   /* A p, x, y, d, c, a or b is out of its range. Place: the number's start. A b */
+                                       /* below its server's a is out of its range too. */
                                        /* Or s is not below p. Place: 0, the start of s. */
-    JYRMEKKO_EXTRA_BYTES = 4,          /* There are bytes after the last row. Place: the first extra byte. */
+    JYRMEKKO_EXTRA_BYTES = 4,          /* There are bytes after the last server, or after a server count of 0. */
+                                       /* Place: the first extra byte. */
     JYRMEKKO_PERIOD_TOO_LONG = 5,      /* H is above 1,048,576. Place: the table's length. */
     JYRMEKKO_HOPELESS_ROW = 16,        /* A row's c is in its range and above the row's d. Place: the start of c. */
 
     /* The refusals of a script, by replay(). */
-    JYRMEKKO_NO_SUCH_ROW = 6,          /* The row number is not in use. Place: the row number's start. */
-    JYRMEKKO_COST_OUT_OF_RANGE = 7,    /* The cost is 0 or above the row's c. Place: the cost's start. */
+    JYRMEKKO_NO_SUCH_ROW = 6,          /* The row number is not in use: it is neither a row's nor a server's. Place: */
+                                       /* the row number's start. */
+    JYRMEKKO_COST_OUT_OF_RANGE = 7,    /* The cost is 0, or above the row's c, or for an odd job above */
+                                       /* JYRMEKKO_MOST_ODD_COST. Place: the cost's start. */
     JYRMEKKO_PLACES_FULL = 8,          /* JYRMEKKO_MOST_PENDING jobs are pending at a release. Place: the */
                                        /* record's start. */
-    JYRMEKKO_DUE_TOO_LATE = 9,         /* The due time would be above 2^40. Place: the record's start. */
+    JYRMEKKO_DUE_TOO_LATE = 9,         /* The due time, of a row's job or of an odd job, would be above 2^40. Place: */
+                                       /* the record's start. */
     JYRMEKKO_TIME_TOO_LATE = 10,       /* A script time is above 2^40. Place: the gap's start. */
                                        /* Or, after the last record, the clock is at 2^40 with a job pending. Place: */
                                        /* the script's length. */
@@ -147,15 +174,21 @@ enum jyrmekko_status {
  * Says whether the table is feasible.
  *
  * It returns 20 or 21, or a refusal. 13 comes first, and then 1 to 5 and 16. The table is tested from left to right,
- * each number as it is read: s for 1, p for 1 and 3, the row count for 1 and 2, each x, y and d for 1 and 3, and each c
- * for 1, 3 and 16. Only s waits for p: right after p's own range comes 3 for an s that is not below p. After the last
- * row comes 4, and then 5. So the table 01 00 is refused with 3 at place 1, the table 01 01 with 3 at place 0, and the
- * table 00 01 02 01 04 04 05, which is cut off after a hopeless row, with 16 at place 6. Every status but 13 writes the
- * answer buffer. The table is only read.
+ * each number as it is read: s for 1, p for 1 and 3, the row count for 1 and 2, each x, y and d for 1 and 3, each c for
+ * 1, 3 and 16, the server count for 1 and 2, and each a and b for 1 and 3. Only s waits for p: right after p's own
+ * range comes 3 for an s that is not below p. After the last server comes 4, and then 5. So the table 01 00 is refused
+ * with 3 at place 1, the table 01 01 with 3 at place 0, the table 00 01 02 01 04 04 05, which is cut off after a
+ * hopeless row, with 16 at place 6, and the table 00 01 00 01 04 03, whose server has a b below its a, with 3 at place
+ * 5. Every status but 13 writes the answer buffer. The table is only read.
  *
  * The demand of a row in a length of time L is 0 if L is below d, and otherwise ((L - d) / y + 1) * x * c units, with
- * the division rounded down. The timer takes at most (L / p) * s of L ticks, with the division rounded down, and the
- * smaller of s and L modulo p besides. The demand of a table is the sum over its rows and these taken ticks.
+ * the division rounded down. The demand of a server is a * L / b units, rounded down. The timer takes at most
+ * (L / p) * s of L ticks, with the division rounded down, and the smaller of s and L modulo p besides. The demand of a
+ * table is the sum over its rows, its servers and these taken ticks.
+ *
+ * The length L beside 21 is a witness. It names jobs that nobody can run in time, all released at 0, in the ticks that
+ * the timer leaves free: of each row whose d is at most L, the first ((L - d) / y + 1) * x jobs at the cost c, and of
+ * each server one odd job of the cost a * L / b, if that is not 0. This cost may be above JYRMEKKO_MOST_ODD_COST.
  */
 uint32_t verdict(const uint8_t *table, size_t table_len, uint8_t *answer, size_t answer_len);
 

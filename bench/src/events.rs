@@ -1,7 +1,8 @@
 //! Replays beside two other programs: the plain one, which goes tick by tick, and the one by events. `bench/run events`
 //! measures them, and further words choose the cases whose name has one of them. All answers and logs have to be the same.
 
-use crate::cases::{grouped, spell, table, Random, Row, Timer, NO_TIMER};
+use crate::cases::{beside, busy_records, grouped, script, sparse_records, table};
+use crate::cases::{Random, Record, Row, Server, Timer, NO_TIMER, WHOLE};
 use crate::{clock, library, plain};
 use std::hint::black_box;
 use std::time::Duration;
@@ -20,7 +21,7 @@ struct Case {
     cost: u64,
     pending: u64,
     table: Vec<u8>,
-    records: Vec<[u64; 3]>,
+    records: Vec<Record>,
 }
 
 pub fn measure(words: &[String], rounds: usize) {
@@ -47,13 +48,26 @@ fn all() -> Vec<Case> {
             }
         }
         for pending in [4, 64, 200] {
-            cases.push(mixed(timer, pending));
+            cases.push(mixed(timer, &[], pending));
         }
     }
     for pending in [4, 64, 256] {
         cases.push(busy(NO_TIMER, pending, 1, 1_000_000));
     }
     cases.push(busy(timers[1], 64, 1, 1_000_000));
+    for cost in [1, 16] {
+        for pending in [1, 64, 256] {
+            cases.push(odd_busy(pending, cost));
+        }
+        for pending in [1, 64, 256] {
+            cases.push(odd_sparse(pending, cost));
+        }
+    }
+    // Each server can give what the mixed jobs ask of it, a sixteenth, or more.
+    let servers: Vec<Server> = (4..12).map(|a| [a, 64]).collect();
+    for pending in [4, 64, 200] {
+        cases.push(mixed(NO_TIMER, &servers, pending));
+    }
     cases
 }
 
@@ -68,24 +82,34 @@ fn rows(timer: Timer, pending: u64, cost: u64) -> Vec<Row> {
 /// So many jobs are released at once, and then one more for each that finishes.
 fn busy(timer: Timer, pending: u64, cost: u64, records: u64) -> Case {
     let rows = rows(timer, pending, cost);
-    let finish = |i: u64| timer.after((i + 1).saturating_sub(pending) * cost);
-    let gap = |i| if i > 0 { finish(i) - finish(i - 1) } else { 0 };
-    let records = (0..records).map(|i| [gap(i), i % rows.len() as u64, cost]).collect();
-    case("busy", timer, pending, cost, &rows, records)
+    let records = busy_records(timer, rows.len() as u64, pending, cost, records);
+    case("busy", timer, pending, cost, &rows, &[], records)
 }
 
 /// So many jobs are released at once, and then nothing is pending for most of the time.
 fn sparse(timer: Timer, pending: u64, cost: u64) -> Case {
     let rows = rows(timer, pending, cost);
     let apart = 1_000 + 2 * timer.whole_periods(pending * cost);
-    let gap = |i| if i % pending == 0 { apart } else { 0 };
-    let records = (0..RECORDS).map(|i| [gap(i), i % rows.len() as u64, cost]).collect();
-    case("sparse", timer, pending, cost, &rows, records)
+    let records = sparse_records(apart, rows.len() as u64, pending, cost, RECORDS);
+    case("sparse", timer, pending, cost, &rows, &[], records)
+}
+
+/// As `busy`, with odd jobs alone.
+fn odd_busy(pending: u64, cost: u64) -> Case {
+    let records = busy_records(NO_TIMER, WHOLE.len() as u64, pending, cost, RECORDS);
+    case("busy", NO_TIMER, pending, cost, &[], &WHOLE, records)
+}
+
+/// As `sparse`, with odd jobs alone.
+fn odd_sparse(pending: u64, cost: u64) -> Case {
+    let records = sparse_records(1_000 + 2 * pending * cost, WHOLE.len() as u64, pending, cost, RECORDS);
+    case("sparse", NO_TIMER, pending, cost, &[], &WHOLE, records)
 }
 
 /// Each row has another d, and each job another cost, of 16 on the average. So the jobs don't finish in the order of their
-/// release. A job is released whenever as many units as its cost have been given, so that about so many are pending.
-fn mixed(timer: Timer, pending: u64) -> Case {
+/// release. A job is released whenever as many units as its cost have been given, so that about so many are pending. Where
+/// there are servers every other job is an odd one.
+fn mixed(timer: Timer, servers: &[Server], pending: u64) -> Case {
     let mut random = Random(1);
     let each = pending.min(4);
     let mut row = || [each, 1_024, 512 + random.below(15_872), 31];
@@ -98,23 +122,27 @@ fn mixed(timer: Timer, pending: u64) -> Case {
         }
         let gap = timer.after(asked) - now;
         now += gap;
-        [gap, random.below(rows.len() as u64), cost]
+        let row = match i % 2 {
+            1 if !servers.is_empty() => rows.len() as u64 + random.below(servers.len() as u64),
+            _ => random.below(rows.len() as u64),
+        };
+        [gap, row, cost]
     };
     let records = (0..RECORDS).map(&mut record).collect();
-    case("mixed", timer, pending, 16, &rows, records)
+    case("mixed", timer, pending, 16, &rows, servers, records)
 }
 
-fn case(shape: &str, timer: Timer, pending: u64, cost: u64, rows: &[Row], records: Vec<[u64; 3]>) -> Case {
-    let name = format!("{shape}, {pending} pending, cost {}{}", grouped(cost), timer.said());
-    Case { name, cost, pending, table: table(timer, rows), records }
-}
-
-fn spelled(records: &[[u64; 3]]) -> Vec<u8> {
-    let mut script = Vec::new();
-    for &number in records.iter().flatten() {
-        spell(&mut script, number);
-    }
-    script
+fn case(
+    shape: &str,
+    timer: Timer,
+    pending: u64,
+    cost: u64,
+    rows: &[Row],
+    servers: &[Server],
+    records: Vec<Record>,
+) -> Case {
+    let name = format!("{shape}, {pending} pending, cost {}{}", grouped(cost), beside(timer, servers));
+    Case { name, cost, pending, table: table(timer, rows, servers), records }
 }
 
 /// What one of the programs said, with its log at the start of a buffer.
@@ -146,8 +174,8 @@ impl Said {
 /// Measures one case, and returns its line of the table.
 fn line(case: &Case, rounds: usize) -> String {
     let Case { name, cost, pending, table, records } = case;
-    let script = spelled(records);
-    let mut proved = Said::in_buffer(&script);
+    let whole = script(records);
+    let mut proved = Said::in_buffer(&whole);
     let mut events = Said::in_vector();
     let by_library = |script: &[u8], said: &mut Said| {
         said.status = black_box(library::replay)(table, script, &mut said.log, &mut said.answer);
@@ -159,15 +187,15 @@ fn line(case: &Case, rounds: usize) -> String {
     let by_ticks = |script: &[u8], said: &mut Said| {
         said.status = black_box(plain::replay)(table, script, &mut said.log, &mut said.answer);
     };
-    by_library(&script, &mut proved);
-    by_events(&script, &mut events);
+    by_library(&whole, &mut proved);
+    by_events(&whole, &mut events);
     assert!(proved.outcome() == events.outcome(), "{name}: the answers differ");
 
     let mut best = [Duration::MAX; 2];
     let mut together = Duration::ZERO;
     let mut done = 0;
     while done < rounds || together < TOGETHER {
-        let taken = [time(|| by_library(&script, &mut proved)), time(|| by_events(&script, &mut events))];
+        let taken = [time(|| by_library(&whole, &mut proved)), time(|| by_events(&whole, &mut events))];
         best = [best[0].min(taken[0]), best[1].min(taken[1])];
         together += taken[0] + taken[1];
         done += 1;
@@ -176,7 +204,7 @@ fn line(case: &Case, rounds: usize) -> String {
 
     // The program that goes tick by tick is compared on the start of the script, where all of it would take too long.
     let few = (LOOKS / (cost * pending)).clamp(4 * pending, records.len() as u64) as usize;
-    let short = spelled(&records[..few]);
+    let short = script(&records[..few]);
     let mut proved = Said::in_buffer(&short);
     let mut ticks = Said::in_buffer(&short);
     let mut least = [Duration::MAX; 2];

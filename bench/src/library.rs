@@ -1,12 +1,14 @@
 //! These are the proved program's two calls, as include/jyrmekko.h has them, and the probe library's calls on a run, which
 //! are there for comparisons only: a list of calls by value, and single calls on a run that is lent.
 
-use crate::plain::{PLACES, ROWS, X};
+use crate::plain::{PLACES, ROWS, SERVERS, X};
 
-/// A run's size in bytes, by its fields: s and p of the timer, the rows and their count, the clock, the pending jobs and
-/// their count, the next serial, and for each row the kept due times and their count. Each number has eight bytes.
+/// A run's size in bytes, by its fields. First comes the table: s and p of the timer, the rows and their count, the servers
+/// and their count. Then come the clock, the pending jobs and their count, the next serial, for each row the kept due times
+/// and their count, and for each server its last due time. Each number has eight bytes.
 pub const RUN_SIZE: usize =
-    8 * ((2 + 4 * ROWS as usize + 1) + 1 + (6 * PLACES + 1) + 1 + ROWS as usize * (X as usize + 1));
+    8 * (TABLE + 1 + (6 * PLACES + 1) + 1 + ROWS as usize * (X as usize + 1) + SERVERS as usize);
+const TABLE: usize = 2 + (4 * ROWS as usize + 1) + (2 * SERVERS as usize + 1);
 
 /// This is memory for a run. The library does not say how large a run is, so there is room behind it, which has to stay as
 /// it was: a run of another size is noticed.

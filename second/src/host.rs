@@ -59,15 +59,17 @@ mod tests {
     use super::*;
     use crate::numbers;
     use crate::run::{LAST_TICK, MOST_PENDING};
-    use crate::table::tests::{spell, spell_with};
+    use crate::table::tests::{spell, spell_all, spell_with};
     use crate::table::{MOST_ROWS, MOST_X};
 
-    const V3: [u8; 11] = [0, 1, 2, 1, 4, 4, 2, 1, 6, 6, 3];
+    const V3: [u8; 12] = [0, 1, 2, 1, 4, 4, 2, 1, 6, 6, 3, 0];
     const R1: [u8; 9] = [0, 0, 2, 0, 1, 3, 4, 0, 2];
     const ONE_ROW_TOO_MANY: [u8; 3] = [0, 1, MOST_ROWS as u8 + 1];
-    const HOPELESS: [u8; 7] = [0, 1, 1, 1, 4, 4, 5];
-    const S_IS_P: [u8; 3] = [1, 1, 0];
-    const P_IS_0: [u8; 3] = [0, 0, 0];
+    const ONE_SERVER_TOO_MANY: [u8; 4] = [0, 1, 0, 9];
+    const B_BELOW_A: [u8; 6] = [0, 1, 0, 1, 4, 3];
+    const HOPELESS: [u8; 8] = [0, 1, 1, 1, 4, 4, 5, 0];
+    const S_IS_P: [u8; 4] = [1, 1, 0, 0];
+    const P_IS_0: [u8; 4] = [0, 0, 0, 0];
     const R1_LOG: [u8; 15] = [0, 0, 0, 4, 2, 1, 1, 0, 6, 5, 2, 0, 4, 8, 7];
 
     fn numbers_of(answer: &[u8; 16]) -> (u64, u64) {
@@ -115,7 +117,10 @@ mod tests {
         assert_eq!(judged(&P_IS_0), (3, 1, 0));
         assert_eq!(judged(&[0x81, 0x20, 0x81, 0x20, 0]), (3, 2, 0));
         assert_eq!(judged(&[0x81, 0x20, 0x81, 0x00, 0]), (1, 3, 0));
-        assert_eq!(judged(&[0, 1, 0, 0]), (4, 3, 0));
+        assert_eq!(judged(&[0, 1, 0, 0, 0]), (4, 4, 0));
+        assert_eq!(judged(&[0, 1, 0]), (1, 3, 0));
+        assert_eq!(judged(&ONE_SERVER_TOO_MANY), (2, 3, 0));
+        assert_eq!(judged(&B_BELOW_A), (3, 5, 0));
         let long = spell(&[[1, 1_141, 1, 1], [1, 919, 1, 1]]);
         assert_eq!(judged(&long), (5, long.len() as u64, 0));
         let long = spell_with([0, 919], &[[1, 1_141, 1, 1]]);
@@ -131,7 +136,7 @@ mod tests {
             (&[&[1, 1], &V3[2..]].concat(), (3, 0, 0)),
             (&[0x80, 0x20, 0x80, 0x00], (1, 3, 0)),
             (&[0x80, 0x20], (1, 2, 0)),
-            (&spell_with([0, 919], &[[1, 1_141, 1, 1]]), (5, 9, 0)),
+            (&spell_with([0, 919], &[[1, 1_141, 1, 1]]), (5, 10, 0)),
         ] {
             refused_by_both(table, refusal);
         }
@@ -139,12 +144,12 @@ mod tests {
 
     #[test]
     fn example_r2_and_a_job_that_the_timer_makes_late() {
-        let table = [1, 4, 2, 1, 8, 6, 2, 1, 8, 8, 3];
+        let table = [1, 4, 2, 1, 8, 6, 2, 1, 8, 8, 3, 0];
         assert_eq!(judged(&table), (20, 0, 0));
         let mut log = [0xee; 12];
         assert_eq!(replayed(&table, &[0, 0, 2, 0, 1, 3], &mut log), (22, 10, 0));
         assert_eq!(log, [0, 0, 0, 6, 3, 1, 1, 0, 8, 7, 0xee, 0xee]);
-        let t5 = [3, 4, 1, 1, 4, 3, 1];
+        let t5 = [3, 4, 1, 1, 4, 3, 1, 0];
         assert_eq!(judged(&t5), (21, 3, 4));
         assert_eq!(replayed(&t5, &[0, 0, 1], &mut log), (23, 5, 1));
         assert_eq!(log[..5], [0, 0, 0, 3, 4]);
@@ -153,8 +158,50 @@ mod tests {
     }
 
     #[test]
+    fn example_r3() {
+        let table = [0, 1, 1, 1, 4, 4, 2, 1, 1, 4];
+        assert_eq!(judged(&table), (20, 0, 0));
+        let mut log = [0xee; 16];
+        assert_eq!(replayed(&table, &[0, 0, 2, 0, 1, 1, 1, 1, 2], &mut log), (22, 15, 0));
+        assert_eq!(log, [0, 0, 0, 4, 2, 1, 1, 0, 4, 3, 2, 1, 1, 0x0c, 5, 0xee]);
+        for (cost, place) in [(&[0][..], 5), (&[0x81, 0x20], 5)] {
+            assert_eq!(replayed(&table, &[&[0, 0, 2, 0, 1], cost].concat(), &mut log), (7, place, 0));
+        }
+        assert_eq!(replayed(&table, &[0, 0, 2, 0, 2, 1], &mut log), (6, 4, 0));
+    }
+
+    #[test]
+    fn examples_s2_to_s8() {
+        let judged_with = |timer, rows: &[[u64; 4]], servers: &[[u64; 2]]| judged(&spell_all(timer, rows, servers));
+        assert_eq!(judged(&[0, 1, 0, 1, 1, 4]), (20, 0, 0));
+        assert_eq!(judged_with([0, 1], &[], &[[4_096, 4_096]]), (20, 0, 0));
+        assert_eq!(judged_with([0, 1], &[[1, 4, 4, 2], [1, 6, 6, 3]], &[[1, 12]]), (21, 12, 13));
+        assert_eq!(judged(&[0, 1, 0, 2, 1, 1, 1, 0x80, 0x20]), (21, 4_096, 4_097));
+        assert_eq!(judged_with([1, 4], &[], &[[3, 4]]), (20, 0, 0));
+        assert_eq!(judged_with([1, 4], &[], &[[4, 5]]), (21, 5, 6));
+        assert_eq!(judged_with([0, 1], &[[1, 4, 7, 2]], &[[1, 3], [1, 4]]), (21, 36, 37));
+    }
+
+    #[test]
+    fn refused_servers_are_refused_by_both_calls_at_the_same_place() {
+        for (table, refusal) in [
+            (&[0, 1, 0][..], (1, 3, 0)),
+            (&V3[..11], (1, 11, 0)),
+            (&ONE_SERVER_TOO_MANY, (2, 3, 0)),
+            (&[&V3[..11], &[9]].concat(), (2, 11, 0)),
+            (&B_BELOW_A, (3, 5, 0)),
+            (&[&V3[..11], &[1, 0, 0x80, 0x00]].concat(), (3, 12, 0)),
+            (&[&V3[..11], &[1, 1, 0x80, 0x00]].concat(), (1, 14, 0)),
+            (&[&V3[..11], &[1, 1, 4, 0]].concat(), (4, 14, 0)),
+            (&spell_all([0, 1], &[[1, 1_025, 1, 1]], &[[512, 1_024]]), (5, 13, 0)),
+        ] {
+            refused_by_both(table, refusal);
+        }
+    }
+
+    #[test]
     fn a_row_whose_c_is_its_d_is_judged_and_replayed() {
-        let [all_of_it, too_often] = [[0, 1, 1, 1, 4, 4, 4], [0, 1, 1, 2, 4, 4, 4]];
+        let [all_of_it, too_often] = [[0, 1, 1, 1, 4, 4, 4, 0], [0, 1, 1, 2, 4, 4, 4, 0]];
         assert_eq!(judged(&all_of_it), (20, 0, 0));
         assert_eq!(judged(&too_often), (21, 4, 8));
         let mut log = [0xee; 10];
@@ -170,7 +217,7 @@ mod tests {
         for (table, refusal) in [
             (&HOPELESS[..], (16, 6, 0)),
             (&[&HOPELESS[..], &[7]].concat(), (16, 6, 0)),
-            (&last, (16, last.len() as u64 - 2, 0)),
+            (&last, (16, last.len() as u64 - 3, 0)),
             (&spell(&[[1, 4, 4, 5_000]]), (3, 6, 0)),
             (&spell_with([3, 128], &[[1, 4, 4, 5]]), (16, 7, 0)),
         ] {
@@ -186,6 +233,8 @@ mod tests {
             assert_eq!(verdict(&ONE_ROW_TOO_MANY, &mut answer), 13);
             assert_eq!(verdict(&HOPELESS, &mut answer), 13);
             assert_eq!(verdict(&S_IS_P, &mut answer), 13);
+            assert_eq!(verdict(&ONE_SERVER_TOO_MANY, &mut answer), 13);
+            assert_eq!(replay(&B_BELOW_A, &R1, &mut log, &mut answer), 13);
             assert_eq!(replay(&P_IS_0, &R1, &mut log, &mut answer), 13);
             assert_eq!(replay(&HOPELESS, &R1, &mut log, &mut answer), 13);
             assert_eq!(replay(&ONE_ROW_TOO_MANY, &[0x80, 0x00], &mut log, &mut answer), 13);
@@ -230,14 +279,15 @@ mod tests {
     #[test]
     fn no_jobs_leave_the_log_untouched() {
         let mut log = [0xee; 4];
-        assert_eq!(replayed(&[0, 1, 0], &[], &mut log), (22, 0, 0));
-        assert_eq!(replayed(&[1, 4, 0], &[], &mut log), (22, 0, 0));
+        assert_eq!(replayed(&[0, 1, 0, 0], &[], &mut log), (22, 0, 0));
+        assert_eq!(replayed(&[1, 4, 0, 0], &[], &mut log), (22, 0, 0));
+        assert_eq!(replayed(&[0, 1, 0, 1, 1, 4], &[], &mut log), (22, 0, 0));
         assert_eq!(log, [0xee; 4]);
     }
 
     #[test]
     fn late_jobs_are_counted() {
-        assert_eq!(replayed(&[0, 1, 1, 2, 1, 1, 1], &[0, 0, 1, 0, 0, 1], &mut [0; 10]), (23, 10, 1));
+        assert_eq!(replayed(&[0, 1, 1, 2, 1, 1, 1, 0], &[0, 0, 1, 0, 0, 1], &mut [0; 10]), (23, 10, 1));
     }
 
     #[test]
@@ -248,7 +298,7 @@ mod tests {
             (&ONE_ROW_TOO_MANY[..], &R1[..], (2, 2, 0)),
             (&HOPELESS[..], &R1[..], (16, 6, 0)),
             (&V3[..], &R1[..8], (14, 8, 0)),
-            (&[0, 1, 1, 1, 2, 6, 1][..], &[0, 0][..], (14, 2, 0)),
+            (&[0, 1, 1, 1, 2, 6, 1, 0][..], &[0, 0][..], (14, 2, 0)),
             (&V3[..], &[0, 0, 0x82, 0x00][..], (14, 3, 0)),
             (&V3[..], &[0, 0, 0xff, 0xff, 0xff, 0xff, 0xff, 0xff][..], (14, 7, 0)),
             (&V3[..], &[0, 2, 1][..], (6, 1, 0)),
@@ -265,7 +315,7 @@ mod tests {
         assert_eq!(replayed(&V3, &R1, &mut []), (12, 9, 0));
         assert_eq!(replayed(&V3, &R1[..8], &mut []), (14, 8, 0));
         // Two jobs of two units each are due at the last tick, and there are two ticks for them.
-        let crowded = [0, 1, 1, 2, 1, 2, 2];
+        let crowded = [0, 1, 1, 2, 1, 2, 2, 0];
         let mut script = vec![0, 0, 1];
         script.extend(numbers::spell(LAST_TICK - 2).unwrap());
         script.extend([0, 2, 0, 0, 2]);

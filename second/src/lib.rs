@@ -11,6 +11,7 @@ pub mod refusal;
 pub mod replay;
 pub mod run;
 pub mod script;
+pub mod sound;
 pub mod table;
 pub mod trace;
 pub mod verdict;

@@ -7,17 +7,17 @@
 pub enum Reason {
     /// A number of a table, or one for the number reader, is misspelled, too long or cut off.
     Misspelled = 1,
-    /// The row count is above the limit of rows.
+    /// The row count is above the limit of rows, or the server count above the limit of servers.
     TooManyRows = 2,
-    /// A p, x, y, d or c is out of its range, or s is not below p.
+    /// A p, x, y, d, c, a or b is out of its range, b is below a, or s is not below p.
     ValueOutOfRange = 3,
-    /// There are bytes after the last row.
+    /// There are bytes after the last server.
     ExtraBytes = 4,
     /// H is above 1,048,576.
     PeriodTooLong = 5,
     /// The row number is not in use.
     NoSuchRow = 6,
-    /// The cost is 0 or above the row's c.
+    /// The cost is 0 or above the row's c, for a server above 4,096.
     CostOutOfRange = 7,
     /// The limit of pending jobs is reached at a release.
     PlacesFull = 8,

@@ -3,7 +3,8 @@
 
 use crate::due::due;
 use crate::refusal::{Reason, Refusal};
-use crate::table::{self, Table};
+use crate::sound::{Held, Kept};
+use crate::table::{self, Row, Server, Table, MOST_ROWS, MOST_SERVERS, MOST_X};
 
 pub const LAST_TICK: u64 = 1 << 40;
 /// This is the limit of pending jobs.
@@ -25,7 +26,7 @@ pub struct Run {
     clock: u64,
     pending: Vec<Job>,
     next_serial: u64,
-    /// For each row these are the due times of all its accepted jobs.
+    /// For each row, and after the rows for each server, these are the due times of all its accepted jobs.
     dues: Vec<Vec<u64>>,
 }
 
@@ -45,7 +46,7 @@ pub struct Ticked {
 
 impl Run {
     pub fn fresh(table: Table) -> Run {
-        let dues = vec![vec![]; table.rows.len()];
+        let dues = vec![vec![]; table.rows.len() + table.servers.len()];
         Run { table, clock: 0, pending: vec![], next_serial: 0, dues }
     }
 
@@ -66,17 +67,17 @@ impl Run {
         &self.pending
     }
 
-    /// Adds a job that is released at the clock.
+    /// Adds a job that is released at the clock. It is of a row, or an odd job of a server.
     pub fn release(&mut self, row: u64, cost: u64) -> Result<Job, Reason> {
-        let rule = self.table.row(row).ok_or(Reason::NoSuchRow)?;
-        if cost < 1 || cost > rule.c {
+        let named = self.table.named(row).ok_or(Reason::NoSuchRow)?;
+        if cost < 1 || cost > named.most_cost() {
             return Err(Reason::CostOutOfRange);
         }
         if self.pending.len() == MOST_PENDING {
             return Err(Reason::PlacesFull);
         }
         let earlier = &mut self.dues[row as usize];
-        let due = due(rule, earlier, self.clock);
+        let due = due(&named, earlier, self.clock, cost);
         if due > LAST_TICK {
             return Err(Reason::DueTooLate);
         }
@@ -112,13 +113,47 @@ impl Run {
         assert!(self.pending.is_empty() && self.clock <= time && time <= LAST_TICK);
         self.clock = time;
     }
+
+    /// Returns what the rules say that a run holds: for each row its newest due times, at most x of them, and for each
+    /// server its last. What is not in use is 0.
+    pub fn held(&self) -> Held {
+        let Table { timer, rows, servers, .. } = &self.table;
+        let (of_rows, of_servers) = self.dues.split_at(rows.len());
+        let newest = |(row, dues): (&Row, &Vec<u64>)| {
+            let count = dues.len().min(row.x as usize);
+            Kept { dues: padded(&dues[dues.len() - count..], MOST_X as usize, 0), count: count as u64 }
+        };
+        let kept: Vec<Kept> = rows.iter().zip(of_rows).map(newest).collect();
+        let last: Vec<u64> = of_servers.iter().map(|dues| dues.last().copied().unwrap_or(0)).collect();
+        let no_dues = Kept { dues: vec![0; MOST_X as usize], count: 0 };
+        let no_job = Job { serial: 0, row: 0, release: 0, due: 0, cost: 0, left: 0 };
+        Held {
+            timer: *timer,
+            rows: padded(rows, MOST_ROWS as usize, Row { x: 0, y: 0, d: 0, c: 0 }),
+            row_count: rows.len() as u64,
+            servers: padded(servers, MOST_SERVERS as usize, Server { a: 0, b: 0 }),
+            server_count: servers.len() as u64,
+            clock: self.clock,
+            pending: padded(&self.pending, MOST_PENDING, no_job),
+            pending_count: self.pending.len() as u64,
+            next_serial: self.next_serial,
+            kept: padded(&kept, MOST_ROWS as usize, no_dues),
+            last: padded(&last, MOST_SERVERS as usize, 0),
+        }
+    }
+}
+
+fn padded<T: Clone>(list: &[T], length: usize, rest: T) -> Vec<T> {
+    let mut list = list.to_vec();
+    list.resize(length, rest);
+    list
 }
 
 #[cfg(test)]
 mod tests {
     use super::*;
-    use crate::table::tests::{spell, spell_with};
-    use crate::table::{MOST_ROWS, MOST_X};
+    use crate::table::tests::{spell, spell_all, spell_with};
+    use crate::table::MOST_ODD_COST;
 
     /// This many rows with x at its most have jobs for all places before the spacing by y sets in.
     const ROWS_FOR_ALL_PLACES: usize = MOST_PENDING / MOST_X as usize;
@@ -128,7 +163,11 @@ mod tests {
     }
 
     fn run_with(timer: [u64; 2], rows: &[[u64; 4]]) -> Run {
-        let (run, refusal) = Run::start(&spell_with(timer, rows));
+        run_of(timer, rows, &[])
+    }
+
+    fn run_of(timer: [u64; 2], rows: &[[u64; 4]], servers: &[[u64; 2]]) -> Run {
+        let (run, refusal) = Run::start(&spell_all(timer, rows, servers));
         assert_eq!(refusal, None);
         run
     }
@@ -342,5 +381,125 @@ mod tests {
             assert_eq!(run.tick(), Err(Reason::TimeTooLate));
             assert_eq!(run.clock(), LAST_TICK);
         }
+    }
+
+    #[test]
+    fn example_s1_by_release_and_tick() {
+        let mut run = run_of([0, 1], &[], &[[1, 4]]);
+        for (serial, (release, cost, due)) in [(30, 10, 70), (69, 20, 150), (140, 20, 230)].into_iter().enumerate() {
+            while run.clock() < release {
+                run.tick().unwrap();
+            }
+            assert_eq!(released(&mut run, 0, cost), (serial as u64, due));
+        }
+    }
+
+    #[test]
+    fn servers_are_numbered_after_the_rows_and_share_serials_and_places() {
+        let mut run = run_of([0, 1], &[[1, 4, 4, 2]], &[[1, 4], [1, 2]]);
+        assert_eq!(released(&mut run, 1, 1), (0, 4));
+        assert_eq!(released(&mut run, 0, 2), (1, 4));
+        assert_eq!(released(&mut run, 2, 1), (2, 2));
+        assert_eq!(released(&mut run, 1, 2), (3, 12));
+        assert_eq!(run.release(3, 1), Err(Reason::NoSuchRow));
+        assert_eq!(run.release(1 << 32, 1), Err(Reason::NoSuchRow));
+        let rows: Vec<u64> = run.pending().iter().map(|job| job.row).collect();
+        assert_eq!(rows, [1, 0, 2, 1]);
+        for (serial, finished) in [(2, true), (0, true), (1, false), (1, true), (3, false), (3, true)] {
+            assert_eq!(run.tick(), ran(serial, finished, 0));
+        }
+        assert_eq!(run.tick(), idle(0));
+    }
+
+    #[test]
+    fn the_cost_of_an_odd_job_is_1_to_4096() {
+        let mut run = run_of([0, 1], &[[1, 4, 4, 2]], &[[1, 4_096]]);
+        for cost in [0, MOST_ODD_COST + 1, 1 << 32, (1 << 32) + 1, 1 << 41, u64::MAX] {
+            assert_eq!(run.release(1, cost), Err(Reason::CostOutOfRange));
+        }
+        assert_eq!(released(&mut run, 1, MOST_ODD_COST), (0, 1 << 24));
+        assert_eq!(released(&mut run, 1, 1), (1, (1 << 24) + 4_096));
+    }
+
+    #[test]
+    fn a_servers_last_due_time_counts_on_after_its_job_and_not_after_a_refused_one() {
+        let mut run = run_of([0, 1], &[[2, 1, 256, 2]], &[[1, 100]]);
+        assert_eq!(released(&mut run, 1, 1), (0, 100));
+        assert_eq!(run.tick(), ran(0, true, 0));
+        assert_eq!(run.tick(), idle(0));
+        assert_eq!(released(&mut run, 1, 1), (1, 200));
+        assert_eq!(run.release(1, 0), Err(Reason::CostOutOfRange));
+        assert_eq!(run.release(1, 4_097), Err(Reason::CostOutOfRange));
+        assert_eq!(run.release(2, 1), Err(Reason::NoSuchRow));
+        for _ in 1..MOST_PENDING {
+            run.release(0, 1).unwrap();
+        }
+        assert_eq!(run.release(1, 1), Err(Reason::PlacesFull));
+        assert_eq!(run.held().last[0], 200);
+        assert!(matches!(run.tick(), Ok(Ticked { given: Given::Ran { finished: true, .. }, late: 0 })));
+        assert_eq!(released(&mut run, 1, 1), (MOST_PENDING as u64 + 1, 300));
+        while !run.pending().is_empty() {
+            run.tick().unwrap();
+        }
+        // A job that is released after the last due time is due as the first would be.
+        run.pass_until(1_000);
+        assert_eq!(run.release(1, 2).unwrap().due, 1_200);
+    }
+
+    #[test]
+    fn an_odd_job_due_at_the_last_tick_and_one_later() {
+        let mut run = run_of([0, 1], &[[2, 1, 10, 1]], &[[1, 10], [2, 5]]);
+        run.pass_until(LAST_TICK - 20);
+        assert_eq!(run.release(1, 3), Err(Reason::DueTooLate));
+        assert_eq!(run.held().last, [0; 8]);
+        assert_eq!(released(&mut run, 1, 1), (0, LAST_TICK - 10));
+        assert_eq!(run.release(1, 2), Err(Reason::DueTooLate));
+        assert_eq!(run.held().last[0], LAST_TICK - 10);
+        assert_eq!(released(&mut run, 1, 1), (1, LAST_TICK));
+        assert_eq!(run.held().last[0], LAST_TICK);
+        assert_eq!(run.release(1, 1), Err(Reason::DueTooLate));
+        // Eight units of the other server take twenty ticks, and seven take seventeen and a half.
+        assert_eq!(released(&mut run, 2, 7), (2, LAST_TICK - 2));
+        assert_eq!(run.release(2, 1), Err(Reason::DueTooLate));
+        assert!(run.held().is_sound());
+        let mut whole = run_of([0, 1], &[], &[[2, 5], [4_096, 4_096]]);
+        whole.pass_until(LAST_TICK - 20);
+        assert_eq!(whole.release(0, 9), Err(Reason::DueTooLate));
+        assert_eq!(released(&mut whole, 0, 8), (0, LAST_TICK));
+        assert_eq!(released(&mut whole, 1, 20), (1, LAST_TICK));
+        assert_eq!(whole.release(1, 1), Err(Reason::DueTooLate));
+    }
+
+    #[test]
+    fn odd_jobs_take_places_as_all_others_do() {
+        let mut run = run_of([0, 1], &[[2, 1, 9, 1]], &[[1, 1], [1, 2]]);
+        for serial in 0..MOST_PENDING as u64 {
+            assert_eq!(run.release(serial % 3, 1).unwrap().serial, serial);
+        }
+        for row in 0..3 {
+            assert_eq!(run.release(row, 1), Err(Reason::PlacesFull));
+        }
+        assert_eq!(run.release(3, 1), Err(Reason::NoSuchRow));
+        assert_eq!(run.release(2, 4_097), Err(Reason::CostOutOfRange));
+        // The place that a finished job frees can be used by an odd job at once.
+        assert_eq!(run.tick(), ran(1, true, 0));
+        assert_eq!(run.release(1, 1).unwrap().due, 86);
+        assert_eq!(run.release(1, 1), Err(Reason::PlacesFull));
+    }
+
+    #[test]
+    fn what_a_run_holds() {
+        let mut run = run_of([1, 4], &[[2, 4, 4, 2]], &[[1, 4], [1, 2]]);
+        let fresh = run.held();
+        assert_eq!((fresh.row_count, fresh.server_count, fresh.pending_count, fresh.next_serial), (1, 2, 0, 0));
+        assert_eq!((fresh.kept[0].count, &fresh.last[..]), (0, &[0; 8][..]));
+        for (row, due) in [(0, 4), (0, 4), (0, 8), (2, 2), (2, 4)] {
+            assert_eq!(run.release(row, 1).unwrap().due, due);
+        }
+        let held = run.held();
+        assert_eq!((held.kept[0].count, &held.kept[0].dues[..3]), (2, &[4, 8, 0][..]));
+        assert_eq!((&held.last[..3], held.pending_count, held.next_serial), (&[0, 4, 0][..], 5, 5));
+        let lengths = [held.rows.len(), held.servers.len(), held.pending.len(), held.kept.len(), held.last.len()];
+        assert_eq!(lengths, [64, 8, 256, 64, 8]);
     }
 }

@@ -1,4 +1,5 @@
-//! Tables. A table is the timer's s and p, its row count, then x, y, d and c of each row, and nothing after.
+//! Tables. A table is the timer's s and p, its row count, then x, y, d and c of each row, its server count, then a and b
+//! of each server, and nothing after.
 
 use crate::numbers;
 use crate::refusal::{Reason, Refusal};
@@ -10,6 +11,11 @@ pub const MOST_X: u64 = 64;
 pub const MOST_Y: u64 = 4_096;
 pub const MOST_D: u64 = 16_384;
 pub const MOST_C: u64 = 4_096;
+/// This is the limit of servers.
+pub const MOST_SERVERS: u64 = 8;
+pub const MOST_A: u64 = 4_096;
+pub const MOST_B: u64 = 4_096;
+pub const MOST_ODD_COST: u64 = 4_096;
 pub const LONGEST_PERIOD: u64 = 1_048_576;
 
 /// The sampling timer takes the first s ticks of every p, counted from clock 0. In a table that was read, s is below p.
@@ -41,21 +47,56 @@ pub struct Row {
     pub c: u64,
 }
 
+/// A server gives a units in b ticks to odd jobs, which have no rate. In a table that was read, a is at most b.
+#[derive(Clone, Copy, Debug, PartialEq, Eq)]
+pub struct Server {
+    pub a: u64,
+    pub b: u64,
+}
+
+impl Server {
+    /// Returns the demand in a length of time. One odd job that is released and due inside the length can cost as much,
+    /// and all of them together cost no more.
+    pub fn demand(&self, length: u64) -> u64 {
+        self.a * length / self.b
+    }
+}
+
 #[derive(Clone, Debug, PartialEq, Eq)]
 pub struct Table {
     pub timer: Timer,
     pub rows: Vec<Row>,
-    /// The period is H, the least common multiple of the timer's p and the y of all rows.
+    pub servers: Vec<Server>,
+    /// The period is H, the least common multiple of the timer's p, the y of all rows and the b of all servers.
     pub period: u64,
+}
+
+/// This is what a row number in use names. First come the rows, and then the servers.
+#[derive(Clone, Copy, Debug, PartialEq, Eq)]
+pub enum Named {
+    Row(Row),
+    Server(Server),
+}
+
+impl Named {
+    /// Returns the most that one job may cost.
+    pub fn most_cost(&self) -> u64 {
+        match self {
+            Named::Row(row) => row.c,
+            Named::Server(_) => MOST_ODD_COST,
+        }
+    }
 }
 
 impl Table {
     pub fn empty() -> Table {
-        Table { timer: Timer { s: 0, p: 1 }, rows: vec![], period: 1 }
+        Table { timer: Timer { s: 0, p: 1 }, rows: vec![], servers: vec![], period: 1 }
     }
 
-    pub fn row(&self, number: u64) -> Option<&Row> {
-        self.rows.get(usize::try_from(number).ok()?)
+    pub fn named(&self, number: u64) -> Option<Named> {
+        let rows = self.rows.iter().copied().map(Named::Row);
+        let servers = self.servers.iter().copied().map(Named::Server);
+        rows.chain(servers).nth(usize::try_from(number).ok()?)
     }
 
     pub fn largest_d(&self) -> u64 {
@@ -86,20 +127,35 @@ pub fn read(bytes: &[u8]) -> Result<Table, Refusal> {
         }
         rows.push(Row { x, y, d, c });
     }
+    let start_of_server_count = place;
+    let (server_count, mut place) = numbers::read(bytes, start_of_server_count)?;
+    if server_count > MOST_SERVERS {
+        return Err(Reason::TooManyRows.at(start_of_server_count));
+    }
+    let mut servers = vec![];
+    for _ in 0..server_count {
+        let a = value(bytes, &mut place, MOST_A)?;
+        let start_of_b = place;
+        let b = value(bytes, &mut place, MOST_B)?;
+        if b < a {
+            return Err(Reason::ValueOutOfRange.at(start_of_b));
+        }
+        servers.push(Server { a, b });
+    }
     if place < bytes.len() {
         return Err(Reason::ExtraBytes.at(place));
     }
     let mut period = p;
-    for row in &rows {
-        period = least_common_multiple(period, row.y);
+    for number in rows.iter().map(|row| row.y).chain(servers.iter().map(|server| server.b)) {
+        period = least_common_multiple(period, number);
         if period > LONGEST_PERIOD {
             return Err(Reason::PeriodTooLong.at(bytes.len()));
         }
     }
-    Ok(Table { timer: Timer { s, p }, rows, period })
+    Ok(Table { timer: Timer { s, p }, rows, servers, period })
 }
 
-/// Reads a p or a value of a row, from 1 to its most, and moves the place to the byte after it.
+/// Reads a p or a value of a row or server, from 1 to its most, and moves the place to the byte after it.
 fn value(bytes: &[u8], place: &mut usize, most: u64) -> Result<u64, Refusal> {
     let (number, after) = numbers::read(bytes, *place)?;
     if number < 1 || number > most {
@@ -130,10 +186,20 @@ pub mod tests {
         spell_with([0, 1], rows)
     }
 
-    /// Spells a table with the timer's s and p, whether its values are in range or not.
-    pub fn spell_with([s, p]: [u64; 2], rows: &[[u64; 4]]) -> Vec<u8> {
-        let numbers = [s, p, rows.len() as u64].into_iter().chain(rows.iter().flatten().copied());
-        numbers.flat_map(|number| numbers::spell(number).unwrap()).collect()
+    /// Spells a table with the timer's s and p and without servers, whether its values are in range or not.
+    pub fn spell_with(timer: [u64; 2], rows: &[[u64; 4]]) -> Vec<u8> {
+        spell_all(timer, rows, &[])
+    }
+
+    /// Spells a table with the timer's s and p and with servers, whether its values are in range or not.
+    pub fn spell_all([s, p]: [u64; 2], rows: &[[u64; 4]], servers: &[[u64; 2]]) -> Vec<u8> {
+        let of_rows = [s, p, rows.len() as u64].into_iter().chain(rows.iter().flatten().copied());
+        let of_servers = [servers.len() as u64].into_iter().chain(servers.iter().flatten().copied());
+        of_rows.chain(of_servers).flat_map(|number| numbers::spell(number).unwrap()).collect()
+    }
+
+    fn spell_servers(servers: &[[u64; 2]]) -> Vec<u8> {
+        spell_all([0, 1], &[], servers)
     }
 
     fn refused(bytes: &[u8]) -> (u32, usize) {
@@ -143,13 +209,19 @@ pub mod tests {
 
     #[test]
     fn reads_the_examples() {
-        assert_eq!(read(&[0, 1, 0]), Ok(Table::empty()));
-        let v2 = Table { timer: Timer { s: 0, p: 1 }, rows: vec![Row { x: 1, y: 2, d: 6, c: 1 }], period: 2 };
-        assert_eq!(read(&[0, 1, 1, 1, 2, 6, 1]), Ok(v2));
+        let table = |[s, p]: [u64; 2], rows: &[Row], servers: &[Server], period| {
+            Ok(Table { timer: Timer { s, p }, rows: rows.to_vec(), servers: servers.to_vec(), period })
+        };
+        assert_eq!(read(&[0, 1, 0, 0]), Ok(Table::empty()));
+        assert_eq!(read(&[0, 1, 1, 1, 2, 6, 1, 0]), table([0, 1], &[Row { x: 1, y: 2, d: 6, c: 1 }], &[], 2));
         assert_eq!(read(&spell(&[[1, 4, 4, 2], [1, 6, 6, 3]])).unwrap().period, 12);
-        assert_eq!(read(&[1, 4, 0]), Ok(Table { timer: Timer { s: 1, p: 4 }, rows: vec![], period: 4 }));
-        let t2 = Table { timer: Timer { s: 1, p: 4 }, rows: vec![Row { x: 1, y: 4, d: 4, c: 3 }], period: 4 };
-        assert_eq!(read(&[1, 4, 1, 1, 4, 4, 3]), Ok(t2));
+        assert_eq!(read(&[1, 4, 0, 0]), table([1, 4], &[], &[], 4));
+        assert_eq!(read(&[1, 4, 1, 1, 4, 4, 3, 0]), table([1, 4], &[Row { x: 1, y: 4, d: 4, c: 3 }], &[], 4));
+        assert_eq!(read(&[0, 1, 0, 1, 1, 4]), table([0, 1], &[], &[Server { a: 1, b: 4 }], 4));
+        let s5 = [Server { a: 1, b: 1 }, Server { a: 1, b: 4_096 }];
+        assert_eq!(read(&[0, 1, 0, 2, 1, 1, 1, 0x80, 0x20]), table([0, 1], &[], &s5, 4_096));
+        let of_r3 = table([0, 1], &[Row { x: 1, y: 4, d: 4, c: 2 }], &[Server { a: 1, b: 4 }], 4);
+        assert_eq!(read(&[0, 1, 1, 1, 4, 4, 2, 1, 1, 4]), of_r3);
     }
 
     #[test]
@@ -173,7 +245,13 @@ pub mod tests {
         assert_eq!(refused(&[0, 0x81]), (1, 2));
         assert_eq!(refused(&[0, 1]), (1, 2));
         assert_eq!(refused(&[0, 1, 1]), (1, 3));
+        assert_eq!(refused(&[0, 1, 0]), (1, 3));
         assert_eq!(refused(&[0, 1, 1, 1, 2, 6]), (1, 6));
+        assert_eq!(refused(&[0, 1, 1, 1, 2, 6, 1]), (1, 7));
+        assert_eq!(refused(&[0, 1, 0, 1]), (1, 4));
+        assert_eq!(refused(&[0, 1, 0, 1, 1]), (1, 5));
+        assert_eq!(refused(&[0, 1, 0, 1, 1, 0x84]), (1, 6));
+        assert_eq!(refused(&[0, 1, 0, 2, 1, 4]), (1, 6));
         assert_eq!(refused(&[0, 1, 1, 1, 0x82]), (1, 5));
         assert_eq!(refused(&[0, 1, 0x80, 0x80, 0x80, 0x80, 0x80]), (1, 7));
         assert_eq!(refused(&[0, 1, 1, 1, 0x80, 0x80, 0x80, 0x80, 0x80]), (1, 9));
@@ -203,7 +281,7 @@ pub mod tests {
         let long = spell(&rows);
         assert_eq!(refused(&long), (5, long.len()));
         rows[MOST_ROWS as usize - 1][3] = 0;
-        assert_eq!(refused(&spell(&rows)), (3, long.len() - 1));
+        assert_eq!(refused(&spell(&rows)), (3, long.len() - 2));
     }
 
     #[test]
@@ -283,16 +361,19 @@ pub mod tests {
         assert_eq!(refused(&[0, 1, 1, 1, 4, 4, 5, 0x80, 0x00]), (16, 6));
         for first in [1, 2] {
             let long = spell(&[[1, 1_141, 1, first], [1, 919, 1, 2]]);
-            let place = if first == 2 { 7 } else { long.len() - 1 };
+            let place = if first == 2 { 7 } else { long.len() - 2 };
             assert_eq!(refused(&long), (16, place));
             assert_eq!(refused(&[&long[..], &[9]].concat()), (16, place));
         }
     }
 
     #[test]
-    fn bytes_after_the_last_row_are_4_and_not_read() {
-        assert_eq!(refused(&[0, 1, 0, 0x80]), (4, 3));
-        assert_eq!(refused(&[0, 1, 1, 1, 2, 6, 1, 9, 9]), (4, 7));
+    fn bytes_after_the_last_server_are_4_and_not_read() {
+        assert_eq!(refused(&[0, 1, 0, 0, 0]), (4, 4));
+        assert_eq!(refused(&[0, 1, 0, 0, 0x80]), (4, 4));
+        assert_eq!(refused(&[0, 1, 1, 1, 2, 6, 1, 0, 9, 9]), (4, 8));
+        assert_eq!(refused(&[0, 1, 0, 1, 1, 4, 0x80, 0x00]), (4, 6));
+        assert_eq!(refused(&[0, 1, 0, 1, 1, 4, 1, 4]), (4, 6));
         let mut too_long_as_well = spell(&[[1, 1_141, 1, 1], [1, 919, 1, 1]]);
         let length = too_long_as_well.len();
         too_long_as_well.push(0);
@@ -322,8 +403,8 @@ pub mod tests {
         for (s, p) in [(1, 1), (2, 1), (2, 2), (128, 128), (4_096, 4_096), (1 << 32, 1), (1 << 41, 4_096)] {
             assert_eq!(refused(&spell_with([s, p], &[])), (3, 0), "{s} {p}");
         }
-        assert_eq!(refused(&[0, 0, 0]), (3, 1));
-        assert_eq!(refused(&[1, 1, 0]), (3, 0));
+        assert_eq!(refused(&[0, 0, 0, 0]), (3, 1));
+        assert_eq!(refused(&[1, 1, 0, 0]), (3, 0));
     }
 
     #[test]
@@ -352,7 +433,11 @@ pub mod tests {
         assert_eq!(refused_after(&[]), (1, 4));
         assert_eq!(refused_after(&[0x80, 0x00]), (1, 5));
         assert_eq!(refused_after(&[65]), (2, 4));
-        assert_eq!(refused_after(&[0, 7]), (4, 5));
+        assert_eq!(refused_after(&[0]), (1, 5));
+        assert_eq!(refused_after(&[0, 9]), (2, 5));
+        assert_eq!(refused_after(&[0, 0, 7]), (4, 6));
+        assert_eq!(refused_after(&[0, 1, 0]), (3, 6));
+        assert_eq!(refused_after(&[0, 1, 4, 3]), (3, 7));
         assert_eq!(refused_after(&[1, 0]), (3, 5));
         assert_eq!(refused_after(&[1, 1, 4, 4, 5]), (16, 8));
     }
@@ -372,6 +457,108 @@ pub mod tests {
         assert_eq!(read(&above).unwrap().period, 1_047_552);
         let above = spell_with([0, 2_048], &[[1, 1_024, 1, 1], [1, 1_023, 1, 1], [1, 4, 1, 1]]);
         assert_eq!(refused(&above), (5, above.len()));
+    }
+
+    #[test]
+    fn as_many_servers_as_the_limit_yes_one_more_is_2_before_any_server_is_read() {
+        let most = MOST_SERVERS as usize;
+        for count in 0..=most {
+            assert_eq!(read(&spell_servers(&vec![[1, 9]; count])).unwrap().servers, vec![Server { a: 1, b: 9 }; count]);
+        }
+        assert_eq!(refused(&spell_servers(&vec![[1, 9]; most + 1])), (2, 3));
+        for count in [MOST_SERVERS + 1, MOST_ROWS, 127, 128, 1 << 32, (1 << 32) + 1, 1 << 41, numbers::LARGEST] {
+            for after in [&[][..], &[0], &[0x80, 0x00], &[1; 200]] {
+                let bytes = [&[0, 1, 0][..], &numbers::spell(count).unwrap(), after].concat();
+                assert_eq!(refused(&bytes), (2, 3), "{count} {after:x?}");
+            }
+        }
+        let rows = [[1, 1, 1, 1]; MOST_ROWS as usize];
+        assert_eq!(read(&spell_all([0, 1], &rows, &vec![[1, 9]; most])).unwrap().servers.len(), most);
+        assert_eq!(refused(&spell_all([0, 1], &rows, &vec![[1, 9]; most + 1])), (2, 3 + 4 * rows.len()));
+        assert_eq!(refused(&spell_all([127, 128], &[[1, 300, 300, 1]], &vec![[1, 9]; most + 1])), (2, 10));
+    }
+
+    #[test]
+    fn a_and_b_at_and_past_their_limits() {
+        for [a, b] in [[1, 1], [1, 2], [2, 2], [127, 128], [1, 4_096], [4_095, 4_096], [4_096, 4_096]] {
+            assert_eq!(read(&spell_servers(&[[a, b]])).unwrap().servers, [Server { a, b }]);
+        }
+        for a in [0, 4_097, 5_000, 1 << 14, 1 << 32, (1 << 32) + 1, 1 << 41, numbers::LARGEST] {
+            for b in [0, 1, 4, 4_096, 4_097, 1 << 41] {
+                assert_eq!(refused(&spell_servers(&[[a, b]])), (3, 4), "{a} {b}");
+            }
+        }
+        for (a, b) in [(1, 0), (2, 1), (4, 3), (127, 126), (1, 4_097), (1, 1 << 32), (1, (1 << 32) + 4), (1, 1 << 41)] {
+            assert_eq!(refused(&spell_servers(&[[a, b]])), (3, 5), "{a} {b}");
+        }
+        for (a, b) in [(128, 127), (4_096, 1), (4_096, 4_095), (4_096, 4_097), (4_096, 0)] {
+            assert_eq!(refused(&spell_servers(&[[a, b]])), (3, 6), "{a} {b}");
+        }
+        let mut servers = vec![[1, 9]; MOST_SERVERS as usize];
+        servers[7] = [4, 3];
+        assert_eq!(refused(&spell_servers(&servers)), (3, 4 + 15));
+        servers[7] = [0, 3];
+        assert_eq!(refused(&spell_servers(&servers)), (3, 4 + 14));
+        servers[2] = [9, 8];
+        assert_eq!(refused(&spell_servers(&servers)), (3, 4 + 5));
+    }
+
+    #[test]
+    fn each_number_of_a_server_is_tested_before_the_next_is_looked_at() {
+        let refused_after = |rest: &[u8]| refused(&[&[0, 1, 0], rest].concat());
+        for bad_b in [&[][..], &[0x80, 0x00], &[0x81], &[0xff; 6], &[0, 9], &[4, 9, 9]] {
+            assert_eq!(refused_after(&[&[1, 0], bad_b].concat()), (3, 4));
+            assert_eq!(refused_after(&[&[1, 0x81, 0x20], bad_b].concat()), (3, 4));
+        }
+        assert_eq!(refused_after(&[0x80, 0x00]), (1, 4));
+        assert_eq!(refused_after(&[0x89, 0x00]), (1, 4));
+        assert_eq!(refused_after(&[0xff; 6]), (1, 8));
+        assert_eq!(refused_after(&[1, 0x80, 0x00, 4]), (1, 5));
+        assert_eq!(refused_after(&[1, 1, 0x84, 0x00]), (1, 6));
+        assert_eq!(refused_after(&[1, 1, 0x84, 0x80, 0x80, 0x80, 0x80, 0x80]), (1, 10));
+        assert_eq!(refused_after(&[2, 4, 3, 0, 0]), (3, 5));
+        assert_eq!(refused_after(&[2, 4, 3, 0x80, 0x00]), (3, 5));
+        assert_eq!(refused_after(&[1, 4, 3, 7, 7]), (3, 5));
+        assert_eq!(refused(&spell_all([0, 919], &[[1, 1_141, 1, 1]], &[[4, 3]])), (3, 11));
+        assert_eq!(refused(&spell_all([0, 1], &[[1, 4, 4, 5]], &[[1, 1]; 9])), (16, 6));
+    }
+
+    #[test]
+    fn every_b_joins_the_period_unreduced() {
+        assert_eq!(read(&spell_all([0, 5], &[[1, 4, 4, 2], [1, 6, 6, 3]], &[[1, 7], [3, 8]])).unwrap().period, 840);
+        assert_eq!(read(&spell_servers(&[[512, 1_024]])).unwrap().period, 1_024);
+        for a in [1, 3, 512, 1_024] {
+            // In lowest terms 512 of 1024 would be 1 of 2, and the period 2050.
+            let above = spell_all([0, 1], &[[1, 1_025, 1, 1]], &[[a, 1_024]]);
+            assert_eq!(refused(&above), (5, above.len()));
+            assert_eq!(refused(&[&above[..], &[0]].concat()), (4, above.len()));
+            let longest = spell_all([0, 1], &[[1, 1_025, 1, 1]], &[[a.min(1_023), 1_023]]);
+            assert_eq!(read(&longest).unwrap().period, 1_048_575);
+        }
+        let by_two_servers = spell_servers(&[[1, 1_141], [919, 919]]);
+        assert_eq!(refused(&by_two_servers), (5, by_two_servers.len()));
+        let by_p = spell_all([0, 919], &[], &[[1, 1_141]]);
+        assert_eq!(refused(&by_p), (5, by_p.len()));
+        let far_above = spell_servers(&[4_093, 4_091, 4_079, 4_073, 4_057, 4_051, 4_049, 4_027].map(|b| [1, b]));
+        assert_eq!(refused(&far_above), (5, far_above.len()));
+    }
+
+    #[test]
+    fn row_numbers_name_the_rows_and_then_the_servers() {
+        let table = read(&spell_all([0, 1], &[[1, 4, 4, 2], [1, 6, 6, 3]], &[[1, 4], [2, 3]])).unwrap();
+        assert_eq!([0, 1].map(|row| table.named(row)), [0, 1].map(|row| Some(Named::Row(table.rows[row]))));
+        assert_eq!([2, 3].map(|row| table.named(row)), [0, 1].map(|k| Some(Named::Server(table.servers[k]))));
+        assert_eq!([4, 64, 72, 1 << 32, u64::MAX].map(|row| table.named(row)), [None; 5]);
+        assert_eq!([0, 1, 2, 3].map(|row| table.named(row).unwrap().most_cost()), [2, 3, 4_096, 4_096]);
+        assert_eq!(Table::empty().named(0), None);
+    }
+
+    #[test]
+    fn a_servers_demand_is_its_share_rounded_down() {
+        let demand = |a, b| (0..=9).map(|length| Server { a, b }.demand(length)).collect::<Vec<u64>>();
+        assert_eq!(demand(1, 4), [0, 0, 0, 0, 1, 1, 1, 1, 2, 2]);
+        assert_eq!(demand(2, 3), [0, 0, 1, 2, 2, 3, 4, 4, 5, 6]);
+        assert_eq!(demand(5, 5), [0, 1, 2, 3, 4, 5, 6, 7, 8, 9]);
     }
 
     #[test]

@@ -62,7 +62,7 @@ mod tests {
         let release = |row, cost| Call::Release { row, cost };
         let refused = [release(1, 1), release(0, 3)];
         let calls = [&[Call::Tick, release(0, 2), release(0, 2)][..], &refused, &[Call::Tick; 3]].concat();
-        let two_at_a_time = [0, 1, 1, 2, 1, 2, 2];
+        let two_at_a_time = [0, 1, 1, 2, 1, 2, 2, 0];
         assert_eq!(
             trace(&two_at_a_time, &calls),
             [
@@ -82,8 +82,12 @@ mod tests {
     #[test]
     fn a_refused_table_is_answered_and_played_as_the_empty_one() {
         let calls = [Call::Release { row: 0, cost: 1 }, Call::Tick];
-        let answers = [[kind::REFUSED, 4, 3, 0], [kind::REFUSED, 6, 0, 0], [kind::IDLE, 0, 0, 0]];
-        assert_eq!(trace(&[0, 1, 0, 0], &calls), answers);
+        let answers = [[kind::REFUSED, 4, 4, 0], [kind::REFUSED, 6, 0, 0], [kind::IDLE, 0, 0, 0]];
+        assert_eq!(trace(&[0, 1, 0, 0, 0], &calls), answers);
+        let bad_server = [[kind::REFUSED, 3, 7, 0], [kind::REFUSED, 6, 0, 0], [kind::IDLE, 0, 0, 0]];
+        assert_eq!(trace(&[1, 2, 0, 2, 1, 2, 4, 3], &calls), bad_server);
+        let nine_servers = [[kind::REFUSED, 2, 3, 0], [kind::REFUSED, 6, 0, 0], [kind::IDLE, 0, 0, 0]];
+        assert_eq!(trace(&[1, 2, 0, 9, 1, 2], &calls), nine_servers);
         assert_eq!(trace(&[0, 1, 1, 0x80, 0x00, 1, 1, 1], &[]), [[kind::REFUSED, 1, 4, 0]]);
         assert_eq!(trace(&[0, 1, 1, 1, 0x82], &[]), [[kind::REFUSED, 1, 5, 0]]);
         let hopeless = [[kind::REFUSED, 16, 6, 0], [kind::REFUSED, 6, 0, 0], [kind::IDLE, 0, 0, 0]];
@@ -92,9 +96,13 @@ mod tests {
 
     #[test]
     fn a_refused_timer_takes_no_tick_of_the_empty_tables_run() {
-        for (table, number, place) in
-            [(&[1, 1, 0][..], 3, 0), (&[0, 0, 0], 3, 1), (&[1, 2, 65], 2, 2), (&[1, 2, 0, 9], 4, 3), (&[1], 1, 1)]
-        {
+        for (table, number, place) in [
+            (&[1, 1, 0, 0][..], 3, 0),
+            (&[0, 0, 0, 0], 3, 1),
+            (&[1, 2, 65], 2, 2),
+            (&[1, 2, 0, 0, 9], 4, 4),
+            (&[1], 1, 1),
+        ] {
             assert_eq!(trace(table, &[Call::Tick]), [[kind::REFUSED, number, place, 0], [kind::IDLE, 0, 0, 0]]);
         }
     }
@@ -104,7 +112,7 @@ mod tests {
         let release = Call::Release { row: 0, cost: 1 };
         let calls = [Call::Tick, Call::Tick, Call::Tick, release, Call::Tick, Call::Tick, release, release, Call::Tick];
         // The ticks at 0 and 1 are taken, and so are those at 3 and 4. A job is due one tick after its release.
-        let two_of_three = [2, 3, 1, 2, 1, 1, 1];
+        let two_of_three = [2, 3, 1, 2, 1, 1, 1, 0];
         assert_eq!(
             trace(&two_of_three, &[&calls[..], &[Call::Tick; 2]].concat()),
             [
@@ -120,6 +128,28 @@ mod tests {
                 [kind::FINISHED, 0, 0, 2],
                 [kind::TAKEN, 0, 0, 0],
                 [kind::TAKEN, 0, 0, 0],
+            ]
+        );
+    }
+
+    #[test]
+    fn odd_jobs_are_released_and_refused_after_the_rows() {
+        let release = |row, cost| Call::Release { row, cost };
+        let calls =
+            [release(1, 1), Call::Tick, release(1, 4_097), release(2, 1), release(1, 3), release(0, 1), Call::Tick];
+        // The row is (1, 4, 4, 2), and the server has two units in three ticks.
+        let two_of_three = [0, 1, 1, 1, 4, 4, 2, 1, 2, 3];
+        assert_eq!(
+            trace(&two_of_three, &calls),
+            [
+                [kind::STARTED, 0, 0, 0],
+                [kind::RELEASED, 0, 2, 0],
+                [kind::FINISHED, 0, 0, 0],
+                [kind::REFUSED, 7, 0, 0],
+                [kind::REFUSED, 6, 0, 0],
+                [kind::RELEASED, 1, 7, 0],
+                [kind::RELEASED, 2, 5, 0],
+                [kind::FINISHED, 2, 0, 0],
             ]
         );
     }

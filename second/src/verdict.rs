@@ -1,6 +1,6 @@
 //! Demand and verdict. A table is overloaded where a length of time has more demand than length.
 
-use crate::table::Table;
+use crate::table::{Server, Table};
 
 #[derive(Clone, Copy, Debug, PartialEq, Eq)]
 pub enum Verdict {
@@ -12,29 +12,40 @@ pub enum Verdict {
     },
 }
 
-/// Returns the verdict. A row's demand grows only at the lengths d, d + y, d + 2y and so on, which are its steps. With a
-/// taken tick the demand goes up by one, but so does the length. So the smallest length that fails is a row's step. The
-/// steps are gone through in order, and the rows' demand is kept up to date from one to the next.
+/// Returns the verdict. A row's demand grows only at the lengths d, d + y, d + 2y and so on, and a server's only where
+/// a * L / b comes to the next whole number. These are the steps. With a taken tick the demand goes up by one, but so
+/// does the length. So the smallest length that fails is a step of a row or of a server. The steps are gone through in
+/// order, and the rows' demand is kept up to date from one to the next.
 ///
 /// From the largest d on everything repeats: one period H later there is the same step again, and the demand is higher
 /// by a fixed number. So the steps of one period say for every later period whether and when that step fails.
 pub fn verdict(table: &Table) -> Verdict {
     let rows_per_period: u64 = table.rows.iter().map(|row| row.x * row.c * (table.period / row.y)).sum();
-    let per_period = rows_per_period + table.timer.s * (table.period / table.timer.p);
+    let servers_per_period: u64 = table.servers.iter().map(|server| server.a * (table.period / server.b)).sum();
+    let per_period = rows_per_period + servers_per_period + table.timer.s * (table.period / table.timer.p);
     let gain = per_period.saturating_sub(table.period);
     let largest_d = table.largest_d();
 
-    let mut next_step: Vec<u64> = table.rows.iter().map(|row| row.d).collect();
+    let mut row_steps: Vec<u64> = table.rows.iter().map(|row| row.d).collect();
+    let mut server_steps: Vec<u64> = table.servers.iter().map(|server| step_after(server, 0)).collect();
     let mut of_rows = 0;
     let mut earliest_later = None;
-    while let Some(length) = next_step.iter().copied().min().filter(|&step| step <= largest_d + table.period) {
-        for (row, step) in table.rows.iter().zip(&mut next_step) {
+    while let Some(&length) =
+        row_steps.iter().chain(&server_steps).min().filter(|&&step| step <= largest_d + table.period)
+    {
+        for (row, step) in table.rows.iter().zip(&mut row_steps) {
             if *step == length {
                 of_rows += row.x * row.c;
                 *step += row.y;
             }
         }
-        let demand = of_rows + table.timer.taken(length);
+        for (server, step) in table.servers.iter().zip(&mut server_steps) {
+            if *step == length {
+                *step = step_after(server, length);
+            }
+        }
+        let of_servers: u64 = table.servers.iter().map(|server| server.demand(length)).sum();
+        let demand = of_rows + of_servers + table.timer.taken(length);
         if demand > length {
             return Verdict::Overloaded { length, demand };
         }
@@ -50,6 +61,11 @@ pub fn verdict(table: &Table) -> Verdict {
     }
 }
 
+/// Returns the next length at which a server's demand grows.
+fn step_after(server: &Server, length: u64) -> u64 {
+    ((server.demand(length) + 1) * server.b).div_ceil(server.a)
+}
+
 #[cfg(test)]
 mod tests {
     use super::*;
@@ -58,7 +74,11 @@ mod tests {
     const V3: [[u64; 4]; 2] = [[1, 4, 4, 2], [1, 6, 6, 3]];
 
     fn table_of(timer: [u64; 2], rows: &[[u64; 4]]) -> Table {
-        table::read(&table::tests::spell_with(timer, rows)).unwrap()
+        table_with(timer, rows, &[])
+    }
+
+    fn table_with(timer: [u64; 2], rows: &[[u64; 4]], servers: &[[u64; 2]]) -> Table {
+        table::read(&table::tests::spell_all(timer, rows, servers)).unwrap()
     }
 
     fn overloaded(length: u64, demand: u64) -> Verdict {
@@ -92,11 +112,29 @@ mod tests {
         assert_eq!(judge([1, 2], &[[1, 2, 10, 2]]), overloaded(18, 19));
     }
 
+    #[test]
+    fn examples_s2_to_s8() {
+        let judge = |timer, rows: &[[u64; 4]], servers: &[[u64; 2]]| verdict(&table_with(timer, rows, servers));
+        assert_eq!(judge([0, 1], &[], &[[1, 4]]), Verdict::Feasible);
+        assert_eq!(judge([0, 1], &[], &[[4_096, 4_096]]), Verdict::Feasible);
+        assert_eq!(judge([0, 1], &V3, &[[1, 12]]), overloaded(12, 13));
+        assert_eq!(judge([0, 1], &[], &[[1, 1], [1, 4_096]]), overloaded(4_096, 4_097));
+        assert_eq!(judge([1, 4], &[], &[[3, 4]]), Verdict::Feasible);
+        assert_eq!(judge([1, 4], &[], &[[4, 5]]), overloaded(5, 6));
+        assert_eq!(judge([0, 1], &[[1, 4, 7, 2]], &[[1, 3], [1, 4]]), overloaded(36, 37));
+        for length in 1..=10_000 {
+            assert_eq!(demand(&table_with([0, 1], &[], &[[4_096, 4_096]]), length), length);
+            assert_eq!(demand(&table_with([1, 4], &[], &[[3, 4]]), length), length);
+        }
+    }
+
     /// Returns a table's demand in a length of time, as the rule has it. The taken ticks are counted one by one.
     fn demand(table: &Table, length: u64) -> u64 {
         let of_rows = table.rows.iter().filter(|row| length >= row.d);
+        let of_rows: u64 = of_rows.map(|row| ((length - row.d) / row.y + 1) * row.x * row.c).sum();
+        let of_servers: u64 = table.servers.iter().map(|server| server.a * length / server.b).sum();
         let taken = (0..length).filter(|&tick| table.timer.takes(tick)).count() as u64;
-        of_rows.map(|row| ((length - row.d) / row.y + 1) * row.x * row.c).sum::<u64>() + taken
+        of_rows + of_servers + taken
     }
 
     #[test]
@@ -110,7 +148,8 @@ mod tests {
     /// Returns the verdict by the definition: it looks at every length from 1 up to the bound that settles it.
     fn verdict_by_definition(table: &Table) -> Verdict {
         let of_rows: u64 = table.rows.iter().map(|row| row.x * row.c * table.period / row.y).sum();
-        let sum = of_rows + table.timer.s * table.period / table.timer.p;
+        let of_servers: u64 = table.servers.iter().map(|server| server.a * table.period / server.b).sum();
+        let sum = of_rows + of_servers + table.timer.s * table.period / table.timer.p;
         let periods = if sum <= table.period { 1 } else { table.largest_d() + 1 };
         (1..=periods * table.period + table.largest_d())
             .find(|&length| demand(table, length) > length)
@@ -188,11 +227,65 @@ mod tests {
                     [1 + below(2), y, d, 1 + below(d.min(4))]
                 })
                 .collect();
-            let table = table_of(timer, &rows);
+            let servers: Vec<[u64; 2]> = (0..below(4) * below(2))
+                .map(|_| {
+                    let b = 1 + below(12);
+                    [1 + below(b.div_ceil(2)), b]
+                })
+                .collect();
+            let table = table_with(timer, &rows, &servers);
             if table.period <= 120 {
-                assert_eq!(verdict(&table), verdict_by_definition(&table), "{timer:?} {rows:?}");
+                assert_eq!(verdict(&table), verdict_by_definition(&table), "{timer:?} {rows:?} {servers:?}");
             }
         }
+    }
+
+    #[test]
+    fn agrees_with_the_definition_on_small_tables_of_a_timer_one_row_and_servers() {
+        let servers: [&[[u64; 2]]; 9] = [
+            &[[1, 2]],
+            &[[2, 4]],
+            &[[2, 3]],
+            &[[3, 3]],
+            &[[1, 5], [1, 5]],
+            &[[1, 3], [1, 4]],
+            &[[1, 2], [1, 2], [1, 6]],
+            &[[4, 5], [1, 6]],
+            &[[1, 8]; 8],
+        ];
+        // These are feasible; overloaded at a row's step, at another length, and past H and the largest d.
+        let mut met = [0; 4];
+        for timer in [[0, 1], [0, 7], [1, 2], [1, 4], [2, 5], [5, 6]] {
+            for row in small_rows(20, 4) {
+                for servers in servers {
+                    let table = table_with(timer, &[row], servers);
+                    let found = verdict(&table);
+                    assert_eq!(found, verdict_by_definition(&table), "{timer:?} {row:?} {servers:?}");
+                    let [_, y, d, _] = row;
+                    let kind = match found {
+                        Verdict::Feasible => 0,
+                        Verdict::Overloaded { length, .. } if length > table.period + table.largest_d() => 3,
+                        Verdict::Overloaded { length, .. } => usize::from(length < d || (length - d) % y != 0) + 1,
+                    };
+                    met[kind] += 1;
+                }
+            }
+        }
+        assert!(met.iter().all(|&count| count > 100), "{met:?}");
+    }
+
+    #[test]
+    fn servers_alone_are_feasible_up_to_the_whole_processor() {
+        let judge = |servers: &[[u64; 2]]| verdict(&table_with([0, 1], &[], servers));
+        for (a, b) in [(1, 1), (1, 2), (1, 4_096), (4_095, 4_096), (4_096, 4_096), (512, 1_024), (7, 9)] {
+            assert_eq!(judge(&[[a, b]]), Verdict::Feasible, "{a} of {b}");
+            assert_eq!(judge(&[[a, b], [b - a + u64::from(a == b), b]]) == Verdict::Feasible, a < b, "{a} of {b}");
+        }
+        assert_eq!(judge(&[[1, 8]; 8]), Verdict::Feasible);
+        assert_eq!(judge(&[[512, 4_096]; 8]), Verdict::Feasible);
+        assert_eq!(judge(&[[1, 7]; 8]), overloaded(7, 8));
+        assert_eq!(judge(&[[4_096, 4_096]; 8]), overloaded(1, 8));
+        assert_eq!(judge(&[[1_022, 1_023], [2, 1_025]]), overloaded(1_538, 1_539));
     }
 
     #[test]
@@ -225,9 +318,13 @@ mod tests {
     #[test]
     fn the_latest_witness_costs_no_more_than_one_period() {
         // The two rows take 1023 / 1023 and 1 / 1025 of the processor, which is above 1 by 1 / 1025. In the second
-        // table the timer takes 1 / 1025 instead.
+        // table the timer takes 1 / 1025 instead, and in the third a server.
         let long = [1, 1_023, 16_384, 1_023];
-        for table in [table_of([0, 1], &[long, [1, 1_025, 16_384, 1]]), table_of([1, 1_025], &[long])] {
+        for table in [
+            table_of([0, 1], &[long, [1, 1_025, 16_384, 1]]),
+            table_of([1, 1_025], &[long]),
+            table_with([0, 1], &[long], &[[1, 1_025]]),
+        ] {
             let Verdict::Overloaded { length, demand: stated } = verdict(&table) else { panic!("feasible") };
             assert!(length > 10 * (1_048_575 + 16_384));
             let mut taken = 0;
@@ -235,7 +332,9 @@ mod tests {
             for length in 1..=length {
                 taken += u64::from(table.timer.takes(length - 1));
                 let of_rows = table.rows.iter().filter(|row| length >= row.d);
-                let demand = of_rows.map(|row| ((length - row.d) / row.y + 1) * row.c).sum::<u64>() + taken;
+                let of_servers: u64 = table.servers.iter().map(|server| server.a * length / server.b).sum();
+                let of_rows: u64 = of_rows.map(|row| ((length - row.d) / row.y + 1) * row.c).sum();
+                let demand = of_rows + of_servers + taken;
                 if first.is_none() && demand > length {
                     first = Some((length, demand));
                 }

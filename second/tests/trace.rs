@@ -4,14 +4,14 @@ mod support;
 
 use second::refusal::Reason;
 use second::run::MOST_PENDING;
-use second::table::{MOST_C, MOST_ROWS};
+use second::table::{MOST_ODD_COST, MOST_ROWS, MOST_SERVERS};
 use second::trace::{kind, trace, Answer, Call};
 use std::collections::BTreeSet;
 use support::case::hex;
 use support::random::Random;
-use support::tables::Row;
+use support::tables::Table;
 use support::trace::{by_library, bytes_of};
-use support::{damage, hopeless, scripts, settings, tables, timers};
+use support::{damage, hopeless, scripts, servers, settings, tables, timers};
 
 /// There are at least this many traces, since with fewer some answers might not be met.
 const TRACES: u64 = 20_000;
@@ -22,40 +22,46 @@ const FILLED: u64 = 12;
 /// One trace in so many has a timer that is refused, or nearly, and one in so many a period that p makes long.
 const BAD_TIMER: u64 = 40;
 
+/// One trace in so many has servers that are refused, or nearly, or a period that b makes long.
+const BAD_SERVERS: u64 = 40;
+
 /// One trace in so many has a first row whose c is above its d, or about as high.
 const HOPELESS: u64 = 40;
 
 /// Makes releases and ticks by turns of random length, so that places fill up and empty again.
-fn random_calls(rows: &[Row], random: &mut Random) -> Vec<Call> {
+fn random_calls(table: &Table, random: &mut Random) -> Vec<Call> {
     let mut calls = vec![];
     if random.one_in(FILLED) {
         let jobs = scripts::near_the_last_place(random);
-        calls.extend((0..jobs).map(|_| good_release(rows, random)));
+        calls.extend((0..jobs).map(|_| good_release(table, random)));
     }
     for _ in 0..random.within(1, 12) {
         let releases = random.one_in(2);
         for _ in 0..random.pick(&[1, 3, 10, 40]) {
-            calls.push(if releases { random_release(rows, random) } else { Call::Tick });
+            calls.push(if releases { random_release(table, random) } else { Call::Tick });
         }
     }
     calls
 }
 
-fn good_release(rows: &[Row], random: &mut Random) -> Call {
-    let row = random.index(rows.len().max(1));
-    let c = rows.get(row).map_or(1, |row| row[3].clamp(1, MOST_C));
-    Call::Release { row: row as u64, cost: random.within(1, c.min(9)) }
+fn good_release(table: &Table, random: &mut Random) -> Call {
+    let row = random.below(table.row_numbers().max(1));
+    Call::Release { row, cost: random.within(1, table.most_cost(row).min(9)) }
 }
 
-fn random_release(rows: &[Row], random: &mut Random) -> Call {
-    let count = rows.len() as u64;
+fn random_release(table: &Table, random: &mut Random) -> Call {
+    let count = table.row_numbers();
     let row = if random.one_in(30) {
-        random.pick(&[count, MOST_ROWS, 1 << 32, u64::MAX])
+        random.pick(&[count, table.rows.len() as u64, MOST_ROWS, MOST_ROWS + MOST_SERVERS, 1 << 32, u64::MAX])
     } else {
         random.below(count.max(1))
     };
-    let c = rows.get(row as usize).map_or(1, |row| row[3].clamp(1, MOST_C));
-    let cost = if random.one_in(30) { random.pick(&[0, c + 1, 1 << 32, u64::MAX]) } else { random.within(1, c.min(9)) };
+    let most = table.most_cost(row);
+    let cost = if random.one_in(20) {
+        random.pick(&[0, most, most + 1, 1 << 32, u64::MAX])
+    } else {
+        random.within(1, most.min(9))
+    };
     Call::Release { row, cost }
 }
 
@@ -89,11 +95,57 @@ fn taken_ticks(answers: &[Answer]) -> BTreeSet<(bool, bool)> {
     met
 }
 
+/// What was met of odd jobs. A refused one shows that it leaves the server's last due time alone only where that server's
+/// next one is accepted, and due later than it would be as the first.
+#[derive(Clone, Copy, Debug, PartialEq, Eq, PartialOrd, Ord)]
+enum OddJob {
+    /// An odd job was accepted.
+    Released,
+    /// One of the highest cost was accepted.
+    HighestCost,
+    /// A release with this refusal came between two of the same server that were accepted.
+    RefusedBetween(u64),
+}
+
+fn odd_jobs(table: &Table, calls: &[Call], answers: &[Answer]) -> BTreeSet<OddJob> {
+    let mut met = BTreeSet::new();
+    let mut last = vec![0; table.servers.len()];
+    let mut refused = vec![BTreeSet::new(); table.servers.len()];
+    let mut clock = 0;
+    for (call, answer) in calls.iter().zip(&answers[1..]) {
+        let Call::Release { row, cost } = *call else {
+            clock += 1;
+            continue;
+        };
+        if row < table.rows.len() as u64 || row >= table.row_numbers() {
+            continue;
+        }
+        let server = row as usize - table.rows.len();
+        match *answer {
+            [kind::RELEASED, _, due, _] => {
+                met.insert(OddJob::Released);
+                if cost == MOST_ODD_COST {
+                    met.insert(OddJob::HighestCost);
+                }
+                if last[server] > clock {
+                    met.append(&mut refused[server]);
+                }
+                refused[server].clear();
+                last[server] = due;
+            }
+            [_, number, _, _] => drop(refused[server].insert(OddJob::RefusedBetween(number))),
+        }
+    }
+    met
+}
+
 #[test]
 fn single_calls() {
     let seed = settings::number("JYRMEKKO_SEED", 1);
     let mut met = BTreeSet::new();
     let mut started_rows = BTreeSet::new();
+    let mut started_servers = BTreeSet::new();
+    let mut odd = BTreeSet::new();
     let mut pending_jobs = BTreeSet::new();
     let mut taken = BTreeSet::new();
     let mut places_of_3 = BTreeSet::new();
@@ -102,6 +154,11 @@ fn single_calls() {
         let mut lent = tables::to_replay(&mut random);
         if random.one_in(HOPELESS) {
             lent.rows.iter_mut().take(1).for_each(|row| hopeless::spoil(row, &mut random));
+        }
+        match random.below(BAD_SERVERS) {
+            0 => lent = servers::any_bad(&mut random).0,
+            1 => lent = servers::long_period(&mut random),
+            _ => {}
         }
         match random.below(BAD_TIMER) {
             0 => lent.timer = timers::bad(&mut random),
@@ -112,7 +169,7 @@ fn single_calls() {
         if random.one_in(20) {
             table = damage::mutate(&table, &mut random);
         }
-        let calls = random_calls(&lent.rows, &mut random);
+        let calls = random_calls(&lent, &mut random);
         let expected = trace(&table, &calls);
         let (count, found) = by_library(&table, &calls, &mut random);
         assert!(
@@ -123,6 +180,10 @@ fn single_calls() {
         );
         if expected[0][0] == kind::STARTED {
             started_rows.insert(tables::row_count(&table).unwrap());
+            started_servers.insert(tables::server_count(&table).unwrap());
+            if table == lent.spell() {
+                odd.extend(odd_jobs(&lent, &calls, &expected));
+            }
         }
         if expected[0][..2] == [kind::REFUSED, Reason::ValueOutOfRange.number().into()] {
             places_of_3.insert(expected[0][2]);
@@ -144,6 +205,12 @@ fn single_calls() {
         );
     }
     assert_eq!(taken, BTreeSet::from([(false, false), (true, false), (true, true)]), "a job pending, and one late");
+    let refused_between = [7, 8].map(OddJob::RefusedBetween);
+    let wanted: BTreeSet<OddJob> = [OddJob::Released, OddJob::HighestCost].into_iter().chain(refused_between).collect();
+    assert_eq!(odd, wanted, "odd jobs");
+    for servers in [0, 1, MOST_SERVERS - 1, MOST_SERVERS] {
+        assert!(started_servers.contains(&servers), "no run was started on {servers} servers");
+    }
     for rows in [MOST_ROWS - 1, MOST_ROWS] {
         assert!(started_rows.contains(&rows), "no run was started on {rows} rows");
     }

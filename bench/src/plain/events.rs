@@ -1,10 +1,11 @@
 //! Replay by events, as an expert would write it for speed. Pending jobs stand in a heap by due time and serial. The job
 //! on top gets all its free ticks in one go, up to its finish or to the next record. Only free ticks are counted, so that
-//! a stretch of taken ticks is crossed by arithmetic. Due times stand in a ring for each row, and the log in a vector.
+//! a stretch of taken ticks is crossed by arithmetic. Due times stand in a ring for each row, of a server there is its
+//! last one, and the log is a vector.
 
-use super::jobs::{LATEST, PLACES};
+use super::jobs::{odd_due_time, LATEST, PLACES};
 use super::numbers::{bad_byte, read, write};
-use super::table::{read_table, Row, Table, Timer};
+use super::table::{read_table, Row, Server, Table, Timer, C};
 use super::Refused;
 use std::cmp::Ordering;
 use std::collections::binary_heap::PeekMut;
@@ -42,6 +43,38 @@ impl PartialEq for Job {
 }
 
 impl Eq for Job {}
+
+/// What jobs are released of. Its place in a vector is its row number.
+enum Source {
+    Row(Ring),
+    Server { server: Server, last: u64 },
+}
+
+impl Source {
+    fn of_row(row: Row) -> Source {
+        Source::Row(Ring { row, times: Vec::with_capacity(row.x as usize), oldest: 0 })
+    }
+
+    fn of_server(server: Server) -> Source {
+        Source::Server { server, last: 0 }
+    }
+
+    /// Returns the most that a job may cost.
+    fn most(&self) -> u64 {
+        match self {
+            Source::Row(ring) => ring.row.c,
+            Source::Server { .. } => C,
+        }
+    }
+
+    /// Returns the due time of the next job and keeps it, or returns none where it would be above 2^40.
+    fn due_time(&mut self, release: u64, cost: u64) -> Option<u64> {
+        match self {
+            Source::Row(ring) => ring.due_time(release),
+            Source::Server { server, last } => odd_due_time(server, last, release, cost),
+        }
+    }
+}
 
 /// A row with the due times of its newest jobs, at most x of them.
 struct Ring {
@@ -106,9 +139,9 @@ struct Play<'a> {
 /// Replays a script on a table. The log is written into a vector, and it may be so many bytes long. Returns how many jobs
 /// were late.
 pub fn replay(table: &[u8], script: &[u8], log: &mut Vec<u8>, room: usize) -> Result<u64, Refused> {
-    let Table { timer, rows, .. } = read_table(table)?;
-    let ring = |row: Row| Ring { row, times: Vec::with_capacity(row.x as usize), oldest: 0 };
-    let mut rings: Vec<Ring> = rows.into_iter().map(ring).collect();
+    let Table { timer, rows, servers, .. } = read_table(table)?;
+    let rows = rows.into_iter().map(Source::of_row);
+    let mut sources: Vec<Source> = rows.chain(servers.into_iter().map(Source::of_server)).collect();
     log.clear();
     let mut play = Play { timer, free: 0, pending: BinaryHeap::with_capacity(PLACES), log, late: 0 };
     let mut time = 0;
@@ -123,12 +156,12 @@ pub fn replay(table: &[u8], script: &[u8], log: &mut Vec<u8>, room: usize) -> Re
         }
         let place = at;
         let row = number(script, &mut at)?;
-        let Some(ring) = rings.get_mut(row as usize) else {
+        let Some(source) = sources.get_mut(row as usize) else {
             return Err(Refused(6, place));
         };
         let place = at;
         let cost = number(script, &mut at)?;
-        if cost < 1 || cost > ring.row.c {
+        if cost < 1 || cost > source.most() {
             return Err(Refused(7, place));
         }
         if gap > 0 {
@@ -137,7 +170,7 @@ pub fn replay(table: &[u8], script: &[u8], log: &mut Vec<u8>, room: usize) -> Re
         if play.pending.len() == PLACES {
             return Err(Refused(8, start));
         }
-        let due = ring.due_time(time).ok_or(Refused(9, start))?;
+        let due = source.due_time(time, cost).ok_or(Refused(9, start))?;
         play.pending.push(Job { due, serial, release: time, row: row as u32, left: cost as u32 });
         serial += 1;
     }

@@ -1,6 +1,6 @@
 //! This is what a replay and a run share: pending jobs, the choice among them, and due times.
 
-use super::table::Row;
+use super::table::{Row, Server, C};
 use std::collections::VecDeque;
 
 /// No clock and no due time is above this.
@@ -29,9 +29,51 @@ pub fn first(pending: &[Job]) -> usize {
     at
 }
 
-/// Returns the due time of a row's next job and keeps it, or returns none where it would be above 2^40.
+/// What jobs are released of: a row with its kept due times, or a server with its last due time.
+pub enum Source {
+    Row { row: Row, kept: VecDeque<u64> },
+    Server { server: Server, last: u64 },
+}
+
+impl Source {
+    /// Returns the rows and then the servers, in the order of their row numbers. Nothing was released yet.
+    pub fn all(rows: &[Row], servers: &[Server]) -> Vec<Source> {
+        let rows = rows.iter().map(|&row| Source::Row { row, kept: VecDeque::new() });
+        rows.chain(servers.iter().map(|&server| Source::Server { server, last: 0 })).collect()
+    }
+
+    /// Returns the most that a job may cost.
+    #[inline]
+    pub fn most(&self) -> u64 {
+        match self {
+            Source::Row { row, .. } => row.c,
+            Source::Server { .. } => C,
+        }
+    }
+
+    /// Returns the due time of the next job and keeps it, or returns none where it would be above 2^40.
+    #[inline]
+    pub fn due_time(&mut self, release: u64, cost: u64) -> Option<u64> {
+        match self {
+            Source::Row { row, kept } => row_due_time(row, kept, release),
+            Source::Server { server, last } => odd_due_time(server, last, release, cost),
+        }
+    }
+}
+
+/// Returns the due time of a server's next job, which is its last one then, or returns none where it would be above 2^40.
 #[inline]
-pub fn due_time(row: &Row, kept: &mut VecDeque<u64>, release: u64) -> Option<u64> {
+pub fn odd_due_time(server: &Server, last: &mut u64, release: u64, cost: u64) -> Option<u64> {
+    let due = release.max(*last) + (cost * server.b).div_ceil(server.a);
+    if due > LATEST {
+        return None;
+    }
+    *last = due;
+    Some(due)
+}
+
+#[inline]
+fn row_due_time(row: &Row, kept: &mut VecDeque<u64>, release: u64) -> Option<u64> {
     let mut due = release + row.d;
     let spaced = kept.len() as u64 == row.x;
     if spaced {

@@ -11,7 +11,7 @@ mod verdict;
 
 pub use jobs::PLACES;
 pub use run::trace;
-pub use table::{ROWS, X};
+pub use table::{ROWS, SERVERS, X};
 
 /// A refusal has its number and its place.
 pub struct Refused(pub u32, pub usize);

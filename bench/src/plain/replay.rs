@@ -1,11 +1,10 @@
-//! Replay. Pending jobs stand in a vector, and the due times of each row in a queue. A linear scan finds the job with
-//! the earliest due time, once for each tick that is not taken.
+//! Replay. Pending jobs stand in a vector, the due times of each row in a queue, and of a server there is its last due
+//! time. A linear scan finds the job with the earliest due time, once for each tick that is not taken.
 
-use super::jobs::{due_time, first, Job, LATEST, PLACES};
+use super::jobs::{first, Job, Source, LATEST, PLACES};
 use super::numbers::{bad_byte, read, write};
 use super::table::{read_table, Table, Timer};
 use super::Refused;
-use std::collections::VecDeque;
 
 /// The longest log record has five numbers of six groups.
 const RECORD: usize = 30;
@@ -22,8 +21,8 @@ struct Run<'a> {
 
 /// Returns the log's length, and how many jobs were late.
 pub fn replay(table: &[u8], script: &[u8], log: &mut [u8]) -> Result<(usize, u64), Refused> {
-    let Table { timer, rows, .. } = read_table(table)?;
-    let mut kept: Vec<VecDeque<u64>> = rows.iter().map(|_| VecDeque::new()).collect();
+    let Table { timer, rows, servers, .. } = read_table(table)?;
+    let mut sources = Source::all(&rows, &servers);
     let mut run = Run { timer, clock: 0, pending: Vec::new(), log, length: 0, full: false, late: 0 };
     let mut serial = 0;
     let mut at = 0;
@@ -36,13 +35,13 @@ pub fn replay(table: &[u8], script: &[u8], log: &mut [u8]) -> Result<(usize, u64
         }
         let place = at;
         let number_of_row = number(script, &mut at)?;
-        if number_of_row >= rows.len() as u64 {
+        if number_of_row >= sources.len() as u64 {
             return Err(Refused(6, place));
         }
         let row = number_of_row as usize;
         let place = at;
         let cost = number(script, &mut at)?;
-        if cost < 1 || cost > rows[row].c {
+        if cost < 1 || cost > sources[row].most() {
             return Err(Refused(7, place));
         }
         while run.clock < time {
@@ -55,7 +54,7 @@ pub fn replay(table: &[u8], script: &[u8], log: &mut [u8]) -> Result<(usize, u64
         if run.pending.len() == PLACES {
             return Err(Refused(8, start));
         }
-        let due = due_time(&rows[row], &mut kept[row], time).ok_or(Refused(9, start))?;
+        let due = sources[row].due_time(time, cost).ok_or(Refused(9, start))?;
         run.pending.push(Job { serial, row, release: time, due, left: cost });
         serial += 1;
     }

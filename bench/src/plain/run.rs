@@ -1,10 +1,9 @@
 //! A run is a struct that is changed in place. Nobody else can change it, so it is always sound and is not tested for
 //! that. Calls are three words of eight bytes each, and answers are four, as the probe library has them.
 
-use super::jobs::{due_time, first, Job, LATEST, PLACES};
-use super::table::{read_table, Row, Timer};
+use super::jobs::{first, Job, Source, LATEST, PLACES};
+use super::table::{read_table, Timer};
 use super::Refused;
-use std::collections::VecDeque;
 
 const WORD: usize = 8;
 /// The first word of a call that is a release. A call with any other first word is a tick.
@@ -12,11 +11,10 @@ const RELEASE: u64 = 1;
 
 struct Run {
     timer: Timer,
-    rows: Vec<Row>,
+    sources: Vec<Source>,
     clock: u64,
     pending: Vec<Job>,
     next: u64,
-    kept: Vec<VecDeque<u64>>,
 }
 
 /// Plays calls on a fresh run of a table. It writes the answers of the start and of each call, as many as there is room
@@ -26,13 +24,12 @@ pub fn trace(table: &[u8], calls: &[u8], answers: &mut [u8]) -> u32 {
     let Some(start) = room.next() else {
         return 0;
     };
-    let (timer, rows, answer) = match read_table(table) {
-        Ok(table) => (table.timer, table.rows, [1, 0, 0, 0]),
+    let (timer, sources, answer) = match read_table(table) {
+        Ok(table) => (table.timer, Source::all(&table.rows, &table.servers), [1, 0, 0, 0]),
         Err(Refused(number, place)) => (Timer { s: 0, p: 1 }, Vec::new(), [6, number.into(), place as u64, 0]),
     };
     put(start, answer);
-    let kept = rows.iter().map(|_| VecDeque::new()).collect();
-    let mut run = Run { timer, rows, clock: 0, pending: Vec::new(), next: 0, kept };
+    let mut run = Run { timer, sources, clock: 0, pending: Vec::new(), next: 0 };
     let mut shown = 1;
     for (call, answer) in calls.chunks_exact(3 * WORD).zip(room) {
         let said = match word(call, 0) {
@@ -48,17 +45,17 @@ pub fn trace(table: &[u8], calls: &[u8], answers: &mut [u8]) -> u32 {
 impl Run {
     /// Returns the words of the answer, or the refusal's number.
     fn release(&mut self, row: u64, cost: u64) -> Result<[u64; 4], u64> {
-        if row >= self.rows.len() as u64 {
+        if row >= self.sources.len() as u64 {
             return Err(6);
         }
         let row = row as usize;
-        if cost < 1 || cost > self.rows[row].c {
+        if cost < 1 || cost > self.sources[row].most() {
             return Err(7);
         }
         if self.pending.len() == PLACES {
             return Err(8);
         }
-        let due = due_time(&self.rows[row], &mut self.kept[row], self.clock).ok_or(9u64)?;
+        let due = self.sources[row].due_time(self.clock, cost).ok_or(9u64)?;
         let serial = self.next;
         self.pending.push(Job { serial, row, release: self.clock, due, left: cost });
         self.next += 1;

@@ -1,14 +1,17 @@
-//! Tables are read and tested here. The timer says which ticks it takes.
+//! Tables are read and tested here: the timer, the rows and the servers. The timer says which ticks it takes.
 
 use super::numbers::{bad_byte, read};
 use super::Refused;
 
 pub const ROWS: u64 = 64;
+pub const SERVERS: u64 = 8;
 pub const X: u64 = 64;
 const Y: u64 = 4_096;
 const D: u64 = 16_384;
-const C: u64 = 4_096;
+/// No job of a row costs more than this, and no odd job.
+pub const C: u64 = 4_096;
 const P: u64 = 4_096;
+const B: u64 = 4_096;
 const PERIOD: u64 = 1_048_576;
 
 /// The timer takes the first s ticks of every p, counted from clock 0.
@@ -34,48 +37,59 @@ pub struct Row {
     pub c: u64,
 }
 
+/// A server gives its odd jobs a units in b ticks.
+#[derive(Clone, Copy)]
+pub struct Server {
+    pub a: u64,
+    pub b: u64,
+}
+
 pub struct Table {
     pub timer: Timer,
     pub rows: Vec<Row>,
-    /// The period is H, the least common multiple of p and of the y of all rows.
+    pub servers: Vec<Server>,
+    /// The period is H, the least common multiple of p, the y of all rows and the b of all servers.
     pub period: u64,
 }
 
 pub fn read_table(bytes: &[u8]) -> Result<Table, Refused> {
     let mut at = 0;
     let s = number(bytes, &mut at)?;
-    let p = value(bytes, &mut at, P)?;
+    let p = value(bytes, &mut at, 1, P)?;
     if s >= p {
         return Err(Refused(3, 0));
     }
-    let place = at;
-    let count = number(bytes, &mut at)?;
-    if count > ROWS {
-        return Err(Refused(2, place));
-    }
-    let mut rows = Vec::with_capacity(count as usize);
-    for _ in 0..count {
-        let x = value(bytes, &mut at, X)?;
-        let y = value(bytes, &mut at, Y)?;
-        let d = value(bytes, &mut at, D)?;
+    let length = count(bytes, &mut at, ROWS)?;
+    let mut rows = Vec::with_capacity(length);
+    for _ in 0..length {
+        let x = value(bytes, &mut at, 1, X)?;
+        let y = value(bytes, &mut at, 1, Y)?;
+        let d = value(bytes, &mut at, 1, D)?;
         let place = at;
-        let c = value(bytes, &mut at, C)?;
+        let c = value(bytes, &mut at, 1, C)?;
         if c > d {
             return Err(Refused(16, place));
         }
         rows.push(Row { x, y, d, c });
     }
+    let length = count(bytes, &mut at, SERVERS)?;
+    let mut servers = Vec::with_capacity(length);
+    for _ in 0..length {
+        let a = value(bytes, &mut at, 1, B)?;
+        let b = value(bytes, &mut at, a, B)?;
+        servers.push(Server { a, b });
+    }
     if at < bytes.len() {
         return Err(Refused(4, at));
     }
     let mut period = p;
-    for row in &rows {
-        period = period / greatest_divisor(period, row.y) * row.y;
+    for length in rows.iter().map(|row| row.y).chain(servers.iter().map(|server| server.b)) {
+        period = period / greatest_divisor(period, length) * length;
         if period > PERIOD {
             return Err(Refused(5, bytes.len()));
         }
     }
-    Ok(Table { timer: Timer { s, p }, rows, period })
+    Ok(Table { timer: Timer { s, p }, rows, servers, period })
 }
 
 fn number(bytes: &[u8], at: &mut usize) -> Result<u64, Refused> {
@@ -84,10 +98,19 @@ fn number(bytes: &[u8], at: &mut usize) -> Result<u64, Refused> {
     Ok(value)
 }
 
-fn value(bytes: &[u8], at: &mut usize, most: u64) -> Result<u64, Refused> {
+fn count(bytes: &[u8], at: &mut usize, most: u64) -> Result<usize, Refused> {
+    let place = *at;
+    let count = number(bytes, at)?;
+    if count > most {
+        return Err(Refused(2, place));
+    }
+    Ok(count as usize)
+}
+
+fn value(bytes: &[u8], at: &mut usize, least: u64, most: u64) -> Result<u64, Refused> {
     let place = *at;
     let value = number(bytes, at)?;
-    if value < 1 || value > most {
+    if value < least || value > most {
         return Err(Refused(3, place));
     }
     Ok(value)

@@ -1,14 +1,15 @@
-//! The verdict looks at the demand in every length, from 1 up, with the taken ticks counted.
+//! The verdict looks at the demand in every length, from 1 up, with servers and taken ticks counted.
 
-use super::table::{read_table, Row, Timer};
+use super::table::{read_table, Row, Server, Timer};
 use super::Refused;
 
 /// Returns none where the table is feasible, and else the smallest length whose demand is above it, and that demand.
 pub fn judge(bytes: &[u8]) -> Result<Option<(u64, u64)>, Refused> {
     let table = read_table(bytes)?;
     let growth: u64 = table.rows.iter().map(|row| table.period / row.y * row.x * row.c).sum();
+    let served: u64 = table.servers.iter().map(|server| table.period / server.b * server.a).sum();
     let taken = table.period / table.timer.p * table.timer.s;
-    let last = if growth + taken <= table.period {
+    let last = if growth + served + taken <= table.period {
         table.period + table.rows.iter().map(|row| row.d).max().unwrap_or(0)
     } else {
         // Some length fails, so the search comes to its end.
@@ -16,7 +17,8 @@ pub fn judge(bytes: &[u8]) -> Result<Option<(u64, u64)>, Refused> {
     };
     for length in 1..=last {
         let asked: u64 = table.rows.iter().map(|row| row_demand(row, length)).sum();
-        let demand = taken_ticks(&table.timer, length) + asked;
+        let served: u64 = table.servers.iter().map(|server| server_demand(server, length)).sum();
+        let demand = taken_ticks(&table.timer, length) + asked + served;
         if demand > length {
             return Ok(Some((length, demand)));
         }
@@ -27,6 +29,10 @@ pub fn judge(bytes: &[u8]) -> Result<Option<(u64, u64)>, Refused> {
 /// Returns how many ticks the timer takes in a length from clock 0. No other window of this length has more of them.
 fn taken_ticks(timer: &Timer, length: u64) -> u64 {
     length / timer.p * timer.s + timer.s.min(length % timer.p)
+}
+
+fn server_demand(server: &Server, length: u64) -> u64 {
+    server.a * length / server.b
 }
 
 fn row_demand(row: &Row, length: u64) -> u64 {

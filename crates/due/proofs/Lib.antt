@@ -3,3 +3,4 @@ pub mod Keeping
 pub mod NewestKept
 pub mod Answers
 pub mod DueAnswers
+pub mod OddJobs

@@ -1,6 +1,10 @@
-// The due times of a row: those that are kept, the due time of a release, and keeping one more. No run is needed. (docs/RULES.md, section 4.)
+// The due times of a row: those that are kept, the due time of a release, and keeping one more; and the due time of a server's job. No run is needed.
+// (docs/RULES.md, section 4.)
+mod servers;
+
 use kinds::Refusal;
 use kinds::Tick;
+pub use servers::odd_due;
 use table::Row;
 ghost use mathlib.Core.Path.{_≡_};
 ghost use Prim.Native.Nat.{min};

@@ -1,11 +1,10 @@
 -- What one record of a script does to a play: the first test that the record does not pass stops it, or the record's job is accepted. (docs/RULES.md, sections
 -- 8.2 and 8.5.)
-use Prim.Native.Nat.{ℕ, _+_, _-_, _<_}
+use Prim.Native.Nat.{ℕ, _+_, _-_}
 use mathlib.Core.Path.{_≡_, refl, sym, ap, ap₂, subst, _∙_}
-use mathlib.Core.Logic.{_⊎_}
 use mathlib.Core.List.{List}
 use native.Mathlib.Omega.{arith}
-use lib.ListN.{length, getD, length-map, length-take}
+use lib.ListN.{length, length-append, length-map, length-replicate}
 use Rattle.kinds.specs.Numbering.{refusalNumber}
 use Rattle.kinds.specs.declared.Refusal.{Refusal}
 use Rattle.kinds.specs.declared.Refusal.the-variants.{ScriptMisspelled}
@@ -19,11 +18,10 @@ use Rattle.numbers.specs.Answers.{numberSays}
 use Rattle.numbers.proofs.Answers.{numbers-said-apart}
 use Rattle.table.specs.declared.Table.{Table}
 use Rattle.table.specs.Tables.{rowsOf}
-use Rattle.table.specs.Costs.{costLimits}
-use Rattle.table.proofs.CostLimits.{limit-is-its-c}
+use Rattle.table.specs.Limits.{maxC}
+use Rattle.table.specs.Costs.{csOf, costLimits}
 use Rattle.run.specs.declared.Released.{Released}
 use Rattle.run.specs.declared.Released.the-variants as release
-use Rattle.run.specs.Runs.{costLimit}
 use Rattle.run.specs.Release.{released}
 use Rattle.run.specs.ManyTicks.{ticks}
 use Rattle.run.specs.Answers.{refused, releaseSays}
@@ -40,18 +38,14 @@ use Rattle.records.specs.PassedTests.{NumbersRefused}
 use Rattle.records.proofs.Tests.{TestedSo, tests-mean, passed-ready, refused-so}
 use Rattle.play.specs.Play.{Progress, Step, goes-on, stops, afterRelease, afterTests, stepped}
 use Rattle.play.specs.StoppingLaws.{RecordGoesOn, RecordStops}
-use Rattle.play.specs.Refusals.{GapPassed, RowPassed, CostPassed, Unreadable, RecordRefused, RecordTaken}
+use Rattle.play.specs.Refusals.{inUse, GapPassed, RowPassed, CostPassed, Unreadable, RecordRefused, RecordTaken}
 use Rattle.play.specs.Refusals.{no-gap, too-late, no-row-number, no-such-row, no-cost, cost-out-of-range, release-refused}
 
--- ---- the rows of a table by their limits
+-- ---- the row numbers of a table by their limits
 
--- There is one limit for each row in use.
-limits-of-rows : (t : Table) → length (costLimits t) ≡ length (rowsOf t)
-limits-of-rows t = length-map (rowsOf t) _
-
--- The limit of a row in use is the most that a job of the row may cost.
-limit-of-row : (t : Table) (row : ℕ) → row < length (rowsOf t) → getD (costLimits t) row 0 ≡ costLimit t row
-limit-of-row t row h = limit-is-its-c t row (omega (arith, length-take (t .count) (t .rows)))
+-- There is one limit for each row number in use.
+pub limits-in-use : (t : Table) → length (costLimits t) ≡ inUse t
+limits-in-use t = length-append (csOf (rowsOf t)) _ ∙ ap₂ _+_ (length-map (rowsOf t) _) (length-replicate (t .serving) maxC)
 
 -- ---- numbers of a script
 
@@ -73,7 +67,7 @@ pub same-refusal : (r q : RefusedAt) → refusalNumber (r .refusal) ≡ refusalN
 same-refusal r q e f = ap₂ (λ kind place. record { refusal = kind; place = place }) (numbers-differ (r .refusal) (q .refusal) e) f
 
 module _ (s : List ℕ) (at : ℕ) (p : Progress) where
-  -- `its` are the record's numbers, `time` is the time reached, and `limits` has the most that a job of each row may cost.
+  -- `its` are the record's numbers, `time` is the time reached, and `limits` has the most that a job of each row number may cost.
   abbrev its : Numbers
   its = numbersAt s at
 
@@ -110,7 +104,7 @@ module _ (s : List ℕ) (at : ℕ) (p : Progress) where
   row-passed {gap} {row} f = record {
     gap-passed = gap-passed (f .gap-fits);
     read = number-read s (gap .next) row (row-read (f .gap-fits .gap-read) (f .row-read));
-    in-use = omega (arith, f .in-use, limits-of-rows table);
+    in-use = omega (arith, f .in-use, limits-in-use table);
   }
 
   row-fits : {gap row : Number} → RowPassed s at p gap row → RowFits limits time its gap row
@@ -119,7 +113,7 @@ module _ (s : List ℕ) (at : ℕ) (p : Progress) where
       record {
         gap-fits = g;
         row-read = row-there (g .gap-read) .1 ∙ number-stands s (gap .next) (q .read);
-        in-use = omega (arith, q .in-use, limits-of-rows table);
+        in-use = omega (arith, q .in-use, limits-in-use table);
       }
 
   -- The cost that the tests were given is the script's number right after the row number.
@@ -140,7 +134,7 @@ module _ (s : List ℕ) (at : ℕ) (p : Progress) where
         row-passed = q;
         read = number-read s (w .row .next) (w .cost) (cost-read (w .row-fits) (w .cost-read));
         some-cost = w .some-cost;
-        allowed = rw (limit-of-row table (w .row .value) (q .in-use)) at (w .allowed);
+        allowed = w .allowed;
       }
 
   -- The release that a record asks for that passes its tests.
@@ -157,7 +151,7 @@ module _ (s : List ℕ) (at : ℕ) (p : Progress) where
         row-fits = fits;
         cost-read = cost-stands fits (c .read);
         some-cost = c .some-cost;
-        allowed = rw (limit-of-row table (row .value) (c .row-passed .in-use)) (c .allowed);
+        allowed = c .allowed;
         asks-for = refl;
       })
       -- Where a test refuses the record's numbers, the rules of a record refuse it.
@@ -171,7 +165,7 @@ module _ (s : List ℕ) (at : ℕ) (p : Progress) where
       rw (u .1) (no-row-number gap g (u .0))
   numbers-refused (NumbersRefused.no-such-row gap row f e unused) =
       rw (row-there (f .gap-read) .0)
-      (no-such-row gap row (gap-passed f) (number-read s (gap .next) row (row-read (f .gap-read) e)) (omega (arith, limits-of-rows table)))
+      (no-such-row gap row (gap-passed f) (number-read s (gap .next) row (row-read (f .gap-read) e)) (omega (arith, limits-in-use table)))
   numbers-refused (NumbersRefused.no-cost gap row f r e) =
       let q = row-passed f in
       let g = f .gap-fits .gap-read in
@@ -180,9 +174,8 @@ module _ (s : List ℕ) (at : ℕ) (p : Progress) where
   numbers-refused (NumbersRefused.cost-out-of-range gap row cost f e out) =
       let q = row-passed f in
       let g = f .gap-fits .gap-read in
-      let above : (cost .value < 1) ⊎ (costLimit table (row .value) < cost .value) = rw (limit-of-row table (row .value) (q .in-use)) at out in
       rw (cost-there g (row-read g (f .row-read)) .0)
-      (cost-out-of-range gap row cost q (number-read s (row .next) cost (cost-read f e)) above)
+      (cost-out-of-range gap row cost q (number-read s (row .next) cost (cost-read f e)) out)
       -- Where a test refuses the record's numbers, the play stops.
 
   refused-stops : {k place : ℕ} → NumbersRefused limits time its k place
@@ -263,7 +256,7 @@ module _ (s : List ℕ) (at : ℕ) (p : Progress) where
   stops-where (no-such-row gap row g e unused) =
       let f = gap-fits g in
       let found = refused-stops
-      (NumbersRefused.no-such-row gap row f (row-there (f .gap-read) .1 ∙ number-stands s (gap .next) e) (omega (arith, limits-of-rows table))) in
+      (NumbersRefused.no-such-row gap row f (row-there (f .gap-read) .1 ∙ number-stands s (gap .next) e) (omega (arith, limits-in-use table))) in
       (found .0, found .1, found .2, found .3 ∙ row-there (f .gap-read) .0)
   stops-where (no-cost gap row q none) =
       let f = row-fits q in
@@ -274,8 +267,7 @@ module _ (s : List ℕ) (at : ℕ) (p : Progress) where
   stops-where (cost-out-of-range gap row cost q e out) =
       let f = row-fits q in
       let g = f .gap-fits .gap-read in
-      let above : (cost .value < 1) ⊎ (getD limits (row .value) 0 < cost .value) = rw (limit-of-row table (row .value) (q .in-use)) out in
-      let found = refused-stops (NumbersRefused.cost-out-of-range gap row cost f (cost-stands f e) above) in
+      let found = refused-stops (NumbersRefused.cost-out-of-range gap row cost f (cost-stands f e) out) in
       (found .0, found .1, found .2, found .3 ∙ cost-there g (row-read g (f .row-read)) .0)
   stops-where (release-refused gap row cost q number e) =
       let r = said-refused (said gap row cost) e in

@@ -93,7 +93,7 @@ module _ (run : Run) (good : Good run) where
         let known = facts run good in
         record {
           serial = omega (arith, known .serials, known .few-pending);
-          row = omega (arith, known .few-rows);
+          row = omega (arith, known .few-rows, known .few-servers);
           release = omega arith;
           due = s .due-in-time;
           finish = omega arith;
@@ -132,6 +132,9 @@ module _ (run : Run) (good : Good run) where
     tick-kept : ticked run .run .kept ≡ run .kept
     tick-kept = ap (λ (r : Run). r .kept) tick-touches
 
+    tick-last : ticked run .run .last ≡ run .last
+    tick-last = ap (λ (r : Run). r .last) tick-touches
+
 -- ---- many ticks
 
 -- If every tick of a sound run with its clock below 2^40 keeps a property, many ticks keep it.
@@ -155,19 +158,20 @@ module _ (P : SoFar → Type 0) (one-more : (s : SoFar) → Good (s .run) → s 
 pub each-behind : {P : Finish → Type 0} (fs gs : List Finish) → Each P fs → Each P gs → Each P (fs ++ gs)
 each-behind fs gs a b f m = ⊎-elim (a f) (b f) (List·Memᴰ·append-cases fs m)
 
--- What ticks keep: the run is still sound, with the same table, next serial and kept due times. Every job that was pending is still pending or has finished.
--- The numbers of all finished jobs have spellings.
+-- What ticks keep: the run is still sound, with the same table, next serial, kept due times and last due times. Every job that was pending is still pending or
+-- has finished. The numbers of all finished jobs have spellings.
 pub record TicksFrom (s t : SoFar) : Type 0 where
   pub good : Good (t .run)
   pub same-table : t .run .table ≡ s .run .table
   pub same-next : t .run .next ≡ s .run .next
   pub same-kept : t .run .kept ≡ s .run .kept
+  pub same-last : t .run .last ≡ s .run .last
   pub conserved : length (t .finishes) + t .run .pending .count ≡ length (s .finishes) + s .run .pending .count
   pub in-range : EachInRange (s .finishes) → EachInRange (t .finishes)
 
 module _ (s : SoFar) where
   pub no-ticks : Good (s .run) → TicksFrom s s
-  no-ticks good = record { good = good; same-table = refl; same-next = refl; same-kept = refl; conserved = refl; in-range = λ r. r }
+  no-ticks good = record { good = good; same-table = refl; same-next = refl; same-kept = refl; same-last = refl; conserved = refl; in-range = λ r. r }
 
   one-tick-more : (t : SoFar) → Good (t .run) → t .run .clock .0 < maxTime → TicksFrom s t → TicksFrom s (oneMore t)
   one-tick-more t good in-time before = record {
@@ -175,6 +179,7 @@ module _ (s : SoFar) where
     same-table = tick-table (t .run) good in-time ∙ before .same-table;
     same-next = tick-next (t .run) good in-time ∙ before .same-next;
     same-kept = tick-kept (t .run) good in-time ∙ before .same-kept;
+    same-last = tick-last (t .run) good in-time ∙ before .same-last;
     conserved = omega (arith, tick-conserves (t .run) good in-time, before .conserved, length-append (t .finishes) (finishedBy (t .run)));
     in-range = λ r. each-behind (t .finishes) _ (before .in-range r) (finished-in-range (t .run) good in-time);
   }

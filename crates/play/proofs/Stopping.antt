@@ -16,33 +16,39 @@ use Rattle.numbers.specs.SpelledNumbers.{Bytes}
 use Rattle.numbers.specs.declared.Number.{Number}
 use Rattle.theory.proofs.Cases.{by-lt, by-eq, by-test}
 use Rattle.theory.specs.DueTimes.{dueTime}
+use Rattle.theory.specs.Servers.{serverDue}
 use Rattle.table.specs.declared.Row.{Row}
+use Rattle.table.specs.declared.Server.{Server}
 use Rattle.table.specs.declared.TableAnswer.{TableAnswer}
 use Rattle.table.specs.declared.TableAnswer.the-variants as answer
 use Rattle.table.specs.declared.CostAnswer.{CostAnswer}
-use Rattle.table.specs.Rows.{rowInRange}
+use Rattle.table.specs.Limits.{maxC}
+use Rattle.table.specs.Rows.{fromOneTo, rowInRange}
+use Rattle.table.specs.Servers.{serverInRange}
 use Rattle.table.specs.Tables.{tableRead}
 use Rattle.table.specs.Answers.{tableSays}
 use Rattle.table.proofs.Answers.{tables-said-apart}
 use Rattle.table.specs.Costs.{costLimits}
 use Rattle.table.proofs.Refusals.{refused-as-a-table}
-use Rattle.table.proofs.CostLimits.{CostTested, cost-tested}
+use Rattle.table.proofs.CostLimits.{CostTested, cost-tested, one-limit-for-each}
 use Rattle.due.specs.declared.Due.{Due}
 use Rattle.due.specs.declared.Due.the-variants as due
 use Rattle.due.specs.declared.Kept.{Kept}
-use Rattle.due.specs.Kept.{dueOf, earlier}
+use Rattle.due.specs.Kept.{dueOf, earlier, notTooLate}
+use Rattle.due.specs.OddJobs.{oddDueOf}
 use Rattle.jobs.specs.Places.{maxPlaces}
 use Rattle.run.specs.declared.Run.{Run}
 use Rattle.run.specs.declared.Released.{Released}
 use Rattle.run.specs.declared.Released.the-variants as release
-use Rattle.run.specs.Runs.{freshRun, rowAt, keptOf}
+use Rattle.run.specs.Runs.{freshRun}
 use Rattle.run.specs.Sound.{soundOf}
-use Rattle.run.specs.Release.{atDue, atCost, released}
+use Rattle.run.specs.Release.{atDue, dueNext, atCost, released}
 use Rattle.run.specs.ManyTicks.{ticks}
 use Rattle.run.specs.Answers.{ReleaseSays, releaseSays}
-use Rattle.run.proofs.Ticking.{Good}
+use Rattle.run.proofs.Ticking.{Good, facts}
 use Rattle.run.proofs.ManyTicks.{ticks-keep-good}
-use Rattle.run.proofs.Release.{release-keeps-sound}
+use Rattle.run.proofs.Sound.{limit-at}
+use Rattle.run.proofs.Release.{due-of-row, due-of-server, release-keeps-sound}
 use Rattle.run.proofs.Fresh.{started-is-sound}
 use Rattle.script.specs.declared.RecordAt.{RecordAt}
 use Rattle.script.specs.declared.RecordRead.the-variants as read
@@ -52,11 +58,11 @@ use Rattle.script.proofs.Scripts.{record-is-spelled}
 use Rattle.records.specs.Numbers.{numbersAt}
 use Rattle.play.specs.Play.{Progress, begun, Step, goes-on, stops, stepped}
 use Rattle.play.specs.Play.{Played, whole, stopped, finalTicks, andThen, playedFrom, played}
-use Rattle.play.specs.StoppingLaws.{StoppedBy, StoppedMeans, WholeMeans}
+use Rattle.play.specs.StoppingLaws.{TestsAsAtARelease, StoppedBy, StoppedMeans, WholeMeans}
 use Rattle.play.specs.Refusals.{CanStop, CostPassed, RecordRefused}
 use Rattle.play.specs.Refusals.{ComesTo, begins, goes-further, atLast, leftAtLast, StoppedFor, the-table, a-record, the-clock}
 use Rattle.play.specs.Refusals.{no-gap, too-late, no-row-number, no-such-row, no-cost, cost-out-of-range, release-refused}
-use Rattle.play.proofs.Refusing.{said-refused, same-refusal, record-stops, record-goes-on}
+use Rattle.play.proofs.Refusing.{limits-in-use, said-refused, same-refusal, record-stops, record-goes-on}
 
 -- ---- what a play is stopped for
 
@@ -205,12 +211,31 @@ abbrev ReleaseStops : Released → Type 0
 ReleaseStops (release.Accepted a) = Unit {0}
 ReleaseStops (release.Refused r) = TwoToTen r
 
--- A due time that is refused is refused with 2 to 10.
-due-stops : (k : Kept) (r : Row) (t cost : ℕ) → DueStops (dueOf k r t cost)
+-- A due time that is too late is refused with 9.
+late-stops : (at : ℕ) → DueStops (notTooLate at)
+late-stops at = by-test (leb at maxTime) (λ y. rw y tt) (λ no. rw no (omega arith, omega arith))
+
+-- A row's due time that is refused is refused with 2 to 10.
+row-due-stops : (k : Kept) (r : Row) (t cost : ℕ) → DueStops (dueOf k r t cost)
 unfolding dueOf
-due-stops k r t cost = by-test (rowInRange r)
-    (λ y. rw y (by-test (leb (dueTime (r .x) (r .y) (r .d) (earlier k) t) maxTime) (λ y₂. rw y₂ tt) (λ no. rw no (omega arith, omega arith))))
+row-due-stops k r t cost = by-test (rowInRange r)
+    (λ y. rw y (late-stops (dueTime (r .x) (r .y) (r .d) (earlier k) t)))
     (λ no. rw no (omega arith, omega arith))
+
+-- A server's due time that is refused is refused with 2 to 10.
+odd-due-stops : (v : Server) (last t cost : ℕ) → DueStops (oddDueOf v last t cost)
+unfolding oddDueOf
+odd-due-stops v last t cost = by-test (serverInRange v)
+    (λ y. rw y (by-test (fromOneTo maxC cost)
+    (λ y₂. rw y₂ (late-stops (serverDue (v .a) (v .b) last t cost)))
+    (λ no. rw no (omega arith, omega arith))))
+    (λ no. rw no (omega arith, omega arith))
+
+-- A due time that is refused is refused with 2 to 10, for rows and servers alike.
+due-stops : (run : Run) (row cost : ℕ) → DueStops (dueNext run row cost)
+due-stops run row cost = by-lt row (run .table .count)
+    (λ h. subst DueStops (sym (due-of-row run row cost h)) (row-due-stops _ _ _ _))
+    (λ h. subst DueStops (sym (due-of-server run row cost h)) (odd-due-stops _ _ _ _))
 
 release-stops : (run : Run) (row cost : ℕ) → soundOf run ≡ true → ReleaseStops (released run row cost .answer)
 unfolding released
@@ -224,7 +249,7 @@ release-stops run row cost sound = rw sound (by-cost _ (cost-tested (costLimits 
     by-cost a (CostTested.not-in-use h) = (omega arith, omega arith)
     by-cost a (CostTested.out-of-range h o) = (omega arith, omega arith)
     by-cost a (CostTested.allowed h l m) = by-test (ltb (run .pending .count) maxPlaces)
-        (λ room. rw room (by-due (dueOf (keptOf run row) (rowAt (run .table) row) (run .clock .0) cost) (due-stops _ _ _ _)))
+        (λ room. rw room (by-due (dueNext run row cost) (due-stops run row cost)))
         (λ full. rw full (omega arith, omega arith))
 
 -- The run of a play is sound at every place that the play comes to.
@@ -234,6 +259,15 @@ comes-sound t s at p table (goes-further {at = from} {p = before} c more q next 
     let w = record-goes-on s from before q next .0 e in
     let sound = ticks-keep-good (w .gap .value) (before .so-far) (comes-sound t s from before table c) in
     rw (w .run-then) (release-keeps-sound (ticks (w .gap .value) (before .so-far) .run) (w .row .value) (w .cost .value) (sound .1) (sound .0))
+
+pub tests-as-at-a-release : TestsAsAtARelease
+tests-as-at-a-release t s at p table c =
+    let run = p .so-far .run in
+    let good = comes-sound t s at p table c in
+    let few = facts run good .few-rows in
+    let places = good .1 .all-rows in
+    let many = sym (limits-in-use (run .table)) ∙ one-limit-for-each (run .table) few places in
+    (many, λ row h. limit-at (run .table) few places row (omega (arith, many)))
 
 -- A release at a record's time that is refused is refused with 2 to 10.
 pub release-two-to-ten : (p : Progress) (gap row cost number : ℕ) → Good (p .so-far .run)

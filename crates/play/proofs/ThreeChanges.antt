@@ -1,7 +1,7 @@
 -- A play as it is seen from outside, and the three moves that change it: a tick that finishes no job, a tick that finishes one, and an accepted release. What
 -- all moves keep, a whole play keeps. (docs/RULES.md, sections 6.6 to 6.17 and 8.1 to 8.7.)
-use Prim.Native.Nat.{ℕ, _+_, _≤_, _<_}
-use mathlib.Core.Path.{_≡_, refl}
+use Prim.Native.Nat.{ℕ, _+_, _-_, _≤_, _<_}
+use mathlib.Core.Path.{_≡_, refl, sym, _∙_}
 use mathlib.Core.Bool.{true, false}
 use mathlib.Core.List.{List, [], _∷_, _++_, append-nil}
 use native.Mathlib.Nat.{add-zero, le-refl, not-suc-le-zero}
@@ -16,10 +16,12 @@ use Rattle.kinds.proofs.Apart.{impossible}
 use Rattle.numbers.specs.SpelledNumbers.{Bytes}
 use Rattle.theory.proofs.Cases.{by-lt, by-test}
 use Rattle.theory.proofs.DueTimes.{due-time-at-least-d}
+use Rattle.theory.proofs.Servers.{odd-due-after-release}
 use Rattle.table.specs.declared.Table.{Table}
 use Rattle.due.specs.declared.Due.the-variants as due
-use Rattle.due.specs.Kept.{earlier, dueOf}
+use Rattle.due.specs.Kept.{earlier}
 use Rattle.due.proofs.NewestKept.{due-given}
+use Rattle.due.proofs.OddJobs.{odd-due-given}
 use Rattle.jobs.specs.declared.Job.{Job}
 use Rattle.jobs.specs.Places.{noJob, jobsOf, without}
 use Rattle.jobs.specs.Choice.{firstPlace}
@@ -31,12 +33,12 @@ use Rattle.run.specs.declared.Run.{Run}
 use Rattle.run.specs.declared.Accepted.{Accepted}
 use Rattle.run.specs.declared.Released.the-variants as release
 use Rattle.run.specs.declared.ReleaseStep.{ReleaseStep}
-use Rattle.run.specs.Runs.{rowAt, keptOf}
+use Rattle.run.specs.Runs.{rowAt, serverAt, keptOf, lastOf}
 use Rattle.run.specs.Sound.{SoundJob}
-use Rattle.run.specs.Release.{newJob, withJob, released}
+use Rattle.run.specs.Release.{newJob, withJob, dueNext, released}
 use Rattle.run.specs.Ticking.{isTaken}
 use Rattle.run.proofs.Ticking.{Good, facts, counted, tick-taken, tick-idle, tick-busy}
-use Rattle.run.proofs.Release.{Passed, each-release}
+use Rattle.run.proofs.Release.{Passed, due-of-row, due-of-server, each-release}
 use Rattle.play.specs.Play.{Progress, whole, played}
 use Rattle.play.proofs.KeptThroughout.{tickMore, releaseMore, Keeps, kept-through}
 
@@ -183,15 +185,29 @@ module _ (p : Progress) (row cost : ℕ) (a : Accepted) (good : Good (p .so-far 
     accepted = p .accepted ++ (newJob before row cost (a .due) ∷ []);
   })
 
-  module _ (t : Tick) (passed : Passed before row cost)
-      (given : dueOf (keptOf before row) (rowAt (before .table) row) (before .clock .0) cost ≡ due.At t) where
-    -- d is at least 1.
-    due-later : before .clock .0 < t .0
-    due-later =
+  module _ (t : Tick) (passed : Passed before row cost) (given : dueNext before row cost ≡ due.At t) where
+    -- A row's d is at least 1.
+    row-due-later : row < before .table .count → before .clock .0 < t .0
+    row-due-later h =
         let its = rowAt (before .table) row in
-        let rule = due-given (keptOf before row) its (before .clock .0) cost t .0 given in
+        let rule = due-given (keptOf before row) its (before .clock .0) cost t .0 (sym (due-of-row before row cost h) ∙ given) in
         let least = due-time-at-least-d (its .x) (its .y) (its .d) (earlier (keptOf before row)) (before .clock .0) in
-        omega (arith, least, rule .by-rule, facts before good .rows row (passed .in-use) .some-d)
+        omega (arith, least, rule .by-rule, facts before good .rows row h .some-d)
+
+    -- A server's job costs at least 1, and takes at least one tick.
+    odd-due-later : before .table .count ≤ row → before .clock .0 < t .0
+    odd-due-later h =
+        let its = serverAt (before .table) row in
+        let last = lastOf before row .0 in
+        let rule = odd-due-given its last (before .clock .0) cost t .0 (sym (due-of-server before row cost h) ∙ given) in
+        let fine = facts before good .servers (row - before .table .count) (omega (arith, passed .in-use)) in
+        let later = odd-due-after-release (its .a) (its .b) last (before .clock .0) cost (fine .some-a) (omega (arith, fine .some-a, fine .a-within-b))
+        (passed .some-cost) in
+        omega (arith, later, rule .by-rule)
+
+    -- A job is due after its release.
+    due-later : before .clock .0 < t .0
+    due-later = by-lt row (before .table .count) row-due-later odd-due-later
 
     one-pending-more : jobsOf (withJob before row cost t .pending) ≡ jobsOf (before .pending) ++ (newJob before row cost t ∷ [])
     one-pending-more =

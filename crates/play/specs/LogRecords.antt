@@ -7,7 +7,7 @@ use lib.ListN.{length}
 use Rattle.kinds.specs.Numbering.{maxTime}
 use Rattle.kinds.specs.declared.Finish.{Finish}
 use Rattle.numbers.specs.SpelledNumbers.{Bytes}
-use Rattle.table.specs.Limits.{maxRows}
+use Rattle.table.specs.Limits.{maxSources}
 use Rattle.jobs.specs.declared.Job.{Job}
 use Rattle.jobs.specs.Places.{maxPlaces}
 use Rattle.jobs.specs.Turns.{firstJob}
@@ -28,8 +28,8 @@ pub record RecordOf (j : Job) (f : Finish) : Type 0 where
   pub due : f .due ≡ j .due
   pub after-release : j .release .0 < f .finish .0
 
--- The jobs are those that the records ask for, in their order. Each has its record's row and cost and is released at its record's script time. `time` is the
--- script time of the record before the first. (7.3, 8.2)
+-- The jobs are those that the records ask for, in their order. Each has its record's row number and cost and is released at its record's script time. `time` is
+-- the script time of the record before the first. (7.3, 8.2)
 abbrev pub AskedFor : (time : ℕ) → List Record → List Job → Type 0
 AskedFor time [] [] = Unit {0}
 AskedFor time [] (j ∷ js) = ⊥
@@ -45,11 +45,11 @@ pub record GotItsLastUnit (run : Run) (f : Finish) : Type 0 where
   pub its-own : RecordOf (firstJob (run .pending)) f
   pub at-the-clock : f .finish .0 ≡ ticked run .run .clock .0
 
--- The numbers of a log are small. A row number is below the limit of rows (3.1), a time is at most 2^40, and a serial is below the sum of 2^40 and the limit of
--- pending jobs (6.2).
+-- The numbers of a log are small. A row number is below the sum of the limit of rows (3.1) and the limit of servers (3.18), a time is at most 2^40, and a
+-- serial is below the sum of 2^40 and the limit of pending jobs (6.2).
 pub record SmallNumbers (f : Finish) : Type 0 where
   pub serial : f .serial .0 < maxTime + maxPlaces
-  pub row : f .row .0 < maxRows
+  pub row : f .row .0 < maxSources
   pub release : f .release .0 ≤ maxTime
   pub due : f .due .0 ≤ maxTime
   pub finish : f .finish .0 ≤ maxTime

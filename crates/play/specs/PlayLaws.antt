@@ -53,8 +53,8 @@ FinishIsTheLastUnit = (run : Run) (f : Finish) → Whole run → soundOf run ≡
 abbrev pub LogReadsBack : Type 0
 LogReadsBack = OfWhole λ t s p. EachInRange (p .so-far .finishes) × ReadsAs (spelledLog (p .so-far .finishes)) 0 (p .so-far .finishes)
 
--- In every record of the log the serial is below 2^40 plus the number of places, the row number is below the limit of rows, and the times are at most 2^40.
--- (10.6)
+-- In every record of the log the serial is below 2^40 plus the number of places, the row number is below the limit of rows plus the limit of servers, and the
+-- times are at most 2^40. (10.6)
 abbrev pub LogHoldsSmallNumbers : Type 0
 LogHoldsSmallNumbers = OfWhole λ t s p. (i : ℕ) → i < length (p .so-far .finishes) → SmallNumbers (getD (p .so-far .finishes) i noFinish)
 

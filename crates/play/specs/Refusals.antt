@@ -3,7 +3,7 @@ use Prim.Native.Nat.{ℕ, _+_, _-_, _^_, _≤_, _<_}
 use mathlib.Core.Path.{_≡_}
 use mathlib.Core.Logic.{_⊎_, _≢_}
 use mathlib.Core.List.{List, [], _∷_, _++_}
-use lib.ListN.{length}
+use lib.ListN.{length, getD}
 use Rattle.kinds.specs.Numbering.{values, refusalNumber, refusedWith}
 use Rattle.kinds.specs.declared.Refusal.{Refusal}
 use Rattle.kinds.specs.declared.RefusedAt.{RefusedAt}
@@ -11,9 +11,11 @@ use Rattle.numbers.specs.declared.Number.{Number}
 use Rattle.numbers.specs.declared.NumberRead.the-variants as number
 use Rattle.numbers.specs.Reading.{readAt}
 use Rattle.numbers.specs.Answers.{numberSays}
+use Rattle.table.specs.declared.Table.{Table}
+use Rattle.table.specs.Costs.{costLimits}
 use Rattle.table.specs.Tables.{tableRead, rowsOf}
 use Rattle.table.specs.Answers.{tableSays}
-use Rattle.run.specs.Runs.{freshRun, costLimit}
+use Rattle.run.specs.Runs.{freshRun}
 use Rattle.run.specs.Release.{newJob, released}
 use Rattle.run.specs.ManyTicks.{ticks, ticksWhilePending}
 use Rattle.run.specs.Answers.{accepted, refused, releaseSays}
@@ -25,6 +27,14 @@ use Rattle.play.specs.Play.{Progress, begun, goes-on, stepped}
 abbrev pub CanStop : Refusal → Type 0
 CanStop r = (refusalNumber r ≤ 10) ⊎ ((refusalNumber r ≡ 14) ⊎ (refusalNumber r ≡ 16))
 
+-- How many row numbers of a table are in use: as many as it has rows and servers in use. First come the rows, and then the servers. (3.14)
+abbrev pub inUse : Table → ℕ
+inUse t = length (rowsOf t) + t .serving
+
+-- The most that a job of a row number in use may cost, which is the row's c, and 4,096 for a server. (1.6, 3.20)
+abbrev pub mostOf : Table → (row : ℕ) → ℕ
+mostOf t row = getD (costLimits t) row 0
+
 -- The gap of the record at a place is read, and the record's script time is at most 2^40. (8.5, steps 1 and 2)
 pub record GapPassed (s : List ℕ) (at : ℕ) (p : Progress) (gap : Number) : Type 0 where
   pub read : readAt s at ≡ number.Number gap
@@ -34,14 +44,15 @@ pub record GapPassed (s : List ℕ) (at : ℕ) (p : Progress) (gap : Number) : T
 pub record RowPassed (s : List ℕ) (at : ℕ) (p : Progress) (gap row : Number) : Type 0 where
   pub gap-passed : GapPassed s at p gap
   pub read : readAt s (gap .next) ≡ number.Number row
-  pub in-use : row .value < length (rowsOf (p .so-far .run .table))
+  pub in-use : row .value < inUse (p .so-far .run .table)
 
--- The gap and the row number of the record at a place passed their tests, and its cost is read and is from 1 to the row's c. (8.5, steps 1 to 6)
+-- The gap and the row number of the record at a place passed their tests, and its cost is read and is from 1 to the row's c, for a server to 4,096. (8.5,
+-- steps 1 to 6)
 pub record CostPassed (s : List ℕ) (at : ℕ) (p : Progress) (gap row cost : Number) : Type 0 where
   pub row-passed : RowPassed s at p gap row
   pub read : readAt s (row .next) ≡ number.Number cost
   pub some-cost : 1 ≤ cost .value
-  pub allowed : cost .value ≤ costLimit (p .so-far .run .table) (row .value)
+  pub allowed : cost .value ≤ mostOf (p .so-far .run .table) (row .value)
 
 -- No number can be read that starts at `at`: the number reader refuses it with 1, at its bad byte, which is at `place`. (2.7)
 abbrev pub Unreadable : List ℕ → (at place : ℕ) → Type 0
@@ -52,11 +63,11 @@ pub data RecordRefused (s : List ℕ) (at : ℕ) (p : Progress) : (number place 
   no-gap : {place : ℕ} → Unreadable s at place → RecordRefused s at p 14 place
   too-late : (gap : Number) → readAt s at ≡ number.Number gap → 2 ^ 40 < p .so-far .run .clock .0 + gap .value → RecordRefused s at p 10 at
   no-row-number : (gap : Number) → GapPassed s at p gap → {place : ℕ} → Unreadable s (gap .next) place → RecordRefused s at p 14 place
-  no-such-row : (gap row : Number) → GapPassed s at p gap → readAt s (gap .next) ≡ number.Number row → length (rowsOf (p .so-far .run .table)) ≤ row .value
+  no-such-row : (gap row : Number) → GapPassed s at p gap → readAt s (gap .next) ≡ number.Number row → inUse (p .so-far .run .table) ≤ row .value
       → RecordRefused s at p 6 (gap .next)
   no-cost : (gap row : Number) → RowPassed s at p gap row → {place : ℕ} → Unreadable s (row .next) place → RecordRefused s at p 14 place
   cost-out-of-range : (gap row cost : Number) → RowPassed s at p gap row → readAt s (row .next) ≡ number.Number cost
-      → (cost .value < 1) ⊎ (costLimit (p .so-far .run .table) (row .value) < cost .value) → RecordRefused s at p 7 (row .next)
+      → (cost .value < 1) ⊎ (mostOf (p .so-far .run .table) (row .value) < cost .value) → RecordRefused s at p 7 (row .next)
   -- The release at the record's script time is refused, at the record's start. (8.5, steps 7 and 8)
   release-refused : (gap row cost : Number) → CostPassed s at p gap row cost → (number : ℕ)
       → releaseSays (released (ticks (gap .value) (p .so-far) .run) (row .value) (cost .value) .answer) ≡ refused number 0 → RecordRefused s at p number at

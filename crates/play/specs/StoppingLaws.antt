@@ -1,5 +1,5 @@
 -- The laws of what stops a play and how it comes to its end: each refusal comes exactly where its rule says. (docs/RULES.md, sections 8.1 to 8.7, 8.12 and 10.)
-use Prim.Native.Nat.{ℕ, _-_}
+use Prim.Native.Nat.{ℕ, _+_, _-_, _<_}
 use mathlib.Core.Path.{_≡_}
 use mathlib.Core.Logic.{_↔_}
 use mathlib.Core.List.{List}
@@ -10,9 +10,10 @@ use Rattle.numbers.specs.SpelledNumbers.{Bytes}
 use Rattle.numbers.specs.BadByte.{FirstBadByte}
 use Rattle.table.specs.Tables.{tableRead}
 use Rattle.table.specs.Answers.{tableSays}
+use Rattle.run.specs.Runs.{costLimit}
 use Rattle.records.specs.Numbers.{numbersAt}
 use Rattle.play.specs.Play.{Progress, goes-on, stops, stepped, whole, stopped, played}
-use Rattle.play.specs.Refusals.{CanStop, RecordRefused, RecordTaken, ComesTo, atLast, leftAtLast, StoppedFor}
+use Rattle.play.specs.Refusals.{CanStop, inUse, mostOf, RecordRefused, RecordTaken, ComesTo, atLast, leftAtLast, StoppedFor}
 
 -- ---- what is proved about records and plays (proofs/Refusing.antt, Stopping.antt and BadBytes.antt)
 
@@ -24,6 +25,13 @@ RecordStops = (s : List ℕ) (at : ℕ) (p : Progress) (r : RefusedAt)
 -- The play goes on after a record exactly where the record passed its tests and its job was accepted. (8.2, 8.5)
 abbrev pub RecordGoesOn : Type 0
 RecordGoesOn = (s : List ℕ) (at : ℕ) (p q : Progress) (next : ℕ) → (stepped p (numbersAt s at) ≡ goes-on q next) ↔ RecordTaken s at p q next
+
+-- At every place that a play comes to, the row numbers in use are those below the sum of the row count and the server count, and the most that a job of one may
+-- cost is what a release allows. So the tests of a record refuse with 6 and 7 exactly what a release refuses so. (3.14, 3.20, 6.8, 8.5)
+abbrev pub TestsAsAtARelease : Type 0
+TestsAsAtARelease = (t s : List ℕ) (at : ℕ) (p : Progress) → Bytes t → ComesTo t s at p
+    → (inUse (p .so-far .run .table) ≡ p .so-far .run .table .count + p .so-far .run .table .serving)
+    × ((row : ℕ) → row < inUse (p .so-far .run .table) → mostOf (p .so-far .run .table) row ≡ costLimit (p .so-far .run .table) row)
 
 -- A play is stopped with a refusal and a place exactly where a rule gives that refusal there and no test before it refuses. (10.1)
 abbrev pub StoppedMeans : Type 0

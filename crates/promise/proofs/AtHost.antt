@@ -186,7 +186,7 @@ module _ {end : ℕ} where
   row-inside (limit.Units most) place then h = h
   row-inside limit.NoSuchRow place then h = refused NoSuchRow place (λ e. absurd (omega arith))
 
-  -- A cost that is 0 or above the row's c is refused with 7 and not with 10.
+  -- A cost that is 0 or above its limit is refused with 7 and not with 10.
   cost-inside : (most : CostLimit) (cost place : ℕ) (then : Tested) → TestedInside end then → TestedInside end (onCost (costAnswer most cost) place then)
   cost-inside (limit.Units most) cost place then h =
       by-test (fromOneTo most cost) (λ allowed. rw allowed h) (λ out. rw out (refused CostOutOfRange place (λ e. absurd (omega arith))))

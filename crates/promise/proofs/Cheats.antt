@@ -10,6 +10,7 @@ use Rattle.theory.specs.DueTimes.{dueTime}
 use Rattle.table.specs.declared.Table.{Table}
 use Rattle.table.specs.declared.TableAnswer.{TableAnswer}
 use Rattle.table.specs.declared.TableAnswer.the-variants as answer
+use Rattle.table.specs.Servers as servers
 use Rattle.table.specs.Tables.{tableRead, readRows}
 use Rattle.table.specs.Period.{firstMultiple, leastCommonMultiple}
 use Rattle.due.specs.Kept.{dueOf, keptWith, keptSound}
@@ -60,14 +61,14 @@ no-blank-witness bytes v judged L units said =
 
 pub not-all-releases-refused : NotAllReleasesRefused
 unfolding
-    runAt released soundOf jobFits jobSound put dueOf keptWith keptSound dueTime readRows leastCommonMultiple firstMultiple reading.spelt spelling.groupsOf
-    flatten
+    runAt released soundOf jobFits jobSound put dueOf keptWith keptSound dueTime readRows servers.readServers leastCommonMultiple firstMultiple reading.spelt
+    spelling.groupsOf flatten
 not-all-releases-refused = refl
 
 pub not-always-idle : NotAlwaysIdle
 unfolding
-    runAt released ticked soundOf jobFits jobSound put takenOut after lateCount goesBefore dueOf keptWith keptSound dueTime readRows leastCommonMultiple
-    firstMultiple reading.spelt spelling.groupsOf flatten
+    runAt released ticked soundOf jobFits jobSound put takenOut after lateCount goesBefore dueOf keptWith keptSound dueTime readRows servers.readServers
+    leastCommonMultiple firstMultiple reading.spelt spelling.groupsOf flatten
 not-always-idle = refl
 
 -- An answer that says accepted is an accepted release.

@@ -21,7 +21,7 @@ use Rattle.table.specs.declared.TableAnswer.{TableAnswer}
 use Rattle.table.specs.declared.TableAnswer.the-variants as answer
 use Rattle.table.specs.Tables.{tableRead}
 use Rattle.table.specs.Answers.{tableSays}
-use Rattle.table.specs.SpelledTables.{WithinLimits, AcceptableRow, spelledRow, spelledTable}
+use Rattle.table.specs.SpelledTables.{WithinLimits, AcceptableRow, spelledRow, spelledServers, spelledTable}
 use Rattle.table.specs.Refusals.{PartStands, HopelessRowIn}
 use Rattle.table.proofs.Each.{Each, each-none, each-cons, each-head, each-tail}
 use Rattle.table.proofs.Spelling.{stands-whole, parted}
@@ -185,9 +185,10 @@ hopeless-is-refused content more good few within r m above =
     let count = spelling (length (content .rows)) in
     let first = spelling (row .x) ++ (spelling (row .y) ++ spelling (row .d)) in
     let front = flatten (map spelledRow (f .before)) in
-    let rest = flatten (map spelledRow (f .after)) ++ more in
+    let servers = spelledServers (content .servers) in
+    let rest = flatten (map spelledRow (f .after)) ++ (servers ++ more) in
     let apart : spelledTable content ++ more ≡ timer ++ ((count ++ (front ++ first)) ++ (spelling (row .c) ++ rest)) =
-    ap (λ l. (spelling (content .s) ++ (spelling (content .p) ++ (count ++ l))) ++ more)
+    ap (λ l. (spelling (content .s) ++ (spelling (content .p) ++ ((count ++ l) ++ servers))) ++ more)
     (ap (λ l. flatten (map spelledRow l)) (f .all) ∙ spelled-around (f .before) row (f .after)) ∙ simp (append-assoc)
     in
     let parts = in-turn (spelledTable content ++ more) timer (count ++ (front ++ first)) (spelling (row .c)) rest apart in (

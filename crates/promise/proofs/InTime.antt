@@ -1,52 +1,56 @@
--- In time: the proof. On a feasible table every length fits. In no window do the accepted jobs ask for more than the rows' own demand, row by row, and in no
--- window does the timer take more ticks than it does in a window of that length that begins at zero. The ticks so far are a trace of the theory in which the
--- earliest due job goes first and no free tick idles while a job waits. So the theory's theorem applies. Beside it stand the clock, which comes to every due
--- time, and the due times, which are all at 2^40 or before. (5.3, 5.4, 6.26)
+-- In time: the proof. On a feasible table every length fits. In no window do the accepted jobs ask for more than the demand of the rows and servers, source by
+-- source, and in no window does the timer take more ticks than it does in a window of that length that begins at zero. The ticks so far are a trace of the
+-- theory in which the earliest due job goes first and no free tick idles while a job waits. So the theory's theorem applies. Beside it stand the clock, which
+-- comes to every due time, and the due times, which are all at 2^40 or before. (5.3, 5.4, 6.26)
 use Prim.Native.Nat.{ℕ, suc, _+_, _≤_, _<_, min}
 use mathlib.Core.Path.{_≡_, refl}
 use mathlib.Core.Logic.{⊎-elim}
 use mathlib.Core.List.{List, [], _∷_, List·Memᴰ, List·Memᴰ·not-nil}
 use native.Mathlib.Omega.{arith}
-use lib.Seq.{getD-take}
+use lib.ListN.{length, getD}
+use lib.Seq.{take-length}
 use Rattle.kinds.specs.Numbering.{maxTime}
 use Rattle.kinds.proofs.Numbering.{never-an-answer}
 use Rattle.numbers.specs.SpelledNumbers.{Bytes}
 use Rattle.theory.specs.Lists.{All}
-use Rattle.theory.specs.Curves.{EveryLengthFits}
+use Rattle.theory.specs.Curves.{EveryLengthFits, sumOver}
 use Rattle.theory.specs.Jobs.{Job, BoundedBy}
 use Rattle.theory.specs.Ticks.{timerTakes, TakenAtMost}
+use Rattle.theory.specs.DueTimes.{dues}
+use Rattle.theory.specs.Servers.{lastDue, ByServer}
 use Rattle.theory.specs.Sources.{own}
 use Rattle.theory.specs.Trace.{ServedOrEnded, served, ended}
-use Rattle.theory.proofs.Lists.{all-imply, all-at, total-zero}
-use Rattle.theory.proofs.Demand.{no-demand-below-d}
+use Rattle.theory.proofs.Cases.{by-lt}
+use Rattle.theory.proofs.Lists.{all-at, total-zero}
 use Rattle.theory.proofs.DueTimes.{due-at-least-d}
 use Rattle.theory.proofs.Timers.{timer-takes-at-most}
 use Rattle.theory.proofs.EarliestDue.{trace-is-in-time as in-time-by-the-theory}
+use Rattle.theory.proofs.Servers.{odd-due-after-release}
 use Rattle.theory.proofs.Sources.{sum-of-sources}
-use Rattle.table.specs.declared.Row.{Row}
 use Rattle.table.specs.declared.Table.{Table}
 use Rattle.table.specs.declared.TableAnswer.{TableAnswer}
 use Rattle.table.specs.declared.TableAnswer.the-variants as answer
-use Rattle.table.specs.Tables.{noRow, rowsOf, tableRead}
-use Rattle.table.proofs.Tables.{rows-used}
+use Rattle.table.specs.Tables.{noRow, tableRead}
 use Rattle.verdict.specs.declared.Verdict.{Verdict}
 use Rattle.verdict.specs.declared.Verdict.the-variants as verdict
-use Rattle.verdict.specs.Demand.{rowDemandOf, rowsDemand, tableDemand}
+use Rattle.verdict.specs.Demand.{tableDemand}
 use Rattle.verdict.specs.Verdict.{RightOfRead, verdictSays}
-use Rattle.verdict.proofs.Rows.{row-within, rows-within}
-use Rattle.due.proofs.NewestKept.{due-given}
+use Rattle.verdict.proofs.Rows.{row-within}
+use Rattle.verdict.proofs.Sums.{first-all}
 use Rattle.run.specs.declared.Run.{Run}
-use Rattle.run.specs.Runs.{rowAt, keptOf}
-use Rattle.run.proofs.Release.{each-release}
+use Rattle.run.specs.Runs.{rowAt, serverAt}
+use Rattle.run.proofs.Release.{each-release, given-in-time}
 use Rattle.run.specs.Answers.{releaseSays, tickSays}
 use Rattle.promise.specs.Traces.{Call, Event, runAt, eventOf, trace, told, clockOf, jobsOfTrace, ticksOf, unitsOf}
 use Rattle.promise.specs.Link.{takenOn}
+use Rattle.promise.specs.Sources.{Source, sourcesOf, sourceAt, sourceDemand}
 use Rattle.promise.specs.InTime.{SaidFeasible, InTime, NeverMore, OneJobASerial, ticksIn, ClockCountsTicks, DueTimesCome}
+use Rattle.promise.proofs.Sources.{sources-are-numbered, demand-over-sources}
 use Rattle.promise.proofs.RunAndTrace.{Bridge}
 use Rattle.promise.proofs.RunsFollow.{bridge}
 use Rattle.promise.proofs.Units.{sound-facts, never-more-units}
 use Rattle.promise.proofs.Ticks.{no-job-by-a-tick, no-tick-by-a-release, each-tick}
-use Rattle.promise.proofs.Share.{own-member, row-share}
+use Rattle.promise.proofs.Share.{own-member, server-good, no-demand-at-zero, source-share}
 
 -- ---- a feasible table
 
@@ -66,19 +70,32 @@ feasible-fits bytes said = right-and-feasible (tableRead bytes .table) (tableRea
 module _ {t : Table} {run : Run} {es : List Event} (b : Bridge t run es) where
   -- ---- what the accepted jobs ask for
 
-  -- In every window the accepted jobs ask for at most the rows' own demand.
-  demand-bounds : BoundedBy (rowsDemand t) (jobsOfTrace es)
-  demand-bounds = sum-of-sources Row rowDemandOf noRow (rowsOf t) (jobsOfTrace es) (rw (rows-used (b .table-in-range)) (b .rows-in-use))
-      (λ row h.
-      let in-use : row < t .count = omega (arith, rows-used (b .table-in-range)) in
-      rw (getD-take (t .count) (t .rows) row noRow in-use) (row-share b row in-use))
+  -- `other` is the source for a row number that is not in use, which is never looked up.
+  abbrev other : Source
+  other = Source.row noRow
 
-  -- In a window of no length the rows have no demand.
-  no-demand-at-zero : rowsDemand t 0 ≡ 0
-  no-demand-at-zero =
-      let limits = rows-within (b .table-in-range) (t .count) (omega arith) in
-      total-zero (λ r. rowDemandOf r 0) (rowsOf t)
-      (all-imply (λ r within. no-demand-below-d (r .x) (r .y) (r .d) (r .c) 0 (within .some-d)) (rowsOf t) limits)
+  -- There are as many sources as row numbers in use.
+  as-many : length (sourcesOf t) ≡ t .count + t .serving
+  as-many = sources-are-numbered t (b .table-in-range) .0
+
+  -- What holds for the source of each row number in use holds for each source by its place.
+  at-each-place : (P : Source → Type 0) (row : ℕ) → (row < t .count + t .serving → P (sourceAt t row)) → row < length (sourcesOf t)
+      → P (getD (sourcesOf t) row other)
+  at-each-place P row h in-use =
+      let inside : row < t .count + t .serving = omega (arith, as-many) in
+      rw (sources-are-numbered t (b .table-in-range) .1 row other inside) (h inside)
+
+  -- In every window the accepted jobs ask for at most the demand of all sources.
+  demand-bounds : BoundedBy (sumOver sourceDemand (sourcesOf t)) (jobsOfTrace es)
+  demand-bounds = sum-of-sources Source sourceDemand other (sourcesOf t) (jobsOfTrace es) (rw as-many (b .rows-in-use))
+      (λ row. at-each-place (λ s. BoundedBy (sourceDemand s) (own row (jobsOfTrace es))) row (source-share b row))
+
+  -- In a window of no length the sources have no demand.
+  none-at-zero : sumOver sourceDemand (sourcesOf t) 0 ≡ 0
+  none-at-zero =
+      let all = first-all other (sourcesOf t) (λ s. sourceDemand s 0 ≡ 0) (length (sourcesOf t)) (omega arith)
+      (λ row. at-each-place (λ s. sourceDemand s 0 ≡ 0) row (no-demand-at-zero (b .table-in-range) row)) in
+      total-zero (λ s. sourceDemand s 0) (sourcesOf t) (rw (take-length (sourcesOf t)) at all)
 
   -- ---- what the timer takes
 
@@ -92,11 +109,11 @@ module _ {t : Table} {run : Run} {es : List Event} (b : Bridge t run es) where
 
   -- Where every length fits, an accepted job that is due has had its cost.
   pub due-had-its-cost : EveryLengthFits (tableDemand t) → (j : Job) → List·Memᴰ j (jobsOfTrace es) → j .due ≤ clockOf es → unitsOf (j .name) es ≡ j .cost
-  unfolding tableDemand
   due-had-its-cost fits j m due =
       let f = b .follows in
-      let all = in-time-by-the-theory (f .events) (f .earliest-due) (f .never-idle) (b .distinct) (rowsDemand t) (timerTakes (t .s) (t .p))
-      demand-bounds taken-at-most no-demand-at-zero fits in
+      let demand = sumOver sourceDemand (sourcesOf t) in
+      let all = in-time-by-the-theory (f .events) (f .earliest-due) (f .never-idle) (b .distinct) demand (timerTakes (t .s) (t .p))
+      demand-bounds taken-at-most none-at-zero (λ L some. rw (← demand-over-sources t L) (fits L some)) in
       by-end (all-at (λ (i : Job). i .due ≤ clockOf es → ServedOrEnded i (ticksOf es) []) all m due)
     where
       by-end : ServedOrEnded j (ticksOf es) [] → unitsOf (j .name) es ≡ j .cost
@@ -130,17 +147,32 @@ dues-in-time bytes (Call.release row cost ∷ calls) =
     each-release run row cost
     (λ step. All (λ j. j .due ≤ maxTime) (jobsOfTrace (Event.release row cost (releaseSays (step .answer)) ∷ trace bytes calls)))
     (λ r. before)
-    (λ due passed given. (due-given (keptOf run row) (rowAt (run .table) row) (run .clock .0) cost due .0 given .in-time, before))
+    (λ due passed given. (given-in-time run row cost due given, before))
 dues-in-time bytes (Call.tick ∷ calls) = rw no-job-by-a-tick (dues-in-time bytes calls)
+
+-- A job of a server that costs something is due after its release.
+odd-due-later : (a b : ℕ) → 1 ≤ a → 1 ≤ b → (js : List Job) → ByServer a b js → All (λ j. 1 ≤ j .cost → suc (j .release) ≤ j .due) js
+unfolding ByServer
+odd-due-later a b some-a some-b [] r = tt
+odd-due-later a b some-a some-b (j ∷ js) r =
+    (λ some. rw (r .0) (odd-due-after-release a b (lastDue (dues js)) (j .release) (j .cost) some-a some-b some), odd-due-later a b some-a some-b js (r .1))
 
 -- Every accepted job is due after its release.
 due-after-release : {t : Table} {run : Run} {es : List Event} → Bridge t run es → (j : Job) → List·Memᴰ j (jobsOfTrace es) → suc (j .release) ≤ j .due
 due-after-release {t = t} {es = es} b j m =
-    let in-use = all-at (λ (i : Job). i .source < t .count) (b .rows-in-use) m in
-    let r = rowAt t (j .source) in
-    let later = all-at (λ i. i .release + r .d ≤ i .due)
-    (due-at-least-d (r .x) (r .y) (r .d) (r .c) (own (j .source) (jobsOfTrace es)) (b .by-rule (j .source) in-use)) (own-member j m) in
-    omega (arith, later, row-within (b .table-in-range) (j .source) in-use .some-d)
+    let row = j .source in
+    let in-use = all-at (λ (i : Job). i .source < t .count + t .serving) (b .rows-in-use) m in
+    let js = own row (jobsOfTrace es) in
+    by-lt row (t .count)
+    (λ of-row.
+    let r = rowAt t row in
+    let later = all-at (λ i. i .release + r .d ≤ i .due) (due-at-least-d (r .x) (r .y) (r .d) (r .c) js (b .by-rule row of-row)) (own-member j m) in
+    omega (arith, later, row-within (b .table-in-range) row of-row .some-d))
+    (λ of-server.
+    let v = serverAt t row in
+    let good = server-good (b .table-in-range) row of-server in-use in
+    let later = odd-due-later (v .a) (v .b) (good .some-a) (omega (arith, good)) js (b .by-server row of-server in-use) in
+    all-at (λ (i : Job). 1 ≤ i .cost → suc (i .release) ≤ i .due) later (own-member j m) (all-at (λ (i : Job). 1 ≤ i .cost) (b .some-cost) m))
 
 -- ---- the promises
 

@@ -13,9 +13,12 @@ use Rattle.theory.specs.Demand.{rowJobs, rowDemand, rowGrowth}
 use Rattle.theory.specs.Sources.{own, inTurn}
 use Rattle.theory.specs.Trace.{units}
 use Rattle.theory.specs.DueTimes.{dueTime}
+use Rattle.theory.specs.Servers.{ticksFor, serverDue, serverDemand}
 use Rattle.table.specs.Tables.{readRows}
+use Rattle.table.specs.Servers as servers
 use Rattle.table.specs.Period.{firstMultiple, leastCommonMultiple}
 use Rattle.due.specs.Kept.{dueOf, keptWith, keptSound}
+use Rattle.due.specs.OddJobs.{oddDueOf}
 use Rattle.jobs.specs.Places.{put, takenOut}
 use Rattle.jobs.specs.Units.{after}
 use Rattle.jobs.specs.Late.{lateCount}
@@ -28,18 +31,19 @@ use Rattle.verdict.specs.Demand.{tableDemand, tableGrowth, largestOf}
 use Rattle.verdict.specs.Verdict.{Judged}
 use Rattle.promise.specs.Traces.{Call, Event, runAt, trace, told, clockOf, jobsOfTrace, unitsOf}
 use Rattle.promise.specs.NoOrder.{firstJobs, keptAfter, unitsBy}
-use Rattle.promise.specs.Examples.{v3, v4, t6}
+use Rattle.promise.specs.Examples.{v3, v4, t6, s4}
 use Rattle.promise.specs.Instances.{calls, answers, AnswersAreThese, job, ThreeJobs, AllThreeInTime, ShareIsReached}
 use Rattle.promise.specs.Instances.{NamedByV4, NobodyServesV4, SomebodyServesV4Later, NamedByT6, NobodyServesT6, SomebodyServesT6Later}
 use Rattle.promise.specs.Instances.{r2, timedCalls, TimedAnswers, TimedInTime, LateInATakenTick}
+use Rattle.promise.specs.Instances.{OddAnswers, OddShareIsReached, NamedByS4, NobodyServesS4, NamedPastTheLimit, NamedNoneOfZero}
 use Rattle.promise.proofs.InTime.{in-time}
 use Rattle.promise.proofs.NoOrder.{no-order}
-use Rattle.promise.proofs.Examples.{are-bytes, feasible-by-look, judged-so, v3-is-feasible, v4-is-overloaded, t6-is-overloaded}
+use Rattle.promise.proofs.Examples.{are-bytes, feasible-by-look, judged-so, v3-is-feasible, v4-is-overloaded, t6-is-overloaded, s4-is-overloaded}
 
 pub answers-are-these : AnswersAreThese
 unfolding
-    runAt trace released ticked soundOf jobFits jobSound put takenOut after lateCount goesBefore dueOf keptWith keptSound dueTime readRows leastCommonMultiple
-    firstMultiple reading.spelt spelling.groupsOf flatten
+    runAt trace released ticked soundOf jobFits jobSound put takenOut after lateCount goesBefore dueOf keptWith keptSound dueTime readRows servers.readServers
+    leastCommonMultiple firstMultiple reading.spelt spelling.groupsOf flatten
 answers-are-these = refl
 
 pub three-jobs : ThreeJobs
@@ -74,7 +78,8 @@ share-is-reached = rw answers-are-these (refl, refl)
 
 pub named-by-v4 : NamedByV4
 unfolding
-    firstJobs keptAfter inTurn rowJobs dueOf keptWith dueTime readRows leastCommonMultiple firstMultiple reading.spelt spelling.groupsOf flatten
+    firstJobs keptAfter inTurn rowJobs dueOf keptWith dueTime readRows servers.readServers leastCommonMultiple firstMultiple reading.spelt spelling.groupsOf
+    flatten
 named-by-v4 = refl
 
 -- The table V4 is made of bytes.
@@ -90,7 +95,7 @@ nobody-serves-v4 who =
 
 -- The units of this order are counted, and they serve the same jobs where each is due one tick later.
 pub somebody-serves-v4-later : SomebodyServesV4Later
-unfolding unitsBy readRows leastCommonMultiple firstMultiple reading.spelt spelling.groupsOf flatten
+unfolding unitsBy readRows servers.readServers leastCommonMultiple firstMultiple reading.spelt spelling.groupsOf flatten
 somebody-serves-v4-later = rw named-by-v4
     (leb-true _ _ refl, (leb-true _ _ refl, (leb-true _ _ refl, (leb-true _ _ refl, (leb-true _ _ refl, tt)))))
 
@@ -98,7 +103,8 @@ somebody-serves-v4-later = rw named-by-v4
 
 pub named-by-t6 : NamedByT6
 unfolding
-    firstJobs keptAfter inTurn rowJobs dueOf keptWith dueTime readRows leastCommonMultiple firstMultiple reading.spelt spelling.groupsOf flatten
+    firstJobs keptAfter inTurn rowJobs dueOf keptWith dueTime readRows servers.readServers leastCommonMultiple firstMultiple reading.spelt spelling.groupsOf
+    flatten
 named-by-t6 = refl
 
 -- The table T6 is made of bytes.
@@ -113,18 +119,19 @@ nobody-serves-t6 who =
 
 -- Four of the first 8 ticks of T6 are counted as free.
 pub somebody-serves-t6-later : SomebodyServesT6Later
-unfolding unitsBy readRows leastCommonMultiple firstMultiple reading.spelt spelling.groupsOf flatten
+unfolding unitsBy readRows servers.readServers leastCommonMultiple firstMultiple reading.spelt spelling.groupsOf flatten
 somebody-serves-t6-later = (leb-true _ _ refl, tt)
 
 pub timed-answers : TimedAnswers
 unfolding
-    runAt trace released ticked soundOf jobFits jobSound put takenOut after lateCount goesBefore dueOf keptWith keptSound dueTime readRows leastCommonMultiple
-    firstMultiple reading.spelt spelling.groupsOf flatten
+    runAt trace released ticked soundOf jobFits jobSound put takenOut after lateCount goesBefore dueOf keptWith keptSound dueTime readRows servers.readServers
+    leastCommonMultiple firstMultiple reading.spelt spelling.groupsOf flatten
 timed-answers = refl
 
 -- The table of R2 is feasible, by a look at its lengths.
 r2-is-feasible : Judged r2 Feasible
-unfolding tableDemand tableGrowth largestOf total rowDemand rowJobs rowGrowth readRows leastCommonMultiple firstMultiple reading.spelt
+unfolding
+    tableDemand tableGrowth largestOf total rowDemand rowJobs rowGrowth readRows servers.readServers leastCommonMultiple firstMultiple reading.spelt
 r2-is-feasible = judged-so r2 Feasible (feasible-by-look r2 8 refl refl refl refl)
 
 -- By *In time*, both jobs have had their cost.
@@ -138,6 +145,47 @@ timed-in-time =
 
 pub late-in-a-taken-tick : LateInATakenTick
 unfolding
-    runAt trace released ticked soundOf jobFits jobSound put takenOut after lateCount goesBefore dueOf keptWith keptSound dueTime readRows leastCommonMultiple
-    firstMultiple reading.spelt spelling.groupsOf flatten
+    runAt trace released ticked soundOf jobFits jobSound put takenOut after lateCount goesBefore dueOf keptWith keptSound dueTime readRows servers.readServers
+    leastCommonMultiple firstMultiple reading.spelt spelling.groupsOf flatten
 late-in-a-taken-tick = refl
+
+-- ---- with servers
+
+pub odd-answers : OddAnswers
+unfolding
+    runAt trace released ticked soundOf jobFits jobSound put takenOut after lateCount goesBefore dueOf keptWith keptSound dueTime oddDueOf serverDue ticksFor
+    readRows servers.readServers leastCommonMultiple firstMultiple reading.spelt
+odd-answers = refl
+
+-- What the server consumes is worked out from the answers.
+pub odd-share-is-reached : OddShareIsReached
+unfolding told units own weighed total
+odd-share-is-reached = rw odd-answers (refl, refl)
+
+pub named-by-s4 : NamedByS4
+unfolding
+    firstJobs keptAfter inTurn rowJobs dueOf keptWith dueTime serverDemand serverDue ticksFor readRows servers.readServers leastCommonMultiple firstMultiple
+    reading.spelt spelling.groupsOf flatten
+named-by-s4 = refl
+
+-- The table S4 is made of bytes.
+s4-in-bytes : Bytes s4
+unfolding spelling.groupsOf flatten
+s4-in-bytes = are-bytes s4 refl
+
+-- By *No order*, nobody serves the jobs that the witness of S4 names.
+pub nobody-serves-s4 : NobodyServesS4
+nobody-serves-s4 who =
+    rw named-by-s4 at (no-order s4 s4-in-bytes (Overloaded (record { length = 12; demand = 13 })) s4-is-overloaded 12 13 refl who)
+
+pub named-past-the-limit : NamedPastTheLimit
+unfolding
+    firstJobs keptAfter inTurn rowJobs dueOf keptWith dueTime serverDemand serverDue ticksFor readRows servers.readServers leastCommonMultiple firstMultiple
+    reading.spelt flatten
+named-past-the-limit = refl
+
+pub named-none-of-zero : NamedNoneOfZero
+unfolding
+    firstJobs keptAfter inTurn rowJobs dueOf keptWith dueTime serverDemand serverDue ticksFor readRows servers.readServers leastCommonMultiple firstMultiple
+    reading.spelt flatten
+named-none-of-zero = refl

@@ -13,6 +13,7 @@ pub mod AtHost
 pub mod Replays
 pub mod ServedAtHost
 pub mod Recurrence
+pub mod Sources
 pub mod NamedJobs
 pub mod NoOrder
 pub mod OverloadedAtHost
@@ -25,3 +26,4 @@ pub mod Cheats
 pub mod BadByte
 pub mod HopelessRows
 pub mod WithoutATimer
+pub mod WithoutServers

@@ -1,39 +1,47 @@
--- The jobs that a length names are the theory's jobs that are all released at zero: the definitions that a release uses give them the same due times. So they
--- are as many as the demand counts, they are due by the recurrence and within the length, and they cost the rows' demand. (5.10)
+-- The jobs that a length names are the theory's jobs that are all released at zero: the definitions that a release uses give the jobs of rows the same due
+-- times, and the odd jobs are the theory's own. So they are as many as 5.10 and 5.17 count, they are due by the rules and within the length, and they cost the
+-- demand of the sources. (5.10, 5.17)
 use Prim.Native.Nat.{ℕ, zero, suc, _+_, _-_, _≤_, _<_}
-use mathlib.Core.Path.{_≡_, refl, ap, ap₂, _∙_}
+use mathlib.Core.Path.{_≡_, refl, sym, ap, ap₂, subst, _∙_}
 use mathlib.Core.Logic.{_≢_}
 use mathlib.Core.List.{List, [], _∷_, _++_, append-nil, flatten}
 use native.Mathlib.Omega.{arith}
 use native.Mathlib.Nat.{add-zero, zero-add}
 use lib.ListN.{length, getD}
-use lib.Seq.{getD-take}
+use borrow.Author.Tests.{eq-eqb, ne-eqb}
 use Rattle.kinds.specs.Numbering.{maxTime}
 use Rattle.theory.specs.Lists.{All, total}
+use Rattle.theory.specs.Curves.{sumOver}
 use Rattle.theory.specs.Jobs.{Job, DistinctNames}
 use Rattle.theory.specs.Demand.{rowJobs}
 use Rattle.theory.specs.DueTimes.{dueTime, releases, dues, allAtZero}
-use Rattle.theory.specs.Sources.{own, inTurn}
+use Rattle.theory.specs.Servers.{longestOdd, ByServer}
+use Rattle.theory.specs.Sources.{own, inTurn, NumberedFrom}
 use Rattle.theory.proofs.Cases.{by-eq}
 use Rattle.theory.proofs.Lists.{all-imply, all-append, total-flatten}
 use Rattle.theory.proofs.DueTimes.{due-by-recurrence-one}
 use Rattle.theory.proofs.AllAtZero.{first-are-due-within, first-cost-the-demand, all-at-zero-are-numbered, all-at-zero-by-rule}
+use Rattle.theory.proofs.Servers.{server-reaches-its-demand}
 use Rattle.theory.proofs.Sources.{own-of-it, own-of-another, numbered-through}
 use Rattle.table.specs.declared.Row.{Row}
+use Rattle.table.specs.declared.Server.{Server}
 use Rattle.table.specs.declared.Table.{Table}
-use Rattle.table.specs.Tables.{noRow, rowsOf, tableRead}
+use Rattle.table.specs.Servers.{GoodServer}
+use Rattle.table.specs.Tables.{InRange, tableRead}
 use Rattle.table.specs.SpelledTables.{WithinLimits}
 use Rattle.table.proofs.Ranges.{in-range-of}
-use Rattle.table.proofs.Tables.{rows-used, read-in-range}
+use Rattle.table.proofs.Tables.{read-in-range}
 use Rattle.due.specs.declared.Due.the-variants as due
 use Rattle.due.specs.Kept.{dueOf}
 use Rattle.due.specs.KeptTimes.{KeepsNewest}
 use Rattle.due.proofs.NewestKept.{due-given, keeps-on-keeping, due-is-the-papers, starts-empty}
-use Rattle.verdict.specs.Demand.{rowDemandOf, tableDemand}
-use Rattle.verdict.proofs.Rows.{row-within, rows-within}
-use Rattle.run.specs.Runs.{rowAt}
-use Rattle.promise.specs.NoOrder.{keptAfter, firstJobs, namedJobs}
-use Rattle.promise.specs.NamedJobs.{NamedOfRow, NamedJobsAreThePapers}
+use Rattle.verdict.specs.Demand.{serverDemandOf}
+use Rattle.verdict.proofs.Rows.{row-within}
+use Rattle.run.specs.Runs.{rowAt, serverAt}
+use Rattle.promise.specs.Sources.{Source, sourcesOf, sourceAt, sourceDemand}
+use Rattle.promise.specs.NoOrder.{keptAfter, firstJobs, oddJobs, jobsNamed, namedJobs}
+use Rattle.promise.specs.NamedJobs.{NamedOfRow, NamedOfServer, NamedJobsAreThePapers}
+use Rattle.promise.proofs.Sources.{source-of-row, source-of-server, sources-are-numbered, demand-over-sources, GoodSource, sources-good}
 
 -- ---- the jobs of one row
 
@@ -69,62 +77,32 @@ module _ (r : Row) (within : WithinLimits r) (L : ℕ) (not-too-late : L ≤ max
   same-jobs source first (suc n) named =
       rw (same-due source first n (keeps-the-first source first n (omega arith)) named) (rw (same-jobs source first n (omega arith)) refl)
 
--- ---- the jobs of all rows
+-- ---- the jobs of all sources
 
--- `named` lists the jobs of a row that the witness names.
-abbrev named : (L source first : ℕ) → Row → List Job
-named L source first r = firstJobs source first r (rowJobs (r .x) (r .y) (r .d) L)
+-- `theirs` lists the theory's jobs of a source that can be released and due in L ticks: of a row as many as its demand counts, and of a server its odd job.
+abbrev pub theirs : (L source first : ℕ) → Source → List Job
+theirs L source first (Source.row r) = allAtZero (r .x) (r .y) (r .d) (r .c) source first (rowJobs (r .x) (r .y) (r .d) L)
+theirs L source first (Source.server v) = oddJobs L source first v
 
--- `theirs` lists the theory's jobs of a row, as many as can be released and due in L ticks.
-abbrev pub theirs : (L source first : ℕ) → Row → List Job
-theirs L source first r = allAtZero (r .x) (r .y) (r .d) (r .c) source first (rowJobs (r .x) (r .y) (r .d) L)
+-- The first jobs of a row that a length names are the theory's, and the odd job of a server is the theory's by its definition.
+same-of-source : (L : ℕ) → L ≤ maxTime → (i first : ℕ) (source : Source) → GoodSource source → jobsNamed L i first source ≡ theirs L i first source
+same-of-source L h i first (Source.row r) good = same-jobs r good L h i first (rowJobs (r .x) (r .y) (r .d) L) (omega arith)
+same-of-source L h i first (Source.server v) good = refl
 
-module _ (L : ℕ) where
-  -- The named jobs and the theory's jobs are the same, row by row.
-  pub same-lists : L ≤ maxTime → (i first : ℕ) (rows : List Row) → All WithinLimits rows → inTurn (named L) i first rows ≡ inTurn (theirs L) i first rows
-  unfolding inTurn
-  same-lists h i first [] all = refl
-  same-lists h i first (r ∷ rows) all =
-      rw (same-jobs r (all .0) L h i first (rowJobs (r .x) (r .y) (r .d) L) (omega arith))
-      (ap (λ l. theirs L i first r ∷ l) (same-lists h (suc i) (first + length (theirs L i first r)) rows (all .1)))
-
-  -- The theory's jobs are due by L.
-  pub all-due : (i first : ℕ) (rows : List Row) → All WithinLimits rows → All (All (λ j. j .due ≤ L)) (inTurn (theirs L) i first rows)
-  unfolding inTurn
-  all-due i first [] all = tt
-  all-due i first (r ∷ rows) all = (
-    first-are-due-within (r .x) (r .y) (r .d) (r .c) i first L (rowJobs (r .x) (r .y) (r .d) L) (all .0 .some-x) (all .0 .some-y) (omega arith),
-    all-due (suc i) (first + length (theirs L i first r)) rows (all .1),
-  )
-
-  -- Together the theory's jobs cost the demand of the rows.
-  pub all-cost : (i first : ℕ) (rows : List Row) → total (λ js. total (λ j. j .cost) js) (inTurn (theirs L) i first rows) ≡ total (λ r. rowDemandOf r L) rows
-  unfolding inTurn total
-  all-cost i first [] = refl
-  all-cost i first (r ∷ rows) =
-      ap₂ _+_ (first-cost-the-demand (r .x) (r .y) (r .d) (r .c) i first L) (all-cost (suc i) (first + length (theirs L i first r)) rows)
-
-  -- No two of the theory's jobs have the same name.
-  pub all-distinct : (rows : List Row) → DistinctNames (flatten (inTurn (theirs L) 0 0 rows))
-  all-distinct rows =
-      numbered-through Row (theirs L) (λ i first r. all-at-zero-are-numbered (r .x) (r .y) (r .d) (r .c) i first (rowJobs (r .x) (r .y) (r .d) L)) 0 0 rows .distinct
-
--- The theory's first jobs of a row are released at zero.
-released-at-zero : (x y d c source first n : ℕ) → All (λ j. j .release ≡ 0) (allAtZero x y d c source first n)
-unfolding allAtZero
-released-at-zero x y d c source first zero = tt
-released-at-zero x y d c source first (suc n) = (refl, released-at-zero x y d c source first n)
-
--- The theory's first jobs of all rows are released at zero.
-pub all-at-zero : (L i first : ℕ) (rows : List Row) → All (All (λ j. j .release ≡ 0)) (inTurn (theirs L) i first rows)
+-- The named jobs and the theory's jobs are the same, source by source.
+same-lists : (L : ℕ) → L ≤ maxTime → (i first : ℕ) (sources : List Source) → All GoodSource sources
+    → inTurn (jobsNamed L) i first sources ≡ inTurn (theirs L) i first sources
 unfolding inTurn
-all-at-zero L i first [] = tt
-all-at-zero L i first (r ∷ rows) = (
-  released-at-zero (r .x) (r .y) (r .d) (r .c) i first (rowJobs (r .x) (r .y) (r .d) L),
-  all-at-zero L (suc i) (first + length (theirs L i first r)) rows,
-)
+same-lists L h i first [] all = refl
+same-lists L h i first (a ∷ sources) all =
+    rw (same-of-source L h i first a (all .0))
+    (ap (λ l. theirs L i first a ∷ l) (same-lists L h (suc i) (first + length (theirs L i first a)) sources (all .1)))
 
--- ---- the jobs of each row among them all
+-- The jobs of a table that a length names are the theory's.
+pub same-named : (t : Table) (L : ℕ) → InRange t → L ≤ maxTime → namedJobs t L ≡ flatten (inTurn (theirs L) 0 0 (sourcesOf t))
+same-named t L in-range in-time = ap flatten (same-lists L in-time 0 0 (sourcesOf t) (sources-good t in-range))
+
+-- ---- the jobs of each source among them all
 
 -- Where all jobs are of source i, the own jobs of i are all of them.
 own-all : (i : ℕ) (js : List Job) → All (λ j. j .source ≡ i) js → own i js ≡ js
@@ -184,6 +162,12 @@ module _ (x y d c source first : ℕ) where
   number-of-jobs zero = refl
   number-of-jobs (suc n) = omega (arith, number-of-jobs n)
 
+  -- Each of the first jobs is released at zero.
+  each-at-zero : (n : ℕ) → All (λ j. j .release ≡ 0) (allAtZero x y d c source first n)
+  unfolding allAtZero
+  each-at-zero zero = tt
+  each-at-zero (suc n) = (refl, each-at-zero n)
+
   -- Each of the first jobs costs c.
   each-costs : (n : ℕ) → All (λ j. j .cost ≡ c) (allAtZero x y d c source first n)
   unfolding allAtZero
@@ -203,11 +187,11 @@ releases-are-zero (j ∷ js) h zero = h .0
 releases-are-zero (j ∷ js) h (suc k) = releases-are-zero js (h .1) k
 
 -- The jobs of a row that a length names are the paper's.
-named-of-row : (r : Row) → WithinLimits r → (L source first : ℕ) → NamedOfRow r L (theirs L source first r)
+named-of-row : (r : Row) → WithinLimits r → (L source first : ℕ) → NamedOfRow r L (theirs L source first (Source.row r))
 named-of-row r within L source first =
     let n = rowJobs (r .x) (r .y) (r .d) L in
-    let js = theirs L source first r in
-    let zero-all = released-at-zero (r .x) (r .y) (r .d) (r .c) source first n in
+    let js = theirs L source first (Source.row r) in
+    let zero-all = each-at-zero (r .x) (r .y) (r .d) (r .c) source first n in
     let due = due-by-recurrence-one (r .x) (r .y) (r .d) (r .c) js (within .some-x) (all-at-zero-by-rule (r .x) (r .y) (r .d) (r .c) source first n) in
     record {
       as-many = number-of-jobs (r .x) (r .y) (r .d) (r .c) source first n;
@@ -220,28 +204,143 @@ named-of-row r within L source first =
       due-within = first-are-due-within (r .x) (r .y) (r .d) (r .c) source first L n (within .some-x) (within .some-y) (omega arith);
     }
 
+-- ---- the odd job of a server
+
+module _ (v : Server) (L source first : ℕ) where
+  -- Where the server's demand is 0, no odd job is named.
+  none-named : serverDemandOf v L ≡ 0 → oddJobs L source first v ≡ []
+  none-named none = rw (eq-eqb (serverDemandOf v L) 0 none)
+
+  -- Where the server's demand is not 0, the longest odd job is named.
+  one-named : serverDemandOf v L ≢ 0 → oddJobs L source first v ≡ longestOdd (v .a) (v .b) source first L ∷ []
+  one-named some = rw (ne-eqb (serverDemandOf v L) 0 some)
+
+  -- What holds for no jobs where the demand is 0, and for the longest odd job, holds for the odd jobs that are named.
+  each-odd : (P : List Job → Type 0) → (serverDemandOf v L ≡ 0 → P []) → (serverDemandOf v L ≢ 0 → P (longestOdd (v .a) (v .b) source first L ∷ []))
+      → P (oddJobs L source first v)
+  each-odd P none some = by-eq (serverDemandOf v L) 0
+      (λ q. subst P (sym (none-named q)) (none q))
+      (λ q. subst P (sym (one-named q)) (some q))
+
+  -- The odd jobs of a server that a length names are as the rules say.
+  named-of-server : GoodServer v → NamedOfServer v L (oddJobs L source first v)
+  unfolding ByServer
+  named-of-server good =
+      let reached = server-reaches-its-demand (v .a) (v .b) source first L (good .some-a) (omega (arith, good .some-a, good .a-within-b)) in
+      each-odd (NamedOfServer v L)
+      (λ none. record {
+        none-of-zero = λ _. refl;
+        one-otherwise = λ some. absurd (omega arith);
+        at-zero = tt;
+        of-the-demand = tt;
+        by-the-rule = tt;
+        due-within = tt;
+      })
+      (λ some. record {
+        none-of-zero = λ none. absurd (some none);
+        one-otherwise = λ _. refl;
+        at-zero = (refl, tt);
+        of-the-demand = (refl, tt);
+        by-the-rule = reached .0;
+        due-within = (reached .1, tt);
+      })
+
+  -- Together the odd jobs of a server cost the server's demand.
+  odd-cost-the-demand : total (λ j. j .cost) (oddJobs L source first v) ≡ serverDemandOf v L
+  unfolding total
+  odd-cost-the-demand = each-odd (λ js. total (λ j. j .cost) js ≡ serverDemandOf v L) (λ none. sym none) (λ some. add-zero (serverDemandOf v L))
+
+  -- The odd jobs of a server are named from the first name on.
+  odd-are-numbered : NumberedFrom first (oddJobs L source first v)
+  odd-are-numbered = each-odd (NumberedFrom first)
+      (λ none. record { distinct = tt; names = tt })
+      (λ some. record { distinct = (tt, tt); names = ((omega arith, omega arith), tt) })
+
+  -- Each odd job of a server belongs to it.
+  each-of-its-server : All (λ j. j .source ≡ source) (oddJobs L source first v)
+  each-of-its-server = each-odd (All (λ j. j .source ≡ source)) (λ none. tt) (λ some. (refl, tt))
+
+-- ---- the jobs of one source
+
+module _ (L i first : ℕ) where
+  -- The theory's jobs of a source belong to it.
+  its-own : (source : Source) → All (λ j. j .source ≡ i) (theirs L i first source)
+  its-own (Source.row r) = each-of-its-row (r .x) (r .y) (r .d) (r .c) i first (rowJobs (r .x) (r .y) (r .d) L)
+  its-own (Source.server v) = each-of-its-server v L i first
+
+  -- The theory's jobs of a source are released at zero.
+  its-at-zero : (source : Source) → GoodSource source → All (λ j. j .release ≡ 0) (theirs L i first source)
+  its-at-zero (Source.row r) good = named-of-row r good L i first .at-zero
+  its-at-zero (Source.server v) good = named-of-server v L i first good .at-zero
+
+  -- The theory's jobs of a source are due by L.
+  its-due : (source : Source) → GoodSource source → All (λ j. j .due ≤ L) (theirs L i first source)
+  its-due (Source.row r) good = named-of-row r good L i first .due-within
+  its-due (Source.server v) good = named-of-server v L i first good .due-within
+
+  -- Together the theory's jobs of a source cost the source's demand.
+  its-cost : (source : Source) → total (λ j. j .cost) (theirs L i first source) ≡ sourceDemand source L
+  its-cost (Source.row r) = first-cost-the-demand (r .x) (r .y) (r .d) (r .c) i first L
+  its-cost (Source.server v) = odd-cost-the-demand v L i first
+
+  -- The theory's jobs of a source are named from the first name on.
+  its-numbered : (source : Source) → NumberedFrom first (theirs L i first source)
+  its-numbered (Source.row r) = all-at-zero-are-numbered (r .x) (r .y) (r .d) (r .c) i first (rowJobs (r .x) (r .y) (r .d) L)
+  its-numbered (Source.server v) = odd-are-numbered v L i first
+
+-- ---- the jobs of all sources together
+
+module _ (L : ℕ) where
+  -- What holds for the theory's jobs of each good source holds for the theory's jobs of all of them.
+  of-each : (P : Job → Type 0) → ((i first : ℕ) (source : Source) → GoodSource source → All P (theirs L i first source))
+      → (i first : ℕ) (sources : List Source) → All GoodSource sources → All (All P) (inTurn (theirs L) i first sources)
+  unfolding inTurn
+  of-each P its i first [] all = tt
+  of-each P its i first (a ∷ sources) all =
+      (its i first a (all .0), of-each P its (suc i) (first + length (theirs L i first a)) sources (all .1))
+
+  -- The theory's jobs are due by L.
+  pub all-due : (sources : List Source) → All GoodSource sources → All (All (λ j. j .due ≤ L)) (inTurn (theirs L) 0 0 sources)
+  all-due = of-each (λ j. j .due ≤ L) (its-due L) 0 0
+
+  -- The theory's jobs are released at zero.
+  pub all-at-zero : (sources : List Source) → All GoodSource sources → All (All (λ j. j .release ≡ 0)) (inTurn (theirs L) 0 0 sources)
+  all-at-zero = of-each (λ j. j .release ≡ 0) (its-at-zero L) 0 0
+
+  -- Together the theory's jobs cost the demand of the sources.
+  pub all-cost : (i first : ℕ) (sources : List Source) → total (total (λ j. j .cost)) (inTurn (theirs L) i first sources) ≡ sumOver sourceDemand sources L
+  unfolding inTurn total
+  all-cost i first [] = refl
+  all-cost i first (a ∷ sources) = ap₂ _+_ (its-cost L i first a) (all-cost (suc i) (first + length (theirs L i first a)) sources)
+
+  -- No two of the theory's jobs have the same name.
+  pub all-distinct : (sources : List Source) → DistinctNames (flatten (inTurn (theirs L) 0 0 sources))
+  all-distinct sources = numbered-through Source (theirs L) (its-numbered L) 0 0 sources .distinct
+
 -- ---- the paper's jobs of a table
 
--- The jobs of a table that a length names are the theory's.
-pub same-named : (t : Table) (L : ℕ) → All WithinLimits (rowsOf t) → L ≤ maxTime → namedJobs t L ≡ flatten (inTurn (theirs L) 0 0 (rowsOf t))
-same-named t L within in-time = ap flatten (same-lists L in-time 0 0 (rowsOf t) within)
+-- The own jobs of a row number in use are the theory's jobs of its source.
+own-of-source : (t : Table) → InRange t → (L row : ℕ) → row < t .count + t .serving
+    → (from : ℕ) × (own row (flatten (inTurn (theirs L) 0 0 (sourcesOf t))) ≡ theirs L row from (sourceAt t row))
+own-of-source t in-range L row in-use =
+    let numbered = sources-are-numbered t in-range in
+    let found = own-in-turn (theirs L) (its-own L) (sourceAt t row) 0 0 (sourcesOf t) row (omega (arith, numbered .0)) in
+    (found .0, rw (zero-add, numbered .1 row (sourceAt t row) in-use) at (found .1))
 
 pub named-jobs-are-the-papers : NamedJobsAreThePapers
-unfolding tableDemand
 named-jobs-are-the-papers bytes fine L in-time =
     let t = tableRead bytes .table in
     let in-range = read-in-range bytes fine in
-    let within : All WithinLimits (rowsOf t) = rows-within in-range (t .count) (omega arith) in
-    let its-own : (i first : ℕ) (r : Row) → All (λ j. j .source ≡ i) (theirs L i first r) =
-    λ i first r. each-of-its-row (r .x) (r .y) (r .d) (r .c) i first (rowJobs (r .x) (r .y) (r .d) L) in
-    rw (same-named t L within in-time) (record {
-      of-its-rows = all-imply {Q = λ j. j .source < t .count} (λ j h. omega (arith, h .1, rows-used in-range)) (flatten (inTurn (theirs L) 0 0 (rowsOf t)))
-          (of-these-sources (theirs L) its-own 0 0 (rowsOf t));
+    let lists = inTurn (theirs L) 0 0 (sourcesOf t) in
+    rw (same-named t L in-range in-time) (record {
+      of-its-sources = all-imply {Q = λ j. j .source < t .count + t .serving} (λ j h. omega (arith, h .1, sources-are-numbered t in-range .0)) (flatten lists)
+          (of-these-sources (theirs L) (its-own L) 0 0 (sourcesOf t));
       of-each-row = λ row in-use.
-          let found = own-in-turn (theirs L) its-own noRow 0 0 (rowsOf t) row (omega (arith, rows-used in-range)) in
-          let same : own row (flatten (inTurn (theirs L) 0 0 (rowsOf t))) ≡ theirs L row (found .0) (rowAt t row) =
-          rw (zero-add, getD-take (t .count) (t .rows) row noRow in-use) at (found .1) in
-          rw same (named-of-row (rowAt t row) (row-within in-range row in-use) L row (found .0));
-      distinct = all-distinct L (rowsOf t);
-      cost-the-demand = omega (arith, total-flatten (λ j. j .cost) (inTurn (theirs L) 0 0 (rowsOf t)), all-cost L 0 0 (rowsOf t));
+          let its = own-of-source t in-range L row (omega arith) in
+          rw (its .1, source-of-row t row in-use) (named-of-row (rowAt t row) (row-within in-range row in-use) L row (its .0));
+      of-each-server = λ row above in-use.
+          let its = own-of-source t in-range L row in-use in
+          rw (its .1, source-of-server t row above) (named-of-server (serverAt t row) L row (its .0) (in-range .good-servers (row - t .count) (omega arith)));
+      distinct = all-distinct L (sourcesOf t);
+      cost-the-demand = omega (arith, total-flatten (λ j. j .cost) lists, all-cost L 0 0 (sourcesOf t), demand-over-sources t L);
     })

@@ -23,8 +23,7 @@ use Rattle.theory.proofs.Schedules.{overload-of-sources}
 use Rattle.table.specs.declared.Table.{Table}
 use Rattle.table.specs.declared.TableAnswer.{TableAnswer}
 use Rattle.table.specs.declared.TableAnswer.the-variants as answer
-use Rattle.table.specs.Tables.{rowsOf, tableRead}
-use Rattle.table.specs.SpelledTables.{WithinLimits}
+use Rattle.table.specs.Tables.{tableRead}
 use Rattle.verdict.specs.declared.Witness.{Witness}
 use Rattle.verdict.specs.declared.Verdict.{Verdict}
 use Rattle.verdict.specs.declared.Verdict.the-variants as verdict
@@ -32,11 +31,12 @@ use Rattle.verdict.specs.Demand.{tableDemand, tableGrowth, largestD}
 use Rattle.verdict.specs.Verdict.{RightOfRead, Judged, verdictSays}
 use Rattle.verdict.proofs.Accepted.{Known, accepted-is-known}
 use Rattle.verdict.proofs.Verdicts.{verdicts-said-apart}
-use Rattle.verdict.proofs.Rows.{rows-within}
 use Rattle.verdict.proofs.Bounds.{last-at-most}
+use Rattle.promise.specs.Sources.{sourcesOf}
 use Rattle.promise.specs.Link.{takenOn}
 use Rattle.promise.specs.NoOrder.{namedJobs, unitsBy, Serves, NoOrder}
 use Rattle.promise.specs.NamedJobs.{WitnessIsInTime}
+use Rattle.promise.proofs.Sources.{demand-over-sources, sources-good}
 use Rattle.promise.proofs.NamedJobs.{theirs, all-due, all-cost, all-distinct, all-at-zero, same-named}
 
 -- ---- assignments
@@ -79,16 +79,15 @@ witness-in-time t period known L smallest = ⊎-elim
 -- The jobs that a failing length names can't be served on the ticks that the timer leaves free.
 not-served : (t : Table) (period : ℕ) → Known t period → (L : ℕ) → SmallestFailing (tableDemand t) L → (who : ℕ → Option ℕ)
     → ¬ Serves (takenOn t) who (namedJobs t L)
-unfolding tableDemand
 not-served t period known L smallest who served =
-    let within : All WithinLimits (rowsOf t) = rows-within (known .in-range) (t .count) (omega arith) in
-    let same = same-named t L within (witness-in-time t period known L smallest) in
+    let all = sourcesOf t in
+    let good-all = sources-good t (known .in-range) in
+    let same = same-named t L (known .in-range) (witness-in-time t period known L smallest) in
     let good = known .in-range .good-timer in
     let left = timer-takes-from-zero (t .s) (t .p) (good .some-p) (omega (arith, good .s-below-p)) L in
-    overload-of-sources (takenOn t) L (inTurn (theirs L) 0 0 (rowsOf t)) (all-distinct L (rowsOf t)) (all-due L 0 0 (rowsOf t) within)
-    (omega (arith, left, all-cost L 0 0 (rowsOf t), smallest .fails)) who
-    (meets (takenOn t) who (flatten (inTurn (theirs L) 0 0 (rowsOf t))) (all-flatten (λ j. j .release ≡ 0) _ (all-at-zero L 0 0 (rowsOf t)))
-    (rw same at served))
+    overload-of-sources (takenOn t) L (inTurn (theirs L) 0 0 all) (all-distinct L all) (all-due L all good-all)
+    (omega (arith, left, all-cost L 0 0 all, demand-over-sources t L, smallest .fails)) who
+    (meets (takenOn t) who (flatten (inTurn (theirs L) 0 0 all)) (all-flatten (λ j. j .release ≡ 0) _ (all-at-zero L all good-all)) (rw same at served))
 
 -- A verdict that says 21 with the length L is the overloaded verdict with that length.
 pub says-overloaded : (v : Verdict) (L demand : ℕ) → verdictSays v ≡ record { number = 21; first = L; second = demand }

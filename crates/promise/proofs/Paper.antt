@@ -1,15 +1,15 @@
--- The verdict is the paper's Theorem 4.2, since the demand of the rows is the sum of the expressions of Lemma 4.1, and the table's demand adds the ticks that
--- the timer takes. (5.2 to 5.4)
+-- The verdict is the paper's Theorem 4.2, since the demand of the rows is the sum of the expressions of Lemma 4.1, and the table's demand adds the servers'
+-- demand and the ticks that the timer takes. (5.2 to 5.4)
 use Prim.Native.Nat.{ℕ, _+_}
 use mathlib.Core.Path.{_≡_, refl, ap₂}
 use mathlib.Core.Logic.{_↔_}
 use mathlib.Core.List.{List, [], _∷_}
 use native.Mathlib.Omega.{arith}
 use Rattle.theory.specs.Lists.{All, total}
-use Rattle.theory.specs.Curves.{EveryLengthFits}
+use Rattle.theory.specs.Curves.{EveryLengthFits, SmallestFailing}
 use Rattle.theory.specs.Paper.{paperDemand}
 use Rattle.theory.proofs.Paper.{demand-is-lemma41}
-use Rattle.theory.proofs.Curves.{none-where-every-length-fits}
+use Rattle.theory.proofs.Curves.{one-smallest-failing, none-where-every-length-fits}
 use Rattle.table.specs.declared.Row.{Row}
 use Rattle.table.specs.declared.TableAnswer.the-variants as answer
 use Rattle.table.specs.Tables.{rowsOf, tableRead}
@@ -22,6 +22,7 @@ use Rattle.verdict.specs.Verdict.{RightFor, verdictSays}
 use Rattle.verdict.proofs.Accepted.{accepted-is-known}
 use Rattle.verdict.proofs.Rows.{rows-within}
 use Rattle.promise.specs.Paper.{FeasibleIsTheorem42}
+use Rattle.promise.proofs.NoOrder.{says-overloaded}
 
 -- The demand of some rows is the sum of the paper's expressions.
 demand-is-the-papers : (rows : List Row) (L : ℕ) → All WithinLimits rows
@@ -37,6 +38,18 @@ feasible-means f verdict.Feasible right = (λ _. right, λ _. refl)
 feasible-means f (verdict.Overloaded w) right =
     (λ said. absurd (omega arith), λ fits. absurd (none-where-every-length-fits f (w .length) fits (right .0)))
 feasible-means f (verdict.Refused r) right = absurd right
+
+-- A right verdict for a demand says overloaded with a length and its demand exactly when this is the smallest length that fails.
+pub overloaded-means : (f : ℕ → ℕ) (v : Verdict) → RightFor f v → (L units : ℕ)
+    → (verdictSays v ≡ record { number = 21; first = L; second = units }) ↔ (SmallestFailing f L × (units ≡ f L))
+overloaded-means f v right L units = (λ said. rw (says-overloaded v L units said) at right, from v right)
+  where
+    from : (w : Verdict) → RightFor f w → SmallestFailing f L × (units ≡ f L) → verdictSays w ≡ record { number = 21; first = L; second = units }
+    from verdict.Feasible fits found = absurd (none-where-every-length-fits f L fits (found .0))
+    from (verdict.Overloaded w) right found =
+        let same = one-smallest-failing f (w .length) L (right .0) (found .0) in
+        rw (right .1, same, found .1)
+    from (verdict.Refused r) right found = absurd right
 
 pub feasible-is-theorem42 : FeasibleIsTheorem42
 unfolding tableDemand

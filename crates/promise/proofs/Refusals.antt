@@ -1,7 +1,7 @@
 -- Refused exactly when: the proof. Each test of a release and of a tick looks at the run, and the trace tells the same. The table is the one that the run was
--- started on. As many jobs are pending as are unfinished. The next serial is the number of accepted jobs. The due time over the kept due times is the paper's
--- over all accepted jobs of the row. (6.8, 6.16, 6.18)
-use Prim.Native.Nat.{ℕ, _≤_, _<_}
+-- started on. As many jobs are pending as are unfinished. The next serial is the number of accepted jobs. The due time over what the run keeps of due times is
+-- the one by the rules over all accepted jobs of the row or server. (6.8, 6.16, 6.18)
+use Prim.Native.Nat.{ℕ, _+_, _-_, _≤_, _<_}
 use mathlib.Core.Path.{_≡_, refl, ap, _∙_}
 use mathlib.Core.Logic.{_↔_}
 use mathlib.Core.Bool.{true, cond}
@@ -14,22 +14,26 @@ use Rattle.kinds.specs.declared.Refusal.the-variants.{NoSuchRow, CostOutOfRange
 use Rattle.kinds.specs.Numbering.{maxTime}
 use Rattle.kinds.proofs.Apart.{impossible}
 use Rattle.theory.specs.Lists.{total}
-use Rattle.theory.specs.DueTimes.{dueTime, dues}
+use Rattle.theory.specs.DueTimes.{dues}
 use Rattle.theory.specs.Sources.{own}
 use Rattle.theory.proofs.Cases.{by-lt, by-test}
 use Rattle.table.specs.declared.Table.{Table}
 use Rattle.table.specs.declared.CostAnswer.the-variants as cost-answer
 use Rattle.table.specs.Costs.{costLimits, limitOf, costAnswer}
+use Rattle.table.specs.Limits.{maxC}
 use Rattle.table.specs.Rows.{fromOneTo, rowInRange}
+use Rattle.table.specs.Servers.{serverInRange}
 use Rattle.table.proofs.Ranges.{in-range-of}
-use Rattle.due.specs.Kept.{earlier, dueOf}
+use Rattle.table.proofs.ReadingServers.{server-in-range-means}
+use Rattle.due.specs.Kept.{dueOf, notTooLate}
+use Rattle.due.specs.OddJobs.{oddDueOf}
 use Rattle.due.proofs.NewestKept.{due-is-the-papers}
 use Rattle.jobs.specs.Places.{maxPlaces, jobsOf}
 use Rattle.run.specs.declared.Run.{Run}
 use Rattle.run.specs.declared.TickStep.{TickStep}
-use Rattle.run.specs.Runs.{rowInUse, rowAt, costLimit, keptOf}
+use Rattle.run.specs.Runs.{rowInUse, rowAt, serverAt, costLimit, keptOf}
 use Rattle.run.specs.Sound.{soundOf, Whole}
-use Rattle.run.specs.Release.{released}
+use Rattle.run.specs.Release.{dueNext, released}
 use Rattle.run.specs.Ticking.{ticked}
 use Rattle.run.proofs.Release.{bounded, each-release, one-test-means}
 use Rattle.run.proofs.Ticking.{counted, tick-too-late}
@@ -51,10 +55,6 @@ unfolding total
 total-of-ones [] = refl
 total-of-ones (a ∷ l) = omega (arith, total-of-ones l)
 
--- `dueKept` is the due time of the row's next job, over the due times that the run keeps.
-abbrev dueKept : Run → (row : ℕ) → ℕ
-dueKept run row = let r = rowAt (run .table) row in dueTime (r .x) (r .y) (r .d) (earlier (keptOf run row)) (run .clock .0)
-
 -- The one test of row number and cost says what the table's own terms say.
 one-test : (run : Run) (row cost : ℕ) → soundOf run ≡ true → Whole run
     → costAnswer (limitOf (costLimits (run .table)) row) cost
@@ -63,27 +63,30 @@ one-test : (run : Run) (row cost : ℕ) → soundOf run ≡ true → Whole run
     (cost-answer.Refused NoSuchRow)
 one-test run row cost sound whole = one-test-means (run .table) (bounded run sound .few-rows) (whole .all-rows) row cost
 
--- A release of a row in use, on a sound run, is answered by these tests in their order.
-says-by-tests : (run : Run) (row cost : ℕ) → soundOf run ≡ true → Whole run → row < run .table .count → rowInRange (rowAt (run .table) row) ≡ true
+-- A release of a row number in use, on a sound run, is answered by these tests in their order, where `at` is the due time of the row number's next job.
+says-by-tests : (run : Run) (row cost at : ℕ) → soundOf run ≡ true → Whole run → row < run .table .count + run .table .serving
+    → (fromOneTo (costLimit (run .table) row) cost ≡ true → dueNext run row cost ≡ notTooLate at)
     → releaseSays (released run row cost .answer)
     ≡ cond (fromOneTo (costLimit (run .table) row) cost)
     (cond (ltb (run .pending .count) maxPlaces)
-    (cond (leb (dueKept run row) maxTime) (accepted (run .next .0) (dueKept run row)) (says.ReleaseSays.refused 9 0))
+    (cond (leb at maxTime) (accepted (run .next .0) at) (says.ReleaseSays.refused 9 0))
     (says.ReleaseSays.refused 8 0))
     (says.ReleaseSays.refused 7 0)
-unfolding released dueOf
-says-by-tests run row cost sound whole in-use in-range = rw (sound, one-test run row cost sound whole, lt-ltb row (run .table .count) in-use)
+unfolding released
+says-by-tests run row cost at sound whole in-use due =
+    rw (sound, one-test run row cost sound whole, lt-ltb row (run .table .count + run .table .serving) in-use)
     (by-test (fromOneTo (costLimit (run .table) row) cost)
     (λ fits. rw fits (by-test (ltb (run .pending .count) maxPlaces)
-    (λ room. rw (room, in-range) (by-test (leb (dueKept run row) maxTime) (λ in-time. rw in-time) (λ late. rw late)))
+    (λ room. rw (room, due fits) (by-test (leb at maxTime) (λ in-time. rw in-time) (λ late. rw late)))
     (λ full. rw full)))
     (λ fits-not. rw fits-not))
 
--- A release of a row that is not in use, on a sound run, is refused with 6.
-says-no-such-row : (run : Run) (row cost : ℕ) → soundOf run ≡ true → Whole run → run .table .count ≤ row
+-- A release of a row number that is not in use, on a sound run, is refused with 6.
+says-no-such-row : (run : Run) (row cost : ℕ) → soundOf run ≡ true → Whole run → run .table .count + run .table .serving ≤ row
     → releaseSays (released run row cost .answer) ≡ says.ReleaseSays.refused 6 0
 unfolding released
-says-no-such-row run row cost sound whole unused = rw (sound, one-test run row cost sound whole, le-ltb row (run .table .count) unused)
+says-no-such-row run row cost sound whole unused =
+    rw (sound, one-test run row cost sound whole, le-ltb row (run .table .count + run .table .serving) unused)
 
 module _ {t : Table} {run : Run} {es : List Event} (b : Bridge t run es) where
   -- As many jobs are pending as are unfinished.
@@ -91,25 +94,38 @@ module _ {t : Table} {run : Run} {es : List Event} (b : Bridge t run es) where
   pending-count =
       omega (arith, unfinished-weigh-as-pending b (λ _. 1), total-of-ones (jobsOf (run .pending)), counted run (b .sound, b .whole))
 
-  module _ (row : ℕ) (in-use : row < run .table .count) where
-    -- A row in use is in range.
-    row-in-range : rowInRange (rowAt (run .table) row) ≡ true
-    row-in-range = in-range-of (rowAt (run .table) row) (sound-facts b .rows row in-use)
-
-    -- The due time over the kept due times is the paper's over all accepted jobs of the row.
-    due-as-next : dueKept run row ≡ nextDue (run .table) es row
-    due-as-next =
+  module _ (row cost : ℕ) where
+    -- A row's next job is due by the paper's rule over all accepted jobs of the row.
+    due-of-row-as-next : row < run .table .count → dueNext run row cost ≡ notTooLate (nextDue (run .table) es row cost)
+    unfolding dueOf
+    due-of-row-as-next of-row =
         let r = rowAt (run .table) row in
         let history = dues (own row (jobsOfTrace es)) in
-        due-is-the-papers (keptOf run row) r history (run .clock .0) row-in-range (b .keeps-history .newest row in-use)
-        ∙ ap (dueTime (r .x) (r .y) (r .d) history) (b .same-clock)
+        let in-range : rowInRange r ≡ true = in-range-of r (sound-facts b .rows row of-row) in
+        let same = due-is-the-papers (keptOf run row) r history (run .clock .0) in-range (b .keeps-history .newest row of-row) in
+        rw (lt-ltb row (run .table .count) of-row, in-range, same, b .same-clock)
 
-  -- A release is answered as the trace says.
-  pub release-by-the-trace : (row cost : ℕ) → releaseSays (released run row cost .answer) ≡ releaseAnswer t es row cost
-  release-by-the-trace row cost = rw (← b .same-table) (by-lt row (run .table .count)
-      (λ in-use. says-by-tests run row cost (b .sound) (b .whole) in-use (row-in-range row in-use)
-      ∙ rw (lt-ltb row (run .table .count) in-use, due-as-next row in-use, pending-count, ← b .next-serial))
-      (λ unused. says-no-such-row run row cost (b .sound) (b .whole) unused ∙ rw (le-ltb row (run .table .count) unused)))
+    -- A server's next job is due by the server's rule over all accepted jobs of the server.
+    due-of-server-as-next : run .table .count ≤ row → row < run .table .count + run .table .serving → fromOneTo (costLimit (run .table) row) cost ≡ true
+        → dueNext run row cost ≡ notTooLate (nextDue (run .table) es row cost)
+    unfolding oddDueOf
+    due-of-server-as-next of-server in-use fits =
+        let v = serverAt (run .table) row in
+        let in-range : serverInRange v ≡ true = server-in-range-means v .1 (sound-facts b .servers (row - run .table .count) (omega arith)) in
+        let allowed : fromOneTo maxC cost ≡ true = rw (le-ltb row (run .table .count) of-server) at fits in
+        rw (le-ltb row (run .table .count) of-server, in-range, allowed, b .keeps-history .last row of-server in-use, b .same-clock)
+
+    -- The next job of a row number in use is due as the trace says.
+    due-as-next : row < run .table .count + run .table .serving → fromOneTo (costLimit (run .table) row) cost ≡ true
+        → dueNext run row cost ≡ notTooLate (nextDue (run .table) es row cost)
+    due-as-next in-use fits = by-lt row (run .table .count) due-of-row-as-next (λ of-server. due-of-server-as-next of-server in-use fits)
+
+    -- A release is answered as the trace says.
+    pub release-by-the-trace : releaseSays (released run row cost .answer) ≡ releaseAnswer t es row cost
+    release-by-the-trace = rw (← b .same-table) (by-lt row (run .table .count + run .table .serving)
+        (λ in-use. says-by-tests run row cost (nextDue (run .table) es row cost) (b .sound) (b .whole) in-use (due-as-next in-use)
+        ∙ rw (lt-ltb row (run .table .count + run .table .serving) in-use, pending-count, ← b .next-serial))
+        (λ unused. says-no-such-row run row cost (b .sound) (b .whole) unused ∙ rw (le-ltb row (run .table .count + run .table .serving) unused)))
 
   -- A tick is refused only at the clock 2^40, with 10 at place 0.
   pub tick-by-the-trace : (number place : ℕ)

@@ -5,12 +5,14 @@ use mathlib.Core.Path.{_≡_, refl, ap}
 use mathlib.Core.Bool.{true, false}
 use mathlib.Core.List.{List, [], _∷_}
 use native.Mathlib.Omega.{arith}
+use borrow.Author.Tests.{lt-ltb, le-ltb}
 use Rattle.kinds.specs.declared.Tick.{Tick}
 use Rattle.kinds.specs.Numbering.{maxTime, refusalNumber}
 use Rattle.numbers.specs.SpelledNumbers.{Bytes}
 use Rattle.theory.specs.Jobs.{Job}
 use Rattle.theory.specs.Trace.{begin, ServesEarliestDue, NeverIdlesInVain}
-use Rattle.theory.specs.DueTimes.{Next, ByRule}
+use Rattle.theory.specs.DueTimes.{dues, Next, ByRule}
+use Rattle.theory.specs.Servers.{serverDue, lastDue, ByServer}
 use Rattle.theory.specs.Sources.{own}
 use Rattle.theory.proofs.Lists.{all-imply}
 use Rattle.theory.proofs.Trace.{released-by-the-clock}
@@ -26,7 +28,7 @@ use Rattle.jobs.proofs.Changes.{choice-is-first, place-holds-job, put-adds-one,
 use Rattle.run.specs.declared.Run.{Run}
 use Rattle.run.specs.declared.Accepted.{Accepted}
 use Rattle.run.specs.declared.Released.the-variants as answer
-use Rattle.run.specs.Runs.{rowAt, started}
+use Rattle.run.specs.Runs.{rowAt, serverAt, started}
 use Rattle.run.specs.Release.{newJob, withJob, released}
 use Rattle.run.specs.Ticking.{runWith, isTaken, takenTick, idleTick, busyTick, ticked}
 use Rattle.run.specs.History.{GaveDue}
@@ -40,7 +42,7 @@ use Rattle.promise.specs.Link.{Follows, RunsFollowTheTheory}
 use Rattle.promise.proofs.RunAndTrace.{Bridge}
 use Rattle.promise.proofs.Waiting.{follows-refused-release, follows-refused-tick, follows-accepted, follows-taken, follows-idle, follows-ran}
 use Rattle.promise.proofs.Ticks.{no-job-by-a-tick, each-tick}
-use Rattle.promise.proofs.Histories.{duesOf, dues-with, latest-by, by-rule-with}
+use Rattle.promise.proofs.Histories.{duesOf, dues-with, latest-by, by-rule-with, by-server-with}
 
 module _ {t : Table} {run : Run} {es : List Event} (b : Bridge t run es) where
   -- The run is sound, and its arrays have their full lengths.
@@ -62,9 +64,11 @@ module _ {t : Table} {run : Run} {es : List Event} (b : Bridge t run es) where
     distinct = b .distinct;
     names-below = b .names-below;
     rows-in-use = b .rows-in-use;
+    some-cost = b .some-cost;
     follows = follows-refused-release (b .follows) row cost number place;
     keeps-history = b .keeps-history;
     by-rule = b .by-rule;
+    by-server = b .by-server;
   }
 
   -- In this module a release passed its tests, and `due` is its due time.
@@ -87,17 +91,26 @@ module _ {t : Table} {run : Run} {es : List Event} (b : Bridge t run es) where
         let form : WellFormed (run .pending) = record { all-places = b .whole .all-places; in-places = facts run good .few-pending } in
         follows-accepted (b .follows) row cost due (p .some-cost) (b .same-clock) (put-adds-one (run .pending) (newJob run row cost due) form (p .room))
 
-    -- The accepted job comes next in its row by the rule of due times.
-    job-by-rule : (i : ℕ) → row ≡ i → GaveDue run (duesOf (jobsOfTrace es)) row (due .0) next
-        → Next (rowAt t i .x) (rowAt t i .y) (rowAt t i .d) (rowAt t i .c) (own i (jobsOfTrace es)) job
-    job-by-rule i e gave = rw (← e) (record {
-      in-order = latest-by (clockOf es) row (jobsOfTrace es) (released-by-the-clock (b .follows .events));
-      due-by-rule = rw (b .same-table, b .same-clock) at (gave .by-rule);
-      cost-at-most = rw (b .same-table) at (p .allowed);
-    })
+    -- In this part, the due time was given by the rule over all accepted jobs of the row number.
+    module _ (gave : GaveDue run (duesOf (jobsOfTrace es)) row cost (due .0) next) where
+      -- The accepted job of a row comes next in its row by the rule of due times.
+      job-by-rule : (i : ℕ) → i < t .count → row ≡ i
+          → Next (rowAt t i .x) (rowAt t i .y) (rowAt t i .d) (rowAt t i .c) (own i (jobsOfTrace es)) job
+      job-by-rule i h e = let of-row : row < t .count = omega arith in rw (← e) (record {
+        in-order = latest-by (clockOf es) row (jobsOfTrace es) (released-by-the-clock (b .follows .events));
+        due-by-rule = rw (b .same-table, b .same-clock, lt-ltb row (t .count) of-row) at (gave .by-rule);
+        cost-at-most = rw (b .same-table, lt-ltb row (t .count) of-row) at (p .allowed (b .whole));
+      })
+
+      -- The accepted job of a server comes next in its server by the server's rule.
+      job-by-server : (i : ℕ) → t .count ≤ i → row ≡ i
+          → due .0 ≡ serverDue (serverAt t i .a) (serverAt t i .b) (lastDue (dues (own i (jobsOfTrace es)))) (clockOf es) cost
+      job-by-server i l e =
+          let of-server : t .count ≤ row = omega arith in
+          rw (← e) (rw (b .same-table, b .same-clock, le-ltb row (t .count) of-server) at (gave .by-rule))
 
     -- The bridge holds after an accepted release.
-    accepted-keeps : Good next → GaveDue run (duesOf (jobsOfTrace es)) row (due .0) next → Bridge t next longer
+    accepted-keeps : Good next → GaveDue run (duesOf (jobsOfTrace es)) row cost (due .0) next → Bridge t next longer
     unfolding told
     accepted-keeps still gave = record {
       table-in-range = b .table-in-range;
@@ -109,9 +122,14 @@ module _ {t : Table} {run : Run} {es : List Event} (b : Bridge t run es) where
       distinct = (all-imply (λ i h q. omega (arith, b .next-serial)) (jobsOfTrace es) (b .names-below), b .distinct);
       names-below = (omega (arith, b .next-serial), all-imply (λ i h. omega arith) (jobsOfTrace es) (b .names-below));
       rows-in-use = (rw (b .same-table) at (p .in-use), b .rows-in-use);
+      some-cost = (p .some-cost, b .some-cost);
       follows = job-waits;
-      keeps-history = record { newest = λ i h. rw (dues-with job (jobsOfTrace es) i) at (gave .keeps-history .newest i h) };
-      by-rule = λ i h. by-rule-with _ _ _ _ i job (jobsOfTrace es) (λ e. job-by-rule i e gave) (b .by-rule i h);
+      keeps-history = record {
+        newest = λ i h. rw (dues-with job (jobsOfTrace es) i) at (gave .keeps-history .newest i h);
+        last = λ i l h. rw (dues-with job (jobsOfTrace es) i) at (gave .keeps-history .last i l h);
+      };
+      by-rule = λ i h. by-rule-with _ _ _ _ i job (jobsOfTrace es) (job-by-rule gave i h) (b .by-rule i h);
+      by-server = λ i l h. by-server-with _ _ i job (jobsOfTrace es) (job-by-server gave i l) (b .by-server i l h);
     }
 
   -- The bridge holds after a release, whatever its answer is.
@@ -120,7 +138,7 @@ module _ {t : Table} {run : Run} {es : List Event} (b : Bridge t run es) where
   release-keeps-bridge row cost =
       each-release run row cost
       (λ step. Good (step .run)
-      → ((a : Accepted) → step .answer ≡ answer.Accepted a → GaveDue run (duesOf (jobsOfTrace es)) row (a .due .0) (step .run))
+      → ((a : Accepted) → step .answer ≡ answer.Accepted a → GaveDue run (duesOf (jobsOfTrace es)) row cost (a .due .0) (step .run))
       → Bridge t (step .run) (Event.release row cost (releaseSays (step .answer)) ∷ es))
       (λ r still gave. refused-release-keeps row cost (refusalNumber r) 0)
       (λ due p given still gave. accepted-keeps p due still (gave (record { serial = run .next; due = due }) refl))
@@ -129,7 +147,7 @@ module _ {t : Table} {run : Run} {es : List Event} (b : Bridge t run es) where
 
   -- ---- a tick
 
-  -- A tick keeps the bridge, since it accepts no job and leaves the kept due times alone.
+  -- A tick keeps the bridge, since it accepts no job and leaves the kept and last due times alone.
   tick-keeps : (clock : ℕ) (p : Pending) (a : TickSays) (late : ℕ) → Good (runWith run clock p) → clock ≡ clockOf (Event.tick a late ∷ es)
       → Follows (runWith run clock p) (Event.tick a late ∷ es) → Bridge t (runWith run clock p) (Event.tick a late ∷ es)
   tick-keeps clock p a late still same-clock follows = let no-job = no-job-by-a-tick a late es in record {
@@ -142,9 +160,11 @@ module _ {t : Table} {run : Run} {es : List Event} (b : Bridge t run es) where
     distinct = rw no-job (b .distinct);
     names-below = rw no-job (b .names-below);
     rows-in-use = rw no-job (b .rows-in-use);
+    some-cost = rw no-job (b .some-cost);
     follows = follows;
-    keeps-history = record { newest = rw no-job (b .keeps-history .newest) };
+    keeps-history = record { newest = rw no-job (b .keeps-history .newest); last = rw no-job (b .keeps-history .last) };
     by-rule = rw no-job (b .by-rule);
+    by-server = rw no-job (b .by-server);
   }
 
   -- A refused tick keeps the bridge, since it changes nothing.
@@ -201,11 +221,14 @@ table-of-sound run still =
       all-places = still .1 .all-rows;
       rows-in-range = λ i h. in-range-means (rowAt (run .table) i) .1 (sound .rows i h);
       c-within-d = sound .c-within-d;
+      few-servers = sound .few-servers;
+      all-servers = still .1 .all-servers;
+      good-servers = sound .servers;
     }
 
 -- The bridge holds for a run that was just started, before any call.
 pub bridge-of-started : (bytes : List ℕ) → Bytes bytes → Bridge (tableRead bytes .table) (started bytes .run) []
-unfolding told ServesEarliestDue NeverIdlesInVain own ByRule
+unfolding told ServesEarliestDue NeverIdlesInVain own ByRule ByServer
 bridge-of-started bytes fine =
     let still = started-is-sound bytes fine in
     let in-range = table-of-sound (started bytes .run) still in
@@ -219,9 +242,11 @@ bridge-of-started bytes fine =
       distinct = tt;
       names-below = tt;
       rows-in-use = tt;
+      some-cost = tt;
       follows = record { events = begin; earliest-due = tt; never-idle = tt };
-      keeps-history = fresh-has-no-history (tableRead bytes .table) (in-range .few-rows);
+      keeps-history = fresh-has-no-history (tableRead bytes .table) (in-range .few-rows) (in-range .few-servers);
       by-rule = λ i h. tt;
+      by-server = λ i l h. tt;
     }
 
 -- Each call keeps the bridge, so it holds at every point of every trace.

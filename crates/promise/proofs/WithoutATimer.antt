@@ -1,43 +1,30 @@
--- Tables without a timer: the proofs. Where s is 0, the timer's count is 0 in every length and the timer takes no tick. So what was proved with a timer is what
--- would be proved without one. (3.16, 5.14, 6.5)
+-- Tables without a timer: the proofs. Where s is 0, the timer's count is 0 in every length and the timer takes no tick, and without servers their demand is 0.
+-- So what was proved with a timer and servers is what would be proved without them. (3.16, 5.14, 6.5)
 use Prim.Native.Nat.{ℕ}
-use mathlib.Core.Path.{_≡_, refl, sym, ap, fun-ext, subst, _∙_}
-use mathlib.Core.Logic.{_↔_}
+use mathlib.Core.Path.{_≡_, refl, ap, fun-ext, subst, _∙_}
 use mathlib.Core.Bool.{Bool, true, false, cond}
-use mathlib.Core.List.{List, [], _∷_, append-nil}
+use mathlib.Core.List.{List, [], _∷_}
 use native.Mathlib.Omega.{arith}
-use lib.Dec.{ltb, eqb, leb}
-use lib.ListN.{length}
-use lib.Seq.{drop-length}
-use borrow.Author.Tests.{le-ltb}
-use Rattle.kinds.specs.Numbering.{maxTime, values, refusedWith}
+use lib.Dec.{ltb, eqb}
+use Rattle.kinds.specs.Numbering.{maxTime}
 use Rattle.kinds.specs.declared.Refusal.the-variants.{TimeTooLate, RunNotSound}
-use Rattle.kinds.proofs.Apart.{impossible}
 use Rattle.numbers.specs.Spelling as spelling
-use Rattle.theory.specs.Curves.{SmallestFailing}
+use Rattle.theory.specs.Lists.{total}
+use Rattle.theory.specs.Curves.{sumOver}
 use Rattle.theory.specs.Ticks.{timerTakes, noneTaken}
 use Rattle.theory.specs.Trace.{Trace, ServesEarliestDue, NeverIdlesInVain}
-use Rattle.theory.proofs.Cases.{by-test}
-use Rattle.theory.proofs.Curves.{one-smallest-failing, none-where-every-length-fits}
 use Rattle.theory.proofs.Timers.{no-timer}
 use Rattle.table.specs.declared.Row.{Row}
-use Rattle.table.specs.declared.TableRead.{TableRead}
-use Rattle.table.specs.declared.TableAnswer.the-variants as answer
-use Rattle.table.specs.Limits.{maxPeriod}
-use Rattle.table.specs.Content.{Content, rowsAlone}
-use Rattle.table.specs.Period.{periodOf}
-use Rattle.table.specs.Tables.{contentOf, atEnd, tableRead}
-use Rattle.table.specs.SpelledTables.{GoodRows, spelledRows, spelledTable}
-use Rattle.table.specs.Answers.{tableSays}
-use Rattle.table.specs.Refusals.{ContentEnds}
+use Rattle.table.specs.Content.{Content}
+use Rattle.table.specs.Timer.{GoodTimer}
+use Rattle.table.specs.Tables.{serversOf, tableRead}
+use Rattle.table.specs.SpelledTables.{spelledTable}
 use Rattle.table.proofs.Answers.{said-accepted}
-use Rattle.table.proofs.Ranges.{limits-of}
-use Rattle.table.proofs.SpelledTables.{content-of-table, content-then}
-use Rattle.table.proofs.SpelledTables as tables
+use Rattle.table.proofs.SpelledTables.{rows-alone-are-spelled}
 use Rattle.table.proofs.TableAnswers.{accepted-is-spelled}
 use Rattle.verdict.specs.declared.Verdict.{Verdict}
-use Rattle.verdict.specs.declared.Verdict.the-variants as verdict
-use Rattle.verdict.specs.Verdict.{RightFor, Judged, verdictSays}
+use Rattle.verdict.specs.Demand.{serverDemandOf}
+use Rattle.verdict.specs.Verdict.{RightFor, Judged}
 use Rattle.verdict.specs.RowsAlone.{demandOfRows}
 use Rattle.verdict.proofs.RowsAlone.{judged-by-rows-alone}
 use Rattle.run.specs.declared.Run.{Run}
@@ -54,8 +41,9 @@ use Rattle.promise.specs.WithoutATimer.{NoTickIsTaken, EveryTickIsFree, 
 use Rattle.promise.specs.WithoutATimer.{SpelledSaysRowsAlone}
 use Rattle.promise.proofs.RunsFollow.{bridge, runs-follow-the-theory}
 use Rattle.promise.proofs.Replays.{replays-are-traces}
-use Rattle.promise.proofs.NoOrder.{says-overloaded, no-order}
-use Rattle.promise.proofs.Paper.{feasible-means, feasible-is-theorem42}
+use Rattle.promise.proofs.NoOrder.{no-order}
+use Rattle.promise.proofs.Paper.{feasible-means, overloaded-means, feasible-is-theorem42}
+use Rattle.promise.proofs.WithoutServers.{spelled-says-no-servers}
 
 -- ---- the table
 
@@ -72,6 +60,11 @@ module _ {bytes : List ℕ} {rows : List Row} (says : SaysRowsAlone bytes rows) 
   none-taken : takenOn (tableRead bytes .table) ≡ noneTaken
   none-taken = fun-ext (λ t. rw no-s (no-timer (tableRead bytes .table .p) .0 t))
 
+  -- No servers have a demand of 0 in every length.
+  no-server-asks : (L : ℕ) → sumOver serverDemandOf (serversOf (tableRead bytes .table)) L ≡ 0
+  unfolding total
+  no-server-asks L = ap (λ (content : Content). sumOver serverDemandOf (content .servers) L) (says .alone)
+
   -- A verdict that is right for the bytes is right for the sum of the rows' demands.
   right-for-rows : (v : Verdict) → Judged bytes v → RightFor (demandOfRows rows) v
   right-for-rows v =
@@ -79,24 +72,12 @@ module _ {bytes : List ℕ} {rows : List Row} (says : SaysRowsAlone bytes rows) 
 
 pub spelled-as-before : SpelledAsBefore
 spelled-as-before bytes fine rows says =
-    accepted-is-spelled bytes (says .period) fine (says .accepted) .spelled ∙ ap spelledTable (says .alone) ∙ tables.rows-alone-are-spelled rows
+    accepted-is-spelled bytes (says .period) fine (says .accepted) .spelled ∙ ap spelledTable (says .alone) ∙ rows-alone-are-spelled rows
 
 -- ---- the verdict
 
 pub feasible-by-rows-alone : FeasibleByRowsAlone
 feasible-by-rows-alone bytes rows says v judged = feasible-means (demandOfRows rows) v (right-for-rows says v judged)
-
--- A right verdict for a demand says overloaded with a length and its demand exactly when this is the smallest length that fails.
-overloaded-means : (f : ℕ → ℕ) (v : Verdict) → RightFor f v → (L units : ℕ)
-    → (verdictSays v ≡ record { number = 21; first = L; second = units }) ↔ (SmallestFailing f L × (units ≡ f L))
-overloaded-means f v right L units = (λ said. rw (says-overloaded v L units said) at right, from v right)
-  where
-    from : (w : Verdict) → RightFor f w → SmallestFailing f L × (units ≡ f L) → verdictSays w ≡ record { number = 21; first = L; second = units }
-    from verdict.Feasible fits found = absurd (none-where-every-length-fits f L fits (found .0))
-    from (verdict.Overloaded w) right found =
-        let same = one-smallest-failing f (w .length) L (right .0) (found .0) in
-        rw (right .1, same, found .1)
-    from (verdict.Refused r) right found = absurd right
 
 pub overloaded-by-rows-alone : OverloadedByRowsAlone
 overloaded-by-rows-alone bytes rows says v judged = overloaded-means (demandOfRows rows) v (right-for-rows says v judged)
@@ -105,7 +86,7 @@ pub feasible-is-the-papers : FeasibleIsThePapers
 feasible-is-the-papers bytes fine rows says v judged =
     let timed = feasible-is-theorem42 bytes fine (says .period) (says .accepted) v judged in (
       (λ said L some. omega (arith, timed .0 said L some)),
-      (λ fits. timed .1 (λ L some. omega (arith, fits L some, takes-nothing says L))),
+      (λ fits. timed .1 (λ L some. omega (arith, fits L some, no-server-asks says L, takes-nothing says L))),
     )
 
 -- ---- the run
@@ -173,39 +154,9 @@ no-order-on-any-tick bytes fine rows says v judged L demand said who =
 
 -- ---- such tables exist
 
--- In `00 01` and the spelling of good rows, these rows and their timer end with the bytes.
-rows-end-with-the-bytes : (rows : List Row) → GoodRows rows
-    → ContentEnds (0x00 ∷ 0x01 ∷ spelledRows rows) (length (0x00 ∷ 0x01 ∷ spelledRows rows)) (rowsAlone rows)
-unfolding spelling.groupsOf
-rows-end-with-the-bytes rows good = record {
-  from = 2;
-  timer = record {
-    good-timer = record { some-p = omega arith; most-p = omega arith; s-below-p = omega arith };
-    before = record { here = refl; ends = refl };
-  };
-  its-rows = record {
-    few-rows = good .few-rows;
-    rows-acceptable = λ r m. record { within-limits = limits-of r (good .in-range r m); c-within-d = good .c-within-d r m };
-    before = record { here = rw (drop-length, append-nil); ends = omega arith };
-  };
-}
-
--- What is said of an accepted table is not said of a refused one.
-not-accepted-and-refused : (period number place : ℕ) → ¬ (values (period ∷ []) ≡ refusedWith number place)
-not-accepted-and-refused period number place e = impossible cc
-
 pub spelled-says-rows-alone : SpelledSaysRowsAlone
+unfolding spelling.groupsOf
 spelled-says-rows-alone rows period good says =
-    let s : List ℕ = 0x00 ∷ 0x01 ∷ spelledRows rows in
-    let read : tableRead s ≡ atEnd s (rowsAlone rows) (length s) = content-then (rows-end-with-the-bytes rows good) in
-    let nothing-after : ltb (length s) (length s) ≡ false = le-ltb (length s) (length s) (omega arith) in
-    record {
-      period = period;
-      accepted = says;
-      alone = by-test (leb (periodOf (rowsAlone rows)) maxPeriod)
-          (λ short. ap (λ (t : TableRead). contentOf (t .table)) read ∙ rw (nothing-after, short) (content-of-table (rowsAlone rows)))
-          (λ long.
-          let refused : tableSays (tableRead s .answer) ≡ refusedWith 5 (length s) =
-          ap (λ (t : TableRead). tableSays (t .answer)) read ∙ rw (nothing-after, long) in
-          absurd (not-accepted-and-refused period 5 (length s) (sym says ∙ refused)));
-    }
+    let takes-none : GoodTimer 0 1 = record { some-p = omega arith; most-p = omega arith; s-below-p = omega arith } in
+    let without = spelled-says-no-servers 0 1 rows period takes-none good says in
+    record { period = without .period; accepted = without .accepted; alone = without .none }

@@ -1,6 +1,7 @@
--- The promises at work. The first instance is a feasible table of two rows, with a trace of releases, refusals and ticks to which *In time* and *Share* apply.
--- The second is an overloaded table, with the jobs that its witness names. The third is a feasible table with a timer, and the fourth a table on which a job
--- becomes late in a taken tick. This page promises nothing new: it shows that the promises are not empty.
+-- The promises at work. The first instance is a feasible table of two rows, with a trace of releases, refusals and ticks to which *In time* and *Share*
+-- apply. The second is an overloaded table, with the jobs that its witness names. The third is a feasible table with a timer, the fourth a table on which a
+-- job becomes late in a taken tick, the fifth a feasible table with a server, and the last two are what a witness names of servers. This page promises
+-- nothing new: it shows that the promises are not empty.
 use Prim.Native.Nat.{ℕ, zero, suc, _+_}
 use mathlib.Core.Path.{_≡_}
 use mathlib.Core.Bool.{true, false}
@@ -14,7 +15,7 @@ use Rattle.promise.specs.Traces.{Call, Event, trace, clockOf, jobsOfTrac
 use Rattle.promise.specs.Share.{costsIn, consumedIn}
 use Rattle.promise.specs.Link.{takenOn}
 use Rattle.promise.specs.NoOrder.{namedJobs, Serves}
-use Rattle.promise.specs.Examples.{v3, v4, t6}
+use Rattle.promise.specs.Examples.{v3, v4, t6, s4}
 
 -- The calls on V3 are a release of each row, two releases that are refused, four ticks, one more release, and four ticks. Like every list of calls they stand
 -- newest first.
@@ -99,7 +100,7 @@ SomebodyServesT6Later = Serves (takenOn (tableRead t6 .table)) (λ t. some 0) (j
 
 -- The table of R2 has s = 1 and p = 4, and the rows (1, 8, 6, 2) and (1, 8, 8, 3). (8.19)
 abbrev pub r2 : List ℕ
-r2 = 0x01 ∷ 0x04 ∷ 0x02 ∷ 0x01 ∷ 0x08 ∷ 0x06 ∷ 0x02 ∷ 0x01 ∷ 0x08 ∷ 0x08 ∷ 0x03 ∷ []
+r2 = 0x01 ∷ 0x04 ∷ 0x02 ∷ 0x01 ∷ 0x08 ∷ 0x06 ∷ 0x02 ∷ 0x01 ∷ 0x08 ∷ 0x08 ∷ 0x03 ∷ 0x00 ∷ []
 
 -- The calls on the table of R2 are a release of each row and eight ticks, newest first.
 abbrev pub timedCalls : List Call
@@ -122,7 +123,7 @@ TimedInTime = (unitsOf 0 (trace r2 timedCalls) ≡ 2) × (unitsOf 1 (trace r2 ti
 
 -- This table has s = 2 and p = 4, and the row (1, 4, 5, 3). It is overloaded.
 abbrev pub dueInATakenStretch : List ℕ
-dueInATakenStretch = 0x02 ∷ 0x04 ∷ 0x01 ∷ 0x01 ∷ 0x04 ∷ 0x05 ∷ 0x03 ∷ []
+dueInATakenStretch = 0x02 ∷ 0x04 ∷ 0x01 ∷ 0x01 ∷ 0x04 ∷ 0x05 ∷ 0x03 ∷ 0x00 ∷ []
 
 -- The calls on that table are a release and seven ticks, newest first.
 abbrev pub lateCalls : List Call
@@ -138,3 +139,55 @@ LateInATakenTick = trace dueInATakenStretch lateCalls
     ∷ Event.tick (ran 0 false) 0 ∷ Event.tick (ran 0 false) 0 ∷ Event.tick taken 0 ∷ Event.tick taken 0
     ∷ Event.release 0 3 (accepted 0 5)
     ∷ []
+
+-- ---- with servers
+
+-- The table of R3 has the row (1, 4, 4, 2) and the server (1, 4). The server has the row number 1. (8.20)
+abbrev pub r3 : List ℕ
+r3 = 0x00 ∷ 0x01 ∷ 0x01 ∷ 0x01 ∷ 0x04 ∷ 0x04 ∷ 0x02 ∷ 0x01 ∷ 0x01 ∷ 0x04 ∷ []
+
+-- The calls on the table of R3, newest first, are a release of the row and one of the server, a tick, an odd job of a cost that none may have, a row number
+-- that is not in use, one more odd job, and four ticks.
+abbrev pub oddCalls : List Call
+oddCalls =
+    Call.tick ∷ Call.tick ∷ Call.tick ∷ Call.tick
+    ∷ Call.release 1 2 ∷ Call.release 2 1 ∷ Call.release 1 4097
+    ∷ Call.tick
+    ∷ Call.release 1 1 ∷ Call.release 0 2
+    ∷ []
+
+-- The second odd job is released at 1, when the server's last due time is 4. So it is due at 4 + 8, and the refused one in between counts for nothing. (4.9,
+-- 8.20)
+abbrev pub OddAnswers : Type 0
+OddAnswers = trace r3 oddCalls
+    ≡ Event.tick (ran 2 true) 0 ∷ Event.tick (ran 2 false) 0 ∷ Event.tick (ran 1 true) 0 ∷ Event.tick (ran 0 true) 0
+    ∷ Event.release 1 2 (accepted 2 12) ∷ Event.release 2 1 (says.ReleaseSays.refused 6 0) ∷ Event.release 1 4097 (says.ReleaseSays.refused 7 0)
+    ∷ Event.tick (ran 0 false) 0
+    ∷ Event.release 1 1 (accepted 1 4) ∷ Event.release 0 2 (accepted 0 4)
+    ∷ []
+
+-- In the window from 0 to 12 the two odd jobs consume all of the server's demand, floor(12 / 4) = 3. *Share* allows no more. (5.12, 5.16)
+abbrev pub OddShareIsReached : Type 0
+OddShareIsReached = (costsIn 0 12 1 (trace r3 oddCalls) ≡ 3) × (consumedIn 0 12 1 (trace r3 oddCalls) ≡ 3)
+
+-- The witness of S4 has length 12 and demand 13. It names five jobs of the rows, and one odd job of cost 1, which is due at 12. (5.17, 5.19)
+abbrev pub NamedByS4 : Type 0
+NamedByS4 = namedJobs (tableRead s4 .table) 12
+    ≡ job 2 0 0 12 2 ∷ job 1 0 0 8 2 ∷ job 0 0 0 4 2 ∷ job 4 1 0 12 3 ∷ job 3 1 0 6 3 ∷ job 5 2 0 12 1 ∷ []
+
+-- Nobody can serve these jobs: they cost 13 units in 12 ticks. (5.11)
+abbrev pub NobodyServesS4 : Type 0
+NobodyServesS4 = (who : ℕ → Option ℕ) → ¬ Serves (takenOn (tableRead s4 .table)) who
+    (job 2 0 0 12 2 ∷ job 1 0 0 8 2 ∷ job 0 0 0 4 2 ∷ job 4 1 0 12 3 ∷ job 3 1 0 6 3 ∷ job 5 2 0 12 1 ∷ [])
+
+-- This table has the row (1, 1, 5000, 1) and the servers (1, 1) and (1, 4096). In 5,000 ticks its demand is 1 + 5000 + 1.
+abbrev pub longOddJobs : List ℕ
+longOddJobs = 0x00 ∷ 0x01 ∷ 0x01 ∷ 0x01 ∷ 0x01 ∷ 0x88 ∷ 0x27 ∷ 0x01 ∷ 0x02 ∷ 0x01 ∷ 0x01 ∷ 0x01 ∷ 0x80 ∷ 0x20 ∷ []
+
+-- A length of 5,000 names one job of the row, one odd job of 5,000 units, which is more than any release may ask for, and one of a single unit. (5.17)
+abbrev pub NamedPastTheLimit : Type 0
+NamedPastTheLimit = namedJobs (tableRead longOddJobs .table) 5000 ≡ job 0 0 0 5000 1 ∷ job 1 1 0 5000 5000 ∷ job 2 2 0 4096 1 ∷ []
+
+-- A length of 4,000 names an odd job of the first server alone: neither the row nor the second server has any demand in it. (5.17)
+abbrev pub NamedNoneOfZero : Type 0
+NamedNoneOfZero = namedJobs (tableRead longOddJobs .table) 4000 ≡ job 0 1 0 4000 4000 ∷ []

@@ -1,5 +1,6 @@
 pub mod Traces
 pub mod Link
+pub mod Sources
 pub mod InTime
 pub mod Choice
 pub mod Refusals
@@ -16,3 +17,4 @@ pub mod Cheats
 pub mod BadByte
 pub mod HopelessRows
 pub mod WithoutATimer
+pub mod WithoutServers

@@ -1,12 +1,14 @@
 -- No order. On a table that `judge` finds overloaded, the witness of length L names, of each row with d ≤ L, its first (floor((L − d)/y) + 1) · x jobs, all
--- released at zero and at full cost. It names them all, however many places they would need in a run. They can't be run in time in any order by anybody:
--- whoever tries has only the ticks that the timer leaves free, counted from zero. (1.20, 5.10, 5.11)
+-- released at zero and at full cost, and of each server one odd job of cost floor(a · L / b), where that is not 0, released at zero. It names them all, however
+-- many places they would need in a run, and however far above 4,096 the cost of an odd job is. They can't be run in time in any order by anybody: whoever tries
+-- has only the ticks that the timer leaves free, counted from zero. (1.20, 5.10, 5.11, 5.17)
 use Prim.Native.Nat.{ℕ, zero, suc, _+_, _≤_, _<_}
 use mathlib.Core.Path.{_≡_}
 use mathlib.Core.Logic.{_↔_}
 use mathlib.Core.Bool.{Bool, false, cond}
 use mathlib.Core.Option.{Option, some}
 use mathlib.Core.List.{List, [], _∷_, flatten}
+use lib.Dec.{eqb}
 use lib.ListN.{length}
 use Rattle.kinds.specs.Numbering.{maxTime}
 use Rattle.kinds.specs.declared.Tick.{Tick}
@@ -15,16 +17,20 @@ use Rattle.theory.specs.Lists.{All}
 use Rattle.theory.specs.Jobs.{Job}
 use Rattle.theory.specs.Ticks.{had}
 use Rattle.theory.specs.Demand.{rowJobs}
+use Rattle.theory.specs.Servers.{longestOdd}
 use Rattle.theory.specs.Sources.{inTurn}
 use Rattle.table.specs.declared.Row.{Row}
+use Rattle.table.specs.declared.Server.{Server}
 use Rattle.table.specs.declared.Table.{Table}
-use Rattle.table.specs.Tables.{rowsOf, tableRead}
+use Rattle.table.specs.Tables.{tableRead}
 use Rattle.due.specs.declared.Kept.{Kept}
 use Rattle.due.specs.declared.Due.{Due}
 use Rattle.due.specs.declared.Due.the-variants as due
 use Rattle.due.specs.Kept.{nothingKept, dueOf, keptWith}
 use Rattle.verdict.specs.declared.Verdict.{Verdict}
+use Rattle.verdict.specs.Demand.{serverDemandOf}
 use Rattle.verdict.specs.Verdict.{Judged, verdictSays}
+use Rattle.promise.specs.Sources.{Source, sourcesOf}
 use Rattle.promise.specs.Link.{takenOn}
 
 -- ---- the jobs that a witness names
@@ -46,10 +52,20 @@ firstJobs source first r zero = []
 firstJobs source first r (suc n) =
     record { name = first + n; source = source; release = 0; due = dueAt (dueOf (keptAfter r n) r 0 (r .c)) .0; cost = r .c } ∷ firstJobs source first r n
 
--- A length L names, of each row with d ≤ L, its first (floor((L − d)/y) + 1) · x jobs. `rowJobs` is that number, and it is 0 where L is below d. No two of the
--- jobs have the same name. (5.10)
+-- `oddJobs` lists the one odd job of a server that a length L names: released at zero as the server's first, of cost floor(a · L / b), and due by the server's
+-- rule. Where that cost is 0, there is none. (5.17)
+abbrev pub oddJobs : (L source first : ℕ) → Server → List Job
+oddJobs L source first v = cond (eqb (serverDemandOf v L) 0) [] (longestOdd (v .a) (v .b) source first L ∷ [])
+
+-- A length L names, of each row with d ≤ L, its first (floor((L − d)/y) + 1) · x jobs. `rowJobs` is that number, and it is 0 where L is below d. Of a server it
+-- names the odd job of `oddJobs`. (5.10, 5.17)
+abbrev pub jobsNamed : (L source first : ℕ) → Source → List Job
+jobsNamed L source first (Source.row r) = firstJobs source first r (rowJobs (r .x) (r .y) (r .d) L)
+jobsNamed L source first (Source.server v) = oddJobs L source first v
+
+-- The jobs of all sources of a table that a length L names. No two of them have the same name. (5.10, 5.17)
 abbrev pub namedJobs : Table → (L : ℕ) → List Job
-namedJobs t L = flatten (inTurn (λ source first r. firstJobs source first r (rowJobs (r .x) (r .y) (r .d) L)) 0 0 (rowsOf t))
+namedJobs t L = flatten (inTurn (jobsNamed L) 0 0 (sourcesOf t))
 
 -- ---- anybody's order
 

@@ -1,6 +1,6 @@
 -- Refused exactly when. This page says what each release and each tick is answered, in terms of the table and of the answers before it. A release gets 6 or 7
--- by the table. It gets 8 where as many accepted jobs are unfinished as there are places, and 9 where the paper's due time over the row's accepted jobs is
--- above 2^40. A tick gets 10 after 2^40 ticks. No call gets 11. A refused call changes nothing. (1.18, 6.8, 6.16, 6.18, 6.25)
+-- by the table. It gets 8 where as many accepted jobs are unfinished as there are places, and 9 where the due time by the rules over the accepted jobs
+-- of the row or server is above 2^40. A tick gets 10 after 2^40 ticks. No call gets 11. A refused call changes nothing. (1.18, 6.8, 6.16, 6.18, 6.25)
 use Prim.Native.Nat.{ℕ, _≤_}
 use mathlib.Core.Path.{_≡_}
 use mathlib.Core.Logic.{_↔_}
@@ -10,23 +10,24 @@ use lib.Dec.{leb, ltb}
 use lib.ListN.{length}
 use Rattle.kinds.specs.Numbering.{maxTime}
 use Rattle.numbers.specs.SpelledNumbers.{Bytes}
-use Rattle.theory.specs.DueTimes.{dueTime, dues}
+use Rattle.theory.specs.DueTimes.{dues}
 use Rattle.theory.specs.Sources.{own}
 use Rattle.table.specs.declared.Table.{Table}
 use Rattle.table.specs.Rows.{fromOneTo}
 use Rattle.table.specs.Tables.{tableRead}
 use Rattle.jobs.specs.Places.{maxPlaces}
-use Rattle.run.specs.Runs.{rowInUse, rowAt, costLimit}
+use Rattle.run.specs.Runs.{rowInUse, costLimit}
 use Rattle.run.specs.Release.{released}
 use Rattle.run.specs.Answers.{ReleaseSays, accepted, releaseSays}
 use Rattle.run.specs.Answers as says
 use Rattle.promise.specs.Traces.{Call, Event, runAt, eventOf, trace, Told, tell, clockOf, jobsOfTrace, unfinishedIn}
 use Rattle.promise.specs.Choice.{nextTick}
+use Rattle.promise.specs.Sources.{sourceAt, sourceDue}
 
--- `nextDue` is the due time of the row's next job, released at the clock, by the paper's recurrence over the jobs of the row that were accepted so far.
--- (4.2, 4.3)
-abbrev pub nextDue : Table → List Event → (row : ℕ) → ℕ
-nextDue t es row = let r = rowAt t row in dueTime (r .x) (r .y) (r .d) (dues (own row (jobsOfTrace es))) (clockOf es)
+-- `nextDue` is the due time of the row number's next job, released at the clock, by the rules over its jobs that were accepted so far: for a row by the paper's
+-- recurrence, and for a server by its last due time and the cost. (4.2, 4.3, 4.9)
+abbrev pub nextDue : Table → List Event → (row cost : ℕ) → ℕ
+nextDue t es row cost = sourceDue (sourceAt t row) (dues (own row (jobsOfTrace es))) (clockOf es) cost
 
 -- `releaseAnswer` makes the tests of a release in their order: 6, 7, 8, 9. Where none refuses, it answers the next serial and the due time. (6.6, 6.8)
 abbrev pub releaseAnswer : Table → List Event → (row cost : ℕ) → ReleaseSays
@@ -34,7 +35,7 @@ releaseAnswer t es row cost =
     cond (rowInUse t row)
     (cond (fromOneTo (costLimit t row) cost)
     (cond (ltb (unfinishedIn es) maxPlaces)
-    (cond (leb (nextDue t es row) maxTime) (accepted (length (jobsOfTrace es)) (nextDue t es row)) (says.ReleaseSays.refused 9 0))
+    (cond (leb (nextDue t es row cost) maxTime) (accepted (length (jobsOfTrace es)) (nextDue t es row cost)) (says.ReleaseSays.refused 9 0))
     (says.ReleaseSays.refused 8 0))
     (says.ReleaseSays.refused 7 0))
     (says.ReleaseSays.refused 6 0)

@@ -1,7 +1,7 @@
 -- A replay is a trace. A replay of a script does what a run does after a list of calls: for each record as many ticks as its gap and then its release, and
 -- after the last record single ticks. So whatever is promised about traces is promised about replays. At the host: where a table is found feasible and a replay
 -- with it ends in 22, each job of the script has had its cost by its due time. (1.20, 8.2, 8.3)
-use Prim.Native.Nat.{ℕ, zero, suc, _-_, _≤_, _<_}
+use Prim.Native.Nat.{ℕ, zero, suc, _+_, _-_, _≤_, _<_}
 use mathlib.Core.Path.{_≡_}
 use mathlib.Core.List.{List, [], _∷_, _++_, map, reverse, List·Memᴰ}
 use lib.ListN.{length, drop}
@@ -9,8 +9,6 @@ use Rattle.numbers.specs.SpelledNumbers.{Bytes}
 use Rattle.theory.specs.Lists.{All}
 use Rattle.theory.specs.Jobs.{Job}
 use Rattle.table.specs.Tables.{tableRead}
-use Rattle.verdict.specs.Demand.{rowDemandOf}
-use Rattle.run.specs.Runs.{rowAt}
 use Rattle.script.specs.declared.Record.{Record}
 use Rattle.script.specs.SpelledScripts.{Reads}
 use Rattle.log.specs.SpelledLogs.{spelledLog}
@@ -20,6 +18,7 @@ use Rattle.host.specs.Answer.{VerdictAnswered}
 use Rattle.host.specs.Buffers.{ReplayLeaves}
 use Rattle.promise.specs.Traces.{Call, runAt, trace, jobsOfTrace, lateIn, finishesIn, unfinishedIn}
 use Rattle.promise.specs.Link.{jobOf}
+use Rattle.promise.specs.Sources.{sourceAt, sourceDemand}
 use Rattle.promise.specs.InTime.{unitsOfTraceBefore}
 use Rattle.promise.specs.Refusals.{Refused}
 use Rattle.promise.specs.Share.{costsIn, consumedIn}
@@ -71,9 +70,9 @@ pub record ServedInTime (table script log left : List ℕ) : Type 0 where
   pub one-job-each : length (jobsOfTrace (trace table (callsOf records final))) ≡ length records
   pub had-in-time : (j : Job) → List·Memᴰ j (jobsOfTrace (trace table (callsOf records final)))
       → unitsOfTraceBefore (j .due) (j .name) (trace table (callsOf records final)) ≡ j .cost
-  pub share : (row : ℕ) → row < tableRead table .table .count → (a b : ℕ) → a ≤ b
-      → (costsIn a b row (trace table (callsOf records final)) ≤ rowDemandOf (rowAt (tableRead table .table) row) (b - a))
-      × (consumedIn a b row (trace table (callsOf records final)) ≤ rowDemandOf (rowAt (tableRead table .table) row) (b - a))
+  pub share : (row : ℕ) → row < tableRead table .table .count + tableRead table .table .serving → (a b : ℕ) → a ≤ b
+      → (costsIn a b row (trace table (callsOf records final)) ≤ sourceDemand (sourceAt (tableRead table .table) row) (b - a))
+      × (consumedIn a b row (trace table (callsOf records final)) ≤ sourceDemand (sourceAt (tableRead table .table) row) (b - a))
   pub its-log : let spelled = spelledLog (finishesIn (trace table (callsOf records final))) in left ≡ spelled ++ drop (length spelled) log
 
 -- Where `verdict` returns 20 for a table, and `replay` with this table returns 22, the script was served in time. (1.20, 9.5)

@@ -1,12 +1,12 @@
--- Tables without a timer. Where s is 0 and p is 1, the table is its rows alone, as it was before there were timers. Its verdict is what the rows alone say, no
--- tick is ever taken, and every trace and every replay is what it is where every tick is free. So whoever trusted a table keeps all that was promised for it:
--- `00 01` is put in front of its bytes, and nothing else changes. (3.16, 5.14, 6.5)
+-- Tables without a timer. Where s is 0 and p is 1 and there are no servers, the table is its rows alone, as it was before there were timers and servers. Its
+-- verdict is what the rows alone say, no tick is ever taken, and every trace and every replay is what it is where every tick is free. So whoever trusted a
+-- table keeps all that was promised for it: `00 01` is put in front of its bytes and `00` after them, and nothing else changes. (3.16, 5.14, 6.5)
 use Prim.Native.Nat.{ℕ, _≤_}
 use mathlib.Core.Path.{_≡_}
 use mathlib.Core.Logic.{_↔_, _≢_}
 use mathlib.Core.Bool.{cond}
 use mathlib.Core.Option.{Option}
-use mathlib.Core.List.{List, [], _∷_}
+use mathlib.Core.List.{List, [], _∷_, _++_}
 use lib.Dec.{ltb}
 use Rattle.kinds.specs.Numbering.{values, maxTime}
 use Rattle.kinds.specs.declared.Refusal.the-variants.{TimeTooLate}
@@ -32,15 +32,15 @@ use Rattle.promise.specs.Paper.{paperSum}
 use Rattle.promise.specs.NoOrder.{namedJobs, Serves}
 use Rattle.promise.specs.Replays.{callsOf, IsTheTrace}
 
--- The bytes are accepted, and say these rows alone: s is 0 and p is 1. (3.6, 3.16)
+-- The bytes are accepted, and say these rows alone: s is 0, p is 1, and there are no servers. (3.6, 3.16)
 pub record SaysRowsAlone (bytes : List ℕ) (rows : List Row) : Type 0 where
   pub period : ℕ
   pub accepted : tableSays (tableRead bytes .answer) ≡ values (period ∷ [])
   pub alone : contentOf (tableRead bytes .table) ≡ rowsAlone rows
 
--- Bytes that say rows alone are `00 01`, and then the spelling of the rows, which is as it was. (3.6)
+-- Bytes that say rows alone are `00 01`, then the spelling of the rows, which is as it was, and then `00` for no servers. (3.6)
 abbrev pub SpelledAsBefore : Type 0
-SpelledAsBefore = (bytes : List ℕ) → Bytes bytes → (rows : List Row) → SaysRowsAlone bytes rows → bytes ≡ 0x00 ∷ 0x01 ∷ spelledRows rows
+SpelledAsBefore = (bytes : List ℕ) → Bytes bytes → (rows : List Row) → SaysRowsAlone bytes rows → bytes ≡ 0x00 ∷ 0x01 ∷ (spelledRows rows ++ (0x00 ∷ []))
 
 -- ---- the verdict
 
@@ -92,7 +92,9 @@ NoOrderOnAnyTick = (bytes : List ℕ) → Bytes bytes → (rows : List Row) → 
     → (L demand : ℕ) → verdictSays v ≡ record { number = 21; first = L; second = demand } → (who : ℕ → Option ℕ)
     → ¬ Serves noneTaken who (namedJobs (tableRead bytes .table) L)
 
--- Such tables exist: of rows that a table may have, the bytes `00 01` and the spelling of the rows say these rows alone wherever they are accepted. (3.6)
+-- Such tables exist: of rows that a table may have, the bytes `00 01`, the spelling of the rows and the byte `00` say these rows alone wherever they are
+-- accepted. (3.6)
 abbrev pub SpelledSaysRowsAlone : Type 0
 SpelledSaysRowsAlone = (rows : List Row) (period : ℕ) → GoodRows rows
-    → tableSays (tableRead (0x00 ∷ 0x01 ∷ spelledRows rows) .answer) ≡ values (period ∷ []) → SaysRowsAlone (0x00 ∷ 0x01 ∷ spelledRows rows) rows
+    → let bytes : List ℕ = 0x00 ∷ 0x01 ∷ (spelledRows rows ++ (0x00 ∷ [])) in
+    tableSays (tableRead bytes .answer) ≡ values (period ∷ []) → SaysRowsAlone bytes rows

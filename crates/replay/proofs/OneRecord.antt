@@ -11,7 +11,6 @@ use Rattle.theory.proofs.Cases.{by-test}
 use Rattle.kinds.specs.Numbering.{maxTime}
 use Rattle.kinds.specs.declared.Tick.{Tick}
 use Rattle.due.specs.declared.Due.the-variants as due
-use Rattle.due.specs.Kept.{dueOf}
 use Rattle.jobs.specs.declared.Job.{Job}
 use Rattle.jobs.specs.Places.{noJob, jobsOf}
 use Rattle.jobs.specs.Late.{lateCount}
@@ -23,9 +22,8 @@ use Rattle.columns.proofs.Holding.{put-in-holds}
 use Rattle.columns.proofs.Ordered.{put-keeps-order, put-keeps-jobs, same-are-among}
 use Rattle.run.specs.declared.Released.the-variants as release
 use Rattle.run.specs.declared.ReleaseStep.{ReleaseStep}
-use Rattle.run.specs.Runs.{rowAt, keptOf}
 use Rattle.run.specs.Ticking.{runWith, isTaken}
-use Rattle.run.specs.Release.{newJob, withJob, released}
+use Rattle.run.specs.Release.{newJob, withJob, dueNext, released}
 use Rattle.run.specs.ManyTicks.{SoFar, oneMore, ticks, ticksWhilePending}
 use Rattle.run.proofs.Release.{Passed, due-settles}
 use Rattle.run.proofs.Ticking.{Good, facts, tick-taken, tick-idle, idle-keeps, tick-keeps-good}
@@ -108,7 +106,7 @@ module _ {s : SoFar} {log₀ : List ℕ} {h : TickArrays} (w : ArraysHoldRun s l
 -- ---- a release
 
 module _ {s : SoFar} {log₀ : List ℕ} {h : TickArrays} (w : ArraysHoldRun s log₀ h) {row cost : ℕ} (p : Passed (s .run) row cost) {t : Tick}
-    (given : dueOf (keptOf (s .run) row) (rowAt (s .run .table) row) (s .run .clock .0) cost ≡ due.At t) where
+    (given : dueNext (s .run) row cost ≡ due.At t) where
   -- A release that no test refused is accepted with its due time.
   pub release-accepted : released (s .run) row cost
       ≡ record { run = withJob (s .run) row cost t; answer = release.Accepted (record { serial = s .run .next; due = t }) }

@@ -37,6 +37,7 @@ ticks-on a b = record {
   same-table = b .same-table ∙ a .same-table;
   same-next = b .same-next ∙ a .same-next;
   same-kept = b .same-kept ∙ a .same-kept;
+  same-last = b .same-last ∙ a .same-last;
   conserved = b .conserved ∙ a .conserved;
   in-range = λ r. b .in-range (a .in-range r);
 }

@@ -3,23 +3,26 @@
 use Prim.Native.Nat.{ℕ, _+_, _-_, _^_, _≤_, _<_}
 use mathlib.Core.Path.{_≡_}
 use mathlib.Core.Bool.{true, false, cond}
-use mathlib.Core.List.{List, _++_}
-use lib.ListN.{length, take, drop}
+use mathlib.Core.List.{List, _++_, map}
+use lib.ListN.{length, take, drop, set}
 use Rattle.kinds.specs.Numbering.{maxTime}
 use Rattle.kinds.specs.declared.Finish.{Finish}
 use Rattle.numbers.specs.declared.Written.{Written}
 use Rattle.numbers.specs.declared.Written.the-variants as written
-use Rattle.table.specs.declared.Row.{Row}
+use Rattle.table.specs.declared.Table.{Table}
 use Rattle.table.specs.declared.CostAnswer.the-variants as cost
 use Rattle.table.specs.Costs.{costLimits, limitOf, costAnswer}
+use Rattle.table.specs.Limits.{maxServers}
+use Rattle.due.specs.declared.Due.{Due}
+use Rattle.due.specs.declared.Due.the-variants as due
 use Rattle.jobs.specs.Places.{maxPlaces, jobsOf}
 use Rattle.columns.specs.Columns.{Columns, columns, ColumnsHold}
 use Rattle.columns.specs.Ordered.{InOrder, SameJobs}
 use Rattle.jobs.specs.declared.Job.{Job}
-use Rattle.rings.specs.Rings.{Rings, rings}
+use Rattle.rings.specs.Rings.{Rings, rings, asTick}
 use Rattle.rings.specs.RingShapes.{RingsHold}
 use Rattle.run.specs.declared.Run.{Run}
-use Rattle.run.specs.Runs.{rowAt}
+use Rattle.run.specs.Runs.{rowAt, serverAt}
 use Rattle.run.specs.ManyTicks.{SoFar, ticksWhilePending}
 use Rattle.log.specs.Log.{writtenRecord, restAfter}
 use Rattle.log.specs.SpelledLogs.{spelledLog, HoldsRecords}
@@ -32,6 +35,8 @@ use Rattle.replay.specs.declared.Replayed.the-variants as replayed
 use Rattle.replay.specs.declared.Logged.{Logged}
 use Rattle.replay.specs.declared.Reached.{Reached}
 use Rattle.replay.specs.declared.Going.{Going}
+use Rattle.replay.specs.declared.Source.{Source}
+use Rattle.replay.specs.declared.Source.the-variants as source
 use Rattle.replay.specs.declared.RecordStep.{RecordStep}
 use Rattle.replay.specs.declared.RecordStep.the-variants as step
 use Rattle.replay.specs.Outcome.{logAfter}
@@ -129,8 +134,8 @@ LeadsTo s p until h g = (x : SoFar) (log₀ : List ℕ) → HasTimer s p (x .run
 
 -- ---- a record on arrays
 
--- The nine arrays of a play, as lists: the pending jobs by their serials, rows, releases, due times and units left, the rings of the kept due times by their
--- times, counts and oldest places, and the log buffer.
+-- The ten arrays of a play, as lists: the pending jobs by their serials, rows, releases, due times and units left, the rings of the kept due times by their
+-- times, counts and oldest places, the servers' last due times, and the log buffer.
 pub record Lists : Type 0 where
   pub serials : List ℕ
   pub rows : List ℕ
@@ -140,11 +145,12 @@ pub record Lists : Type 0 where
   pub times : List ℕ
   pub many : List ℕ
   pub oldest : List ℕ
+  pub lasts : List ℕ
   pub log : List ℕ
 
--- The nine lists as one value.
-abbrev pub lists : (serials rows releases dues left times many oldest log : List ℕ) → Lists
-lists serials rows releases dues left times many oldest log = record {
+-- The ten lists as one value.
+abbrev pub lists : (serials rows releases dues left times many oldest lasts log : List ℕ) → Lists
+lists serials rows releases dues left times many oldest lasts log = record {
   serials = serials;
   rows = rows;
   releases = releases;
@@ -153,8 +159,15 @@ lists serials rows releases dues left times many oldest log = record {
   times = times;
   many = many;
   oldest = oldest;
+  lasts = lasts;
   log = log;
 }
+
+-- The servers' last due times after an answer. A due time that is given becomes the last due time of the server at this place. A refusal leaves them all alone.
+-- (4.4, 4.9)
+abbrev pub lastsAfter : Due → (lasts : List ℕ) (place : ℕ) → List ℕ
+lastsAfter (due.At t) lasts place = set lasts place (t .0)
+lastsAfter (due.Refused r) lasts place = lasts
 
 -- The pending jobs that the arrays of a play hold, from the entry `first` on, as many as the count says.
 abbrev pub columnsIn : Lists → (first count : ℕ) → Columns
@@ -174,18 +187,30 @@ pub record CanGo (l : Lists) (g : Going) (ready : Ready) : Type 0 where
   pub in-time : ready .time .0 ≤ maxTime
   pub few-serials : g .next .0 ≤ 2 ^ 63
 
--- The arrays hold a play that has come as far as `p`: its pending jobs, its clock, its log, its kept due times and its next serial.
+-- The arrays hold a play that has come as far as `p`: its pending jobs, its clock, its log, its kept due times, its servers' last due times and its next
+-- serial.
 pub record ArraysHoldPlay (p : Progress) (log₀ : List ℕ) (l : Lists) (g : Going) : Type 0 where
   pub stands : ArraysHoldRun (p .so-far) log₀ (tickArraysIn l g)
   pub kept : RingsHold (ringsIn l) (p .so-far .run .table .count) (p .so-far .run .table .rows) (p .so-far .run .kept)
+  pub last-held : p .so-far .run .last ≡ map asTick (l .lasts)
   pub same-next : p .so-far .run .next ≡ g .next
 
--- A record passed its tests at the point that a play has reached: `row` is its row, which is in use, its cost is allowed, and the clock is not past its script
--- time. The run has the timer that is handed in. (8.5, steps 4 and 6)
-pub record MayRelease (ts tp : ℕ) (p : Progress) (ready : Ready) (row : Row) : Type 0 where
+-- A server stands at a place that a table has room for. (3.18)
+abbrev pub PlaceInRange : Source → Type 0
+PlaceInRange (source.Row r) = Unit {0}
+PlaceInRange (source.Server o) = o .place < maxServers
+
+-- This is the row or the server of a table that has the row number, which is in use. (1.2, 3.14)
+abbrev pub SourceOf : Table → (number : ℕ) → Source → Type 0
+SourceOf t number (source.Row r) = (number < t .count) × (r ≡ rowAt t number)
+SourceOf t number (source.Server o) =
+    (t .count ≤ number) × (number < t .count + t .serving) × (o .server ≡ serverAt t number) × (o .place ≡ number - t .count)
+
+-- A record passed its tests at the point that a play has reached: `source` is its row or server, which is in use, its cost is allowed, and the clock is not
+-- past its script time. The run has the timer that is handed in. (8.5, steps 4 and 6)
+pub record MayRelease (ts tp : ℕ) (p : Progress) (ready : Ready) (source : Source) : Type 0 where
   pub its-timer : HasTimer ts tp (p .so-far .run)
-  pub its-row : row ≡ rowAt (p .so-far .run .table) (ready .row .0)
-  pub in-use : ready .row .0 < p .so-far .run .table .count
+  pub its-source : SourceOf (p .so-far .run .table) (ready .row .0) source
   pub allowed : costAnswer (limitOf (costLimits (p .so-far .run .table)) (ready .row .0)) (ready .cost) ≡ cost.Allowed
   pub ahead : p .so-far .run .clock .0 ≤ ready .time .0
 
@@ -196,8 +221,8 @@ SteppedTo x next log₀ after (step.Refused r) = x ≡ stops r
 
 -- If the arrays hold a play before the call and the record passed its tests, they hold it afterwards with the ticks until the record's script time and the
 -- record's release, or the answer is the refusal that stops the play. (8.2)
-abbrev pub RecordPlayed : (ts tp place : ℕ) → Ready → Row → Lists → Going → Lists → RecordStep → Type 0
-RecordPlayed ts tp place ready row l g after r = (p : Progress) (log₀ : List ℕ) → ArraysHoldPlay p log₀ l g → MayRelease ts tp p ready row
+abbrev pub RecordPlayed : (ts tp place : ℕ) → Ready → Source → Lists → Going → Lists → RecordStep → Type 0
+RecordPlayed ts tp place ready source l g after r = (p : Progress) (log₀ : List ℕ) → ArraysHoldPlay p log₀ l g → MayRelease ts tp p ready source
     → SteppedTo (releasedAt place ready (tickedTo (ready .time .0) p)) (ready .next) log₀ after r
 
 -- ---- the log that a play leaves

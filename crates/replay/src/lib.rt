@@ -11,8 +11,10 @@ use kinds::Serial;
 use kinds::Tick;
 use records::Tested;
 use rings::TIMES;
-use run::StartAnswer;
+use table::Row;
+use table::Server;
 use table::Table;
+use table::TableAnswer;
 ghost use mathlib.Core.Path.{_≡_};
 ghost use mathlib.Core.Bool.{true};
 ghost use lib.ListN.{length, replicate};
@@ -66,6 +68,18 @@ struct Going {
     full: bool,
 }
 
+// A server, and its place among the servers of its table. (1.2)
+struct ServerOf {
+    server: Server,
+    place: usize,
+}
+
+// Whose job a record releases: a row's or a server's. (1.2)
+enum Source {
+    Row(Row),
+    Server(ServerOf),
+}
+
 // What one record does to a play: the play goes on, or it stops with a refusal.
 enum RecordStep {
     Next(Going),
@@ -83,15 +97,16 @@ fn clear(log: &mut [u8])
     }
 }
 
-// Plays a script on a table. The pending jobs and the kept due times stand in arrays of numbers, so that no run is copied for a record. After a refusal the log
-// may hold anything: the caller fills it with zeros. (8.2, 8.3)
+// Plays a script on a table. The pending jobs, the kept due times and the last due times stand in arrays of numbers, so that no run is copied for a record.
+// After a refusal the log may hold anything: the caller fills it with zeros. (8.2, 8.3)
 fn play(table: Table, script: &[u8], log: &mut [u8]) -> Replayed
     requires { ⌜ (soundOf (freshRun table) ≡ true) × Whole (freshRun table) ⌝ }
     ensures { λ r. ⌜ (r ≡ replayOutcome (length (now (log .entry))) (length (now (script .entry))) (playedOn (now (script .entry)) (freshRun table)))
         × LeftIn r (finishedIn (playedOn (now (script .entry)) (freshRun table))) (now (log .entry)) (now (log .exit)) ⌝ }
 {
     let limits = table.cost_limits();
-    let in_use = table.count;
+    let count = table.count;
+    let in_use = count + table.serving;
     let s = table.s;
     let p = table.p;
     let mut serials: [u64; ROOM] = [0; ROOM];
@@ -102,6 +117,7 @@ fn play(table: Table, script: &[u8], log: &mut [u8]) -> Replayed
     let mut times: [u64; TIMES] = [0; TIMES];
     let mut many: [usize; Table::MAX_ROWS] = [0; Table::MAX_ROWS];
     let mut oldest: [usize; Table::MAX_ROWS] = [0; Table::MAX_ROWS];
+    let mut lasts: [u64; Table::MAX_SERVERS] = [0; Table::MAX_SERVERS];
     let mut at: usize = 0;
     let mut going = Going {
         first: 0,
@@ -120,7 +136,14 @@ fn play(table: Table, script: &[u8], log: &mut [u8]) -> Replayed
             Tested::Refused(r) => return Replayed::Refused(r),
         };
         let number = ready.row.0 as usize;
-        let row = table.rows[number];
+        let source = if number < count {
+            let row = table.rows[number];
+            Source::Row(row)
+        } else {
+            let place = number - count;
+            let server = table.servers[place];
+            Source::Server(ServerOf { server, place })
+        };
         let step = play_record(
             &mut serials,
             &mut rows,
@@ -130,10 +153,11 @@ fn play(table: Table, script: &[u8], log: &mut [u8]) -> Replayed
             &mut times,
             &mut many,
             &mut oldest,
+            &mut lasts,
             log,
             going,
             ready,
-            row,
+            source,
             s,
             p,
             at,
@@ -145,7 +169,7 @@ fn play(table: Table, script: &[u8], log: &mut [u8]) -> Replayed
         at = ready.next;
     }
     let first = going.first;
-    let count = going.count;
+    let pending = going.count;
     let clock = going.clock;
     let logged = Logged {
         length: going.length,
@@ -161,7 +185,7 @@ fn play(table: Table, script: &[u8], log: &mut [u8]) -> Replayed
         &mut left,
         log,
         first,
-        count,
+        pending,
         clock,
         last,
         s,
@@ -196,16 +220,15 @@ pub fn replay(table: &[u8], script: &[u8], log: &mut [u8]) -> Replayed
     ensures { λ r. ⌜ (r ≡ replayOf (now (table .entry)) (now (script .entry)) (length (now (log .entry))))
         × (now (log .exit) ≡ logAfter r (finishedIn (played (now (table .entry)) (now (script .entry)))) (now (log .entry))) ⌝ }
 {
-    let started = run::start(table);
-    let answer = started.answer;
-    let run = started.run;
+    let read = table::read_table(table);
+    let answer = read.answer;
     match answer {
-        StartAnswer::Refused(r) => {
+        TableAnswer::Refused(r) => {
             clear(log);
             Replayed::Refused(r)
         }
-        StartAnswer::Ready => {
-            let outcome = play(run.table, script, log);
+        TableAnswer::Accepted(_) => {
+            let outcome = play(read.table, script, log);
             match outcome {
                 Replayed::InTime(length) => Replayed::InTime(length),
                 Replayed::Late(jobs) => Replayed::Late(jobs),

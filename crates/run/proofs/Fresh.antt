@@ -9,7 +9,7 @@ use lib.ListN.{getD-replicate}
 use Rattle.table.specs.declared.Table.{Table}
 use Rattle.table.specs.declared.TableRead.{TableRead}
 use Rattle.table.specs.declared.TableAnswer.{TableAnswer}
-use Rattle.table.specs.Limits.{maxRows}
+use Rattle.table.specs.Limits.{maxRows, maxServers}
 use Rattle.table.specs.Tables.{InRange, tableRead}
 use Rattle.table.proofs.SpelledTables.{in-range-means}
 use Rattle.table.proofs.Tables.{read-in-range}
@@ -19,20 +19,21 @@ use Rattle.run.specs.declared.Run.{Run}
 use Rattle.run.specs.Runs.{freshRun, startAnswer, started, rowAt}
 use Rattle.run.specs.Sound.{Whole, Sound}
 use Rattle.run.specs.RunLaws.{FreshIsSound, StartedIsSound}
-use Rattle.run.proofs.Sound.{sound-means}
+use Rattle.run.proofs.Sound.{noTime, sound-means}
 
 -- ---- fresh runs
 
 module _ (t : Table) (in-range : InRange t) where
   -- A fresh run's arrays have all their places.
   fresh-whole : Whole (freshRun t)
-  fresh-whole = record { all-rows = in-range .all-places; all-kept = refl; all-places = refl }
+  fresh-whole = record { all-rows = in-range .all-places; all-kept = refl; all-servers = in-range .all-servers; all-last = refl; all-places = refl }
 
   -- The facts about a sound run hold for a fresh run.
   fresh-facts : Sound (freshRun t)
   fresh-facts = record {
     good-timer = in-range .good-timer;
     few-rows = in-range .few-rows;
+    few-servers = in-range .few-servers;
     clock-in-time = omega arith;
     few-pending = omega arith;
     rows = λ i h. in-range-means (rowAt t i) .0 (in-range .rows-in-range i h);
@@ -40,6 +41,8 @@ module _ (t : Table) (in-range : InRange t) where
     kept = λ i h.
         rw (getD-replicate maxRows i nothingKept _ (omega (arith, in-range .few-rows)))
         (kept-means nothingKept (rowAt t i) .0 (empty-is-sound (rowAt t i)));
+    servers = in-range .good-servers;
+    last = λ k h. rw (getD-replicate maxServers k noTime _ (omega (arith, in-range .few-servers))) (omega arith);
     jobs = λ i h. absurd (not-suc-le-zero h);
     apart = λ i k h l e. absurd (not-suc-le-zero l);
     serials = omega arith;

@@ -4,3 +4,4 @@ pub mod Release
 pub mod Ticking
 pub mod ManyTicks
 pub mod Answers
+pub mod WithoutServers

@@ -1,6 +1,6 @@
 -- The test of a run means the facts of `Sound`, and nothing more. The second half of the page follows the code, which tests one place after another.
 -- (docs/RULES.md, sections 6.20 to 6.24.)
-use Prim.Native.Nat.{ℕ, zero, suc, _+_, _≤_, _<_, suc-le-suc}
+use Prim.Native.Nat.{ℕ, zero, suc, _+_, _-_, _≤_, _<_, suc-le-suc}
 use mathlib.Core.Path.{_≡_, refl, sym, ap, _∙_}
 use mathlib.Core.Bool.{Bool, true, false, _&&_, and-false}
 use mathlib.Core.List.{List, [], _∷_}
@@ -9,24 +9,29 @@ use native.Mathlib.Numerals.{add-one}
 use native.Mathlib.Decide.{decLt}
 use native.Mathlib.Omega.{arith}
 use lib.Dec.{leb, ltb}
-use lib.ListN.{length, take, drop, getD, length-take, length-map, drop-of-length-le}
+use lib.ListN.{length, take, drop, getD, replicate, length-append, length-take, length-map, length-replicate, drop-of-length-le}
 use lib.Seq.{length-take-le, drop-cons, getD-take}
 use borrow.Author.Tests.{leb-true, ltb-true, le-leb, lt-leb, lt-ltb, le-ltb}
 use Rattle.kinds.specs.Numbering.{maxTime}
 use Rattle.kinds.specs.declared.Refusal.{Refusal}
+use Rattle.kinds.specs.declared.Tick.{Tick}
 use Rattle.kinds.proofs.Apart.{impossible}
-use Rattle.kinds.proofs.Lists.{length-mapped}
+use Rattle.theory.proofs.Cases.{by-lt}
 use Rattle.table.specs.declared.Row.{Row}
+use Rattle.table.specs.declared.Server.{Server}
 use Rattle.table.specs.declared.CostAnswer.{CostAnswer}
 use Rattle.table.specs.declared.CostAnswer.the-variants as answer
-use Rattle.table.specs.Costs.{csOf, costLimits, limitOf, costAnswer}
+use Rattle.table.specs.Costs.{csOf, costLimits, heldLimits, limitOf, costAnswer}
 use Rattle.table.specs.declared.Table.{Table}
-use Rattle.table.specs.Limits.{maxRows}
+use Rattle.table.specs.Limits.{maxRows, maxServers, maxSources, maxC}
 use Rattle.table.specs.Rows.{fromOneTo, rowAcceptable}
-use Rattle.table.specs.Timer.{timerInRange, GoodTimer}
-use Rattle.table.specs.Tables.{noRow, rowsOf}
-use Rattle.table.proofs.CostLimits.{CostTested, not-in-use, out-of-range, allowed, cost-tested, limits-are-the-first, one-limit-for-each-row, limit-is-its-c}
+use Rattle.table.specs.Timer.{timerInRange}
+use Rattle.table.specs.Servers.{serverInRange, noServer, GoodServer}
+use Rattle.table.specs.Tables.{noRow, rowsOf, serversOf}
+use Rattle.table.proofs.CostLimits.{CostTested, not-in-use, out-of-range, allowed, cost-tested}
+use Rattle.table.proofs.CostLimits.{limits-are-the-first, one-limit-for-each, limit-is-its-c, limit-of-a-server}
 use Rattle.table.proofs.Ranges.{both-true, acceptable-means}
+use Rattle.table.proofs.ReadingServers.{server-in-range-means}
 use Rattle.table.proofs.Timers.{timer-in-range-means}
 use Rattle.due.specs.declared.Kept.{Kept}
 use Rattle.due.specs.Kept.{noKept, keptSound}
@@ -39,7 +44,7 @@ use Rattle.jobs.proofs.Places.{rest-cons}
 use Rattle.jobs.proofs.Changes.{distinct-means}
 use Rattle.run.specs.declared.Run.{Run}
 use Rattle.run.specs.Runs.{rowAt, costLimit, keptOf}
-use Rattle.run.specs.Sound.{jobFits, allows, jobSound, jobsSound, rowsSound, serialBound, soundOf, SoundJob, Sound, Whole, SoundMeans}
+use Rattle.run.specs.Sound.{jobFits, allows, jobSound, jobsSound, rowsSound, serversSound, serialBound, soundOf, SoundJob, Sound, Whole, SoundMeans}
 
 -- ---- what the tests of jobs and rows mean
 
@@ -57,57 +62,76 @@ allowed-means limits number cost = to _ (cost-tested limits number cost)
     to a (out-of-range h o) e = impossible cc
     to a (allowed h l m) e = (h, l, m)
 
--- There are no more limits than rows in use.
-pub few-limits : (t : Table) → length (costLimits t) ≤ t .count
+-- There are no more limits than rows and servers in use.
+pub few-limits : (t : Table) → length (costLimits t) ≤ t .count + t .serving
 few-limits t =
-    let same = length-mapped (λ (r : Row). r .c) (rowsOf t) (length (costLimits t)) refl in omega (arith, same, length-take (t .count) (t .rows))
+    let both = length-append (csOf (rowsOf t)) (replicate (t .serving) maxC) in
+    let cs = length-map (rowsOf t) (λ (r : Row). r .c) in
+    omega (arith, both, cs, length-take (t .count) (t .rows), length-replicate (t .serving) maxC)
 
--- The first limits of all rows, as many as there are rows in use, are the table's limits.
-pub limits-lent : (t : Table) (all : List ℕ) → all ≡ csOf (t .rows) → take (t .count) all ≡ costLimits t
-limits-lent t all e = ap (take (t .count)) e ∙ sym (limits-are-the-first t)
+-- A row number that has a limit is in use.
+pub in-use-where : (t : Table) (number : ℕ) → number < length (costLimits t) → number < t .count + t .serving
+in-use-where t number h = omega (arith, few-limits t)
 
--- There are at least as many limits as rows in use.
-pub enough-limits : (run : Run) → Whole run → run .table .count ≤ maxRows → (all : List ℕ) → all ≡ csOf (run .table .rows) → run .table .count ≤ length all
-enough-limits run whole few all e = rw e (omega (arith, length-map (run .table .rows) (λ (r : Row). r .c), whole .all-rows))
+-- The first of all limits that there is room for, as many as there are rows and servers in use, are the table's limits.
+pub limits-lent : (t : Table) → t .count ≤ maxRows → length (t .rows) ≡ maxRows → t .serving ≤ maxServers
+    → (all : List ℕ) → all ≡ heldLimits t → take (t .count + t .serving) all ≡ costLimits t
+limits-lent t few places serving all e = ap (take (t .count + t .serving)) e ∙ sym (limits-are-the-first t few places serving)
 
-module _ (t : Table) (clock next : ℕ) where
-  -- A job that passes the test has the facts of a sound job.
-  job-facts : (j : Job) → jobSound (costLimits t) clock next j ≡ true → SoundJob t clock next j
-  unfolding jobSound jobFits
-  job-facts j e =
-      let row = both-true _ _ e in
-      let serial = both-true _ _ (row .1) in
-      let due = both-true _ _ (serial .0) in
-      let left = both-true _ _ (due .0) in
-      let cost = allowed-means (costLimits t) (j .row .0) (j .cost) (row .0) in
-      let in-use : j .row .0 < t .count = omega (arith, cost .0, few-limits t) in
-      record {
-        row-in-use = in-use;
-        released = leb-true _ _ (left .0);
-        some-cost = cost .1;
-        cost-allowed = rw (limit-is-its-c t (j .row .0) in-use) at (cost .2);
-        some-left = within _ _ (left .1) .0;
-        left-of-cost = within _ _ (left .1) .1;
-        due-in-time = leb-true _ _ (due .1);
-        serial-given = ltb-true _ _ (serial .1);
-      }
+-- There are at least as many limits as rows and servers in use.
+pub enough-limits : (t : Table) → t .count ≤ maxRows → t .serving ≤ maxServers → (all : List ℕ) → all ≡ heldLimits t → t .count + t .serving ≤ length all
+enough-limits t few serving all e =
+    let left = maxSources - length (rowsOf t) in
+    let both = length-append (csOf (rowsOf t)) (replicate left maxC) in
+    let cs = length-map (rowsOf t) (λ (r : Row). r .c) in
+    rw e (omega (arith, both, cs, length-take (t .count) (t .rows), length-replicate left maxC))
 
-  -- A job with the facts of a sound job passes the test, where each row in use has its limit.
-  job-tested : length (costLimits t) ≡ t .count → (j : Job) → SoundJob t clock next j → jobSound (costLimits t) clock next j ≡ true
-  unfolding jobSound jobFits
-  job-tested many j s =
-      let limit = limit-is-its-c t (j .row .0) (s .row-in-use) in
-      simp (
-        lt-ltb (j .row .0) (length (costLimits t)) (omega (arith, s .row-in-use, many)),
-        limit,
-        le-leb _ _ (s .released),
-        le-leb _ _ (s .some-cost),
-        le-leb _ _ (s .cost-allowed),
-        le-leb _ _ (s .some-left),
-        le-leb _ _ (s .left-of-cost),
-        le-leb _ _ (s .due-in-time),
-        lt-ltb _ _ (s .serial-given),
-      )
+-- In this part, a table has room for all its rows, and no more are in use.
+module _ (t : Table) (few : t .count ≤ maxRows) (places : length (t .rows) ≡ maxRows) where
+  -- The limit at a row number in use is the most that a job of that row number may cost.
+  pub limit-at : (number : ℕ) → number < t .count + t .serving → getD (costLimits t) number 0 ≡ costLimit t number
+  limit-at number in-use =
+      by-lt number (t .count)
+      (λ row. rw (lt-ltb number (t .count) row) (limit-is-its-c t number few places row))
+      (λ server. rw (le-ltb number (t .count) server) (limit-of-a-server t number few places server in-use))
+
+  module _ (clock next : ℕ) (j : Job) where
+    -- A job that passes the test has the facts of a sound job.
+    job-facts : jobSound (costLimits t) clock next j ≡ true → SoundJob t clock next j
+    unfolding jobSound jobFits
+    job-facts e =
+        let row = both-true _ _ e in
+        let serial = both-true _ _ (row .1) in
+        let due = both-true _ _ (serial .0) in
+        let left = both-true _ _ (due .0) in
+        let cost = allowed-means (costLimits t) (j .row .0) (j .cost) (row .0) in
+        let in-use = in-use-where t (j .row .0) (cost .0) in
+        record {
+          row-in-use = in-use;
+          released = leb-true _ _ (left .0);
+          some-cost = cost .1;
+          cost-allowed = rw (limit-at (j .row .0) in-use) at (cost .2);
+          some-left = within _ _ (left .1) .0;
+          left-of-cost = within _ _ (left .1) .1;
+          due-in-time = leb-true _ _ (due .1);
+          serial-given = ltb-true _ _ (serial .1);
+        }
+
+    -- A job with the facts of a sound job passes the test.
+    job-tested : SoundJob t clock next j → jobSound (costLimits t) clock next j ≡ true
+    unfolding jobSound jobFits
+    job-tested s =
+        simp (
+          lt-ltb (j .row .0) (length (costLimits t)) (omega (arith, s .row-in-use, one-limit-for-each t few places)),
+          limit-at (j .row .0) (s .row-in-use),
+          le-leb _ _ (s .released),
+          le-leb _ _ (s .some-cost),
+          le-leb _ _ (s .cost-allowed),
+          le-leb _ _ (s .some-left),
+          le-leb _ _ (s .left-of-cost),
+          le-leb _ _ (s .due-in-time),
+          lt-ltb _ _ (s .serial-given),
+        )
 
 module _ (limits : List ℕ) (clock next : ℕ) where
   -- Where the test of all jobs holds, each job is sound.
@@ -140,6 +164,30 @@ all-rows [] ks f = refl
 all-rows (r ∷ rs) [] f = refl
 all-rows (r ∷ rs) (k ∷ ks) f = let p = f 0 (omega arith) in rw (p .0, p .1) (all-rows rs ks (λ i h. f (suc i) (suc-le-suc h)))
 
+-- The last due time of a server that has no jobs yet.
+abbrev pub noTime : Tick
+noTime = record { 0 = 0 }
+
+-- A table may have the server, and its last due time is at most 2^40.
+abbrev ServerSound : Server → Tick → Type 0
+ServerSound v l = (serverInRange v ≡ true) × (leb (l .0) maxTime ≡ true)
+
+-- Where the test of all servers holds, each server and its last due time are sound.
+each-server : (vs : List Server) (ls : List Tick) → length vs ≤ length ls → serversSound vs ls ≡ true
+    → (k : ℕ) → k < length vs → ServerSound (getD vs k noServer) (getD ls k noTime)
+each-server [] ls l e k h = absurd (not-suc-le-zero h)
+each-server (v ∷ vs) [] l e k h = absurd (not-suc-le-zero l)
+each-server (v ∷ vs) (d ∷ ls) l e zero h = both-true _ _ (both-true _ (serversSound vs ls) e .0)
+each-server (v ∷ vs) (d ∷ ls) l e (suc k) h =
+    each-server vs ls (le-of-suc-le-suc l) (both-true (serverInRange v && leb (d .0) maxTime) _ e .1) k (le-of-suc-le-suc h)
+
+-- Where each server and its last due time are sound, the test of all servers holds.
+all-servers : (vs : List Server) (ls : List Tick) → ((k : ℕ) → k < length vs → ServerSound (getD vs k noServer) (getD ls k noTime))
+    → serversSound vs ls ≡ true
+all-servers [] ls f = refl
+all-servers (v ∷ vs) [] f = refl
+all-servers (v ∷ vs) (d ∷ ls) f = let p = f 0 (omega arith) in rw (p .0, p .1) (all-servers vs ls (λ k h. f (suc k) (suc-le-suc h)))
+
 -- ---- the tests of a run, one after another
 
 -- Every pending job is sound, and no two have the same serial. (6.22)
@@ -163,6 +211,10 @@ module _ (run : Run) where
   unfolding soundOf
   too-many-rows h = simp (lt-leb (run .table .count) maxRows h, and-false)
 
+  pub too-many-servers : maxServers < run .table .serving → false ≡ soundOf run
+  unfolding soundOf
+  too-many-servers h = simp (lt-leb (run .table .serving) maxServers h, and-false)
+
   pub clock-too-late : maxTime < run .clock .0 → false ≡ soundOf run
   unfolding soundOf
   clock-too-late h = simp (lt-leb (run .clock .0) maxTime h, and-false)
@@ -175,29 +227,39 @@ module _ (run : Run) where
   unfolding soundOf
   rows-unsound h = simp (h, and-false)
 
+  pub servers-unsound : serversSound (serversOf (run .table)) (run .last) ≡ false → false ≡ soundOf run
+  unfolding soundOf
+  servers-unsound h = simp (h, and-false)
+
   pub jobs-unsound : JobsTested run ≡ false → false ≡ soundOf run
   unfolding soundOf
   jobs-unsound h =
       let js = jobsOf (run .pending) in
-      let counts = timerInRange (run .table .s) (run .table .p) && leb (run .table .count) maxRows && leb (run .clock .0) maxTime && leb (run .pending .count) maxPlaces in
-      one-of-two-fails (counts && rowsSound (rowsOf (run .table)) (run .kept))
+      let rows = timerInRange (run .table .s) (run .table .p) && leb (run .table .count) maxRows && leb (run .table .serving) maxServers in
+      let counts = rows && leb (run .clock .0) maxTime && leb (run .pending .count) maxPlaces in
+      one-of-two-fails (counts && rowsSound (rowsOf (run .table)) (run .kept) && serversSound (serversOf (run .table)) (run .last))
       (jobsSound (costLimits (run .table)) (run .clock .0) (run .next .0) js) (distinctSerials js) (leb (run .next .0) (serialBound run)) h
 
 -- The test of the jobs with the lent limits answers what the definition says about the run's jobs.
-pub jobs-tested : (run : Run) (all : List ℕ) → all ≡ csOf (run .table .rows) → (r : Bool)
-    → r ≡ (jobsSound (take (run .table .count) all) (run .clock .0) (run .next .0) (jobsOf (run .pending)) && distinctSerials (jobsOf (run .pending)))
+pub jobs-tested : (run : Run) → run .table .count ≤ maxRows → length (run .table .rows) ≡ maxRows → run .table .serving ≤ maxServers
+    → (all : List ℕ) → all ≡ heldLimits (run .table) → (r : Bool)
+    → r ≡ (jobsSound (take (run .table .count + run .table .serving) all) (run .clock .0) (run .next .0) (jobsOf (run .pending))
+    && distinctSerials (jobsOf (run .pending)))
     → JobsTested run ≡ r
-jobs-tested run all e r h =
-    ap (λ l. jobsSound l (run .clock .0) (run .next .0) (jobsOf (run .pending)) && distinctSerials (jobsOf (run .pending))) (sym (limits-lent (run .table) all e))
+jobs-tested run few places serving all e r h =
+    ap (λ l. jobsSound l (run .clock .0) (run .next .0) (jobsOf (run .pending)) && distinctSerials (jobsOf (run .pending)))
+    (sym (limits-lent (run .table) few places serving all e))
     ∙ sym h
 
 -- The run passes all tests but the last, which is the bound of the next serial.
 pub record AllBefore (run : Run) : Type 0 where
   pub timer : timerInRange (run .table .s) (run .table .p) ≡ true
   pub few-rows : run .table .count ≤ maxRows
+  pub few-servers : run .table .serving ≤ maxServers
   pub clock-in-time : run .clock .0 ≤ maxTime
   pub few-pending : run .pending .count ≤ maxPlaces
   pub rows : rowsSound (rowsOf (run .table)) (run .kept) ≡ true
+  pub servers : serversSound (serversOf (run .table)) (run .last) ≡ true
   pub jobs : JobsTested run ≡ true
 
 -- A run that passes all other tests is sound exactly when its next serial is within its bound.
@@ -209,9 +271,11 @@ bound-settles run a =
     simp (
       a .timer,
       le-leb (run .table .count) maxRows (a .few-rows),
+      le-leb (run .table .serving) maxServers (a .few-servers),
       le-leb (run .clock .0) maxTime (a .clock-in-time),
       le-leb (run .pending .count) maxPlaces (a .few-pending),
       a .rows,
+      a .servers,
       jobs .0,
       jobs .1,
     )
@@ -245,6 +309,32 @@ module _ (run : Run) (whole : Whole run) where
     all-numbered f =
         all-rows (rowsOf table) (run .kept) (λ i h. let k : i < table .count = omega (arith, counted) in rw (at-number i k) (f i k))
 
+  module _ (few : table .serving ≤ maxServers) where
+    -- The servers in use are as many as the table counts.
+    counted-servers : length (serversOf table) ≡ table .serving
+    counted-servers = length-take-le (table .serving) (table .servers) (omega (arith, whole .all-servers))
+
+    -- A server in use stands at its place.
+    at-place : (k : ℕ) → k < table .serving → getD (serversOf table) k noServer ≡ getD (table .servers) k noServer
+    at-place k h = getD-take (table .serving) (table .servers) k noServer h
+
+    -- Where the test of all servers holds, each server in use is one that a table may have, and its last due time is at most 2^40.
+    each-serving : serversSound (serversOf table) (run .last) ≡ true → (k : ℕ) → k < table .serving
+        → GoodServer (getD (table .servers) k noServer) × (getD (run .last) k noTime .0 ≤ maxTime)
+    each-serving e k h =
+        let enough : length (serversOf table) ≤ length (run .last) = omega (arith, counted-servers, whole .all-last) in
+        let p = rw (at-place k h) at (each-server (serversOf table) (run .last) enough e k (omega (arith, counted-servers))) in
+        (server-in-range-means (getD (table .servers) k noServer) .0 (p .0), leb-true _ _ (p .1))
+
+    -- Where each server in use is one that a table may have, and its last due time is at most 2^40, the test of all servers holds.
+    all-serving : ((k : ℕ) → k < table .serving → GoodServer (getD (table .servers) k noServer))
+        → ((k : ℕ) → k < table .serving → getD (run .last) k noTime .0 ≤ maxTime) → serversSound (serversOf table) (run .last) ≡ true
+    all-serving good in-time =
+        all-servers (serversOf table) (run .last)
+        (λ k h.
+        let l : k < table .serving = omega (arith, counted-servers) in
+        rw (at-place k l) (server-in-range-means (getD (table .servers) k noServer) .1 (good k l), le-leb _ _ (in-time k l)))
+
   -- A run that passes the test has the facts of a sound run.
   sound-facts : soundOf run ≡ true → Sound run
   unfolding soundOf
@@ -252,20 +342,26 @@ module _ (run : Run) (whole : Whole run) where
       let serials = both-true _ _ e in
       let apart = both-true _ _ (serials .0) in
       let jobs = both-true _ _ (apart .0) in
-      let rows = both-true _ _ (jobs .0) in
+      let servers = both-true _ _ (jobs .0) in
+      let rows = both-true _ _ (servers .0) in
       let places = both-true _ _ (rows .0) in
       let clock = both-true _ _ (places .0) in
-      let timed = both-true _ _ (clock .0) in
+      let serving = both-true _ _ (clock .0) in
+      let timed = both-true _ _ (serving .0) in
       let few = leb-true (table .count) maxRows (timed .1) in
+      let few-serving = leb-true (table .serving) maxServers (serving .1) in
       record {
         good-timer = timer-in-range-means (table .s) (table .p) .0 (timed .0);
         few-rows = few;
+        few-servers = few-serving;
         clock-in-time = leb-true _ _ (clock .1);
         few-pending = leb-true _ _ (places .1);
         rows = λ i h. acceptable-means (rowAt table i) .0 (each-numbered few (rows .1) i h .0) .within-limits;
         c-within-d = λ i h. acceptable-means (rowAt table i) .0 (each-numbered few (rows .1) i h .0) .c-within-d;
         kept = λ i h. kept-means (keptOf run i) (rowAt table i) .0 (each-numbered few (rows .1) i h .1);
-        jobs = λ i h. job-facts _ _ _ (getD pending i noJob) (each-job _ _ _ pending (jobs .1) i h);
+        servers = λ k h. each-serving few-serving (servers .1) k h .0;
+        last = λ k h. each-serving few-serving (servers .1) k h .1;
+        jobs = λ i h. job-facts table few (whole .all-rows) _ _ (getD pending i noJob) (each-job _ _ _ pending (jobs .1) i h);
         apart = distinct-means pending .0 (apart .1);
         serials = leb-true _ _ (serials .1);
       }
@@ -281,12 +377,14 @@ module _ (run : Run) (whole : Whole run) where
       let before : AllBefore run = record {
         timer = timer-in-range-means (table .s) (table .p) .1 (s .good-timer);
         few-rows = s .few-rows;
+        few-servers = s .few-servers;
         clock-in-time = s .clock-in-time;
         few-pending = s .few-pending;
         rows = all-numbered (s .few-rows) row;
+        servers = all-serving (s .few-servers) (s .servers) (s .last);
         jobs =
             rw
-            (all-jobs _ _ _ pending (λ i h. job-tested _ _ _ (one-limit-for-each-row table (s .few-rows) (whole .all-rows)) (getD pending i noJob) (s .jobs i h)))
+            (all-jobs _ _ _ pending (λ i h. job-tested table (s .few-rows) (whole .all-rows) _ _ (getD pending i noJob) (s .jobs i h)))
             (distinct-means pending .1 (s .apart));
       } in
       sym (bound-settles run before) ∙ le-leb (run .next .0) (serialBound run) (s .serials)
@@ -379,8 +477,8 @@ module _ (p : Pending) (rising : Bool) (lowest i : ℕ) (risen : RisenTo p risin
   -- Where the serial at i is at least `lowest`, the serials up to and with it rise.
   pub rises-on : i < length (jobsOf p) → lowest ≤ jobAt p i .serial .0 → RisenTo p rising (jobAt p i .serial .0 + 1) (i + 1)
   rises-on h l r e =
-      risen r
-      (rw (rest-cons (p .count) (p .places) i noJob h, le-leb lowest (jobAt p i .serial .0) l, above-is-from (jobAt p i .serial .0) (drop (i + 1) (jobsOf p))) e)
+      let here = jobAt p i .serial .0 in
+      risen r (rw (rest-cons (p .count) (p .places) i noJob h, le-leb lowest here l, above-is-from here (drop (i + 1) (jobsOf p))) e)
 
 -- ---- the rows with their kept due times, one after another
 
@@ -422,4 +520,46 @@ module _ {t : Table} {ks : List Kept} {i : ℕ} (from : RowsFrom t ks i) where
         all-kept = from .all-kept;
         few-rows = from .few-rows;
         settled = simp (r, k) at row-and-later;
+      }
+
+-- ---- the servers with their last due times, one after another
+
+-- All servers and their last due times are sound exactly when those from the place k on are.
+pub record ServersFrom (vs : List Server) (serving : ℕ) (ls : List Tick) (k : ℕ) : Type 0 where
+  pub all-servers : length vs ≡ maxServers
+  pub all-last : length ls ≡ maxServers
+  pub few-servers : serving ≤ maxServers
+  pub settled : serversSound (drop k (take serving vs)) (drop k ls) ≡ serversSound (take serving vs) ls
+
+module _ {vs : List Server} {serving : ℕ} {ls : List Tick} {k : ℕ} (from : ServersFrom vs serving ls k) where
+  -- Where no server is left to test, all servers are sound.
+  pub no-server-left : serving ≤ k → true ≡ serversSound (take serving vs) ls
+  no-server-left h =
+      let past : length (take serving vs) ≤ k = omega (arith, length-take serving vs) in
+      (rw (drop-of-length-le (take serving vs) past) at (from .settled))
+
+  module _ (here : k < serving) where
+    -- Where a server is left, all servers are sound exactly when the server at k, its last due time and the servers after it are.
+    server-and-later : (serverInRange (getD vs k noServer) && leb (getD ls k noTime .0) maxTime
+        && serversSound (drop (k + 1) (take serving vs)) (drop (k + 1) ls)) ≡ serversSound (take serving vs) ls
+    server-and-later =
+        let inside : k < length (take serving vs) = omega (arith, length-take serving vs) in
+        (rw (rest-cons serving vs k noServer inside, drop-cons ls k noTime (omega arith), ← add-one k) at (from .settled))
+
+    -- Where the server at k is not one that a table may have, not all servers are sound.
+    pub server-out-of-range : serverInRange (getD vs k noServer) ≡ false → false ≡ serversSound (take serving vs) ls
+    server-out-of-range v = simp v at server-and-later
+
+    module _ (v : serverInRange (getD vs k noServer) ≡ true) where
+      -- Where the last due time of the server at k is above 2^40, not all servers are sound.
+      pub last-too-late : maxTime < getD ls k noTime .0 → false ≡ serversSound (take serving vs) ls
+      last-too-late l = simp (v, lt-leb (getD ls k noTime .0) maxTime l) at server-and-later
+
+      -- Where the server at k and its last due time are sound, all servers are sound exactly when the servers after it are.
+      pub server-sound : getD ls k noTime .0 ≤ maxTime → ServersFrom vs serving ls (k + 1)
+      server-sound l = record {
+        all-servers = from .all-servers;
+        all-last = from .all-last;
+        few-servers = from .few-servers;
+        settled = simp (v, le-leb (getD ls k noTime .0) maxTime l) at server-and-later;
       }

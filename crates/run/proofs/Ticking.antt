@@ -138,16 +138,25 @@ module _ (run : Run) (good : Good run) where
   later-sound : run .clock .0 < maxTime → (p : Pending) → Later p → Good (runWith run (run .clock .0 + 1) p)
   later-sound in-time p l =
       let next : Run = runWith run (run .clock .0 + 1) p in
-      let whole : Whole next = record { all-rows = good .1 .all-rows; all-kept = good .1 .all-kept; all-places = l .form .all-places } in
+      let whole : Whole next = record {
+        all-rows = good .1 .all-rows;
+        all-kept = good .1 .all-kept;
+        all-servers = good .1 .all-servers;
+        all-last = good .1 .all-last;
+        all-places = l .form .all-places;
+      } in
       let as-many : used p ≡ p .count = length-take-le (p .count) (p .places) (omega (arith, l .form .in-places, l .form .all-places)) in (
         sound-means next whole .1 record {
           good-timer = facts .good-timer;
           few-rows = facts .few-rows;
+          few-servers = facts .few-servers;
           clock-in-time = omega arith;
           few-pending = l .form .in-places;
           rows = facts .rows;
           c-within-d = facts .c-within-d;
           kept = facts .kept;
+          servers = facts .servers;
+          last = facts .last;
           jobs = l .jobs;
           apart = distinct-means (jobsOf p) .0 (l .apart);
           serials = omega (arith, facts .serials, l .one-less, counted);

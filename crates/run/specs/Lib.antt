@@ -6,3 +6,4 @@ pub mod ManyTicks
 pub mod Answers
 pub mod History
 pub mod RunLaws
+pub mod WithoutServers

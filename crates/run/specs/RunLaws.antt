@@ -12,7 +12,7 @@ use Rattle.numbers.specs.SpelledNumbers.{Bytes}
 use Rattle.table.specs.declared.Table.{Table}
 use Rattle.table.specs.declared.CostAnswer.the-variants as cost-answer
 use Rattle.table.specs.Costs.{costLimits, limitOf, costAnswer}
-use Rattle.table.specs.Limits.{maxRows}
+use Rattle.table.specs.Limits.{maxRows, maxServers}
 use Rattle.table.specs.Rows.{fromOneTo}
 use Rattle.table.specs.Tables.{InRange}
 use Rattle.jobs.specs.Places.{jobsOf}
@@ -84,7 +84,8 @@ ClockGrows = (run : Run) → run .clock .0 ≤ ticked run .run .clock .0
 abbrev pub SerialsGrow : Type 0
 SerialsGrow = (run : Run) (row cost : ℕ) → run .next .0 ≤ released run row cost .run .next .0
 
--- The test of a row number and a cost, in the words of the rules: 6 where the row number is not in use, then 7 where the cost is 0 or above the row's c. (6.8)
+-- The test of a row number and a cost, in the words of the rules: 6 where the row number is not in use, then 7 where the cost is 0 or above the row's c,
+-- for a server above 4,096. (3.20, 6.8)
 abbrev pub OneTestMeans : Type 0
 OneTestMeans = (t : Table) → t .count ≤ maxRows → length (t .rows) ≡ maxRows → (row cost : ℕ)
     → costAnswer (limitOf (costLimits t) row) cost
@@ -97,11 +98,11 @@ abbrev pub RefusedReleaseChangesNothing : Type 0
 RefusedReleaseChangesNothing = (run : Run) (row cost number place : ℕ) → releaseSays (released run row cost .answer) ≡ ReleaseSays.refused number place
     → released run row cost .run ≡ run
 
--- In a fresh run the history of every row is empty. (6.3)
+-- In a fresh run the history of every row and every server is empty. (6.3)
 abbrev pub FreshHasNoHistory : Type 0
-FreshHasNoHistory = (t : Table) → t .count ≤ maxRows → KeepsHistory (freshRun t) (λ i. [])
+FreshHasNoHistory = (t : Table) → t .count ≤ maxRows → t .serving ≤ maxServers → KeepsHistory (freshRun t) (λ i. [])
 
--- Each accepted release gives the due time of the rule over the whole history of its row, and adds it to that history. (4.2, 4.3, 4.5, 6.6)
+-- Each accepted release gives the due time of the rule over the whole history of its row or server, and adds it to that history. (4.2, 4.3, 4.5, 4.9, 6.6)
 abbrev pub DueByWholeHistory : Type 0
 DueByWholeHistory = (run : Run) (history : ℕ → List ℕ) (row cost serial due : ℕ) → Whole run → KeepsHistory run history
-    → releaseSays (released run row cost .answer) ≡ accepted serial due → GaveDue run history row due (released run row cost .run)
+    → releaseSays (released run row cost .answer) ≡ accepted serial due → GaveDue run history row cost due (released run row cost .run)

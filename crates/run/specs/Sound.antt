@@ -8,14 +8,17 @@ use lib.Dec.{leb, ltb}
 use lib.ListN.{length, getD}
 use Rattle.kinds.specs.Numbering.{maxTime}
 use Rattle.table.specs.declared.Row.{Row}
+use Rattle.kinds.specs.declared.Tick.{Tick}
+use Rattle.table.specs.declared.Server.{Server}
 use Rattle.table.specs.declared.Table.{Table}
-use Rattle.table.specs.Limits.{maxRows}
+use Rattle.table.specs.Limits.{maxRows, maxServers}
 use Rattle.table.specs.declared.CostAnswer.{CostAnswer}
 use Rattle.table.specs.declared.CostAnswer.the-variants as answer
 use Rattle.table.specs.Costs.{costLimits, limitOf, costAnswer}
 use Rattle.table.specs.Rows.{fromOneTo, rowAcceptable}
 use Rattle.table.specs.Timer.{timerInRange, GoodTimer}
-use Rattle.table.specs.Tables.{rowsOf}
+use Rattle.table.specs.Servers.{serverInRange, noServer, GoodServer}
+use Rattle.table.specs.Tables.{rowsOf, serversOf}
 use Rattle.table.specs.SpelledTables.{WithinLimits}
 use Rattle.due.specs.declared.Kept.{Kept}
 use Rattle.due.specs.Kept.{keptSound}
@@ -56,6 +59,13 @@ rowsSound [] ks = true
 rowsSound (r ∷ rs) [] = true
 rowsSound (r ∷ rs) (k ∷ ks) = rowAcceptable r && keptSound k r && rowsSound rs ks
 
+-- Each server is one that a table may have, and its last due time is at most 2^40. A run has a last due time for every server that a table may have, so the
+-- case of a server without one does not come up. (6.21, 6.24)
+abbrev pub serversSound : List Server → List Tick → Bool
+serversSound [] ls = true
+serversSound (v ∷ vs) [] = true
+serversSound (v ∷ vs) (l ∷ ls) = serverInRange v && leb (l .0) maxTime && serversSound vs ls
+
 -- The most that the next serial may be: the clock plus the number of pending jobs. The job of each serial given out is pending or was finished by a tick, and
 -- no two were finished by the same tick. (6.23)
 abbrev pub serialBound : Run → ℕ
@@ -66,9 +76,11 @@ unfoldable pub soundOf : Run → Bool
 soundOf run =
     timerInRange (run .table .s) (run .table .p)
     && leb (run .table .count) maxRows
+    && leb (run .table .serving) maxServers
     && leb (run .clock .0) maxTime
     && leb (run .pending .count) maxPlaces
     && rowsSound (rowsOf (run .table)) (run .kept)
+    && serversSound (serversOf (run .table)) (run .last)
     && jobsSound (costLimits (run .table)) (run .clock .0) (run .next .0) (jobsOf (run .pending))
     && distinctSerials (jobsOf (run .pending))
     && leb (run .next .0) (serialBound run)
@@ -77,7 +89,7 @@ soundOf run =
 
 -- The facts about a sound pending job. (6.22)
 pub record SoundJob (t : Table) (clock next : ℕ) (j : Job) : Type 0 where
-  pub row-in-use : j .row .0 < t .count
+  pub row-in-use : j .row .0 < t .count + t .serving
   pub released : j .release .0 ≤ clock
   pub some-cost : 1 ≤ j .cost
   pub cost-allowed : j .cost ≤ costLimit t (j .row .0)
@@ -90,11 +102,14 @@ pub record SoundJob (t : Table) (clock next : ℕ) (j : Job) : Type 0 where
 pub record Sound (run : Run) : Type 0 where
   pub good-timer : GoodTimer (run .table .s) (run .table .p)
   pub few-rows : run .table .count ≤ maxRows
+  pub few-servers : run .table .serving ≤ maxServers
   pub clock-in-time : run .clock .0 ≤ maxTime
   pub few-pending : run .pending .count ≤ maxPlaces
   pub rows : (i : ℕ) → i < run .table .count → WithinLimits (rowAt (run .table) i)
   pub c-within-d : (i : ℕ) → i < run .table .count → rowAt (run .table) i .c ≤ rowAt (run .table) i .d
   pub kept : (i : ℕ) → i < run .table .count → SoundKept (keptOf run i) (rowAt (run .table) i .x)
+  pub servers : (k : ℕ) → k < run .table .serving → GoodServer (getD (run .table .servers) k noServer)
+  pub last : (k : ℕ) → k < run .table .serving → getD (run .last) k (record { 0 = 0 }) .0 ≤ maxTime
   pub jobs : (i : ℕ) → i < length (jobsOf (run .pending)) → SoundJob (run .table) (run .clock .0) (run .next .0) (getD (jobsOf (run .pending)) i noJob)
   pub apart : (i k : ℕ) → i < k → k < length (jobsOf (run .pending))
       → getD (jobsOf (run .pending)) i noJob .serial .0 ≡ getD (jobsOf (run .pending)) k noJob .serial .0 → ⊥
@@ -105,6 +120,8 @@ pub record Sound (run : Run) : Type 0 where
 pub record Whole (run : Run) : Type 0 where
   pub all-rows : length (run .table .rows) ≡ maxRows
   pub all-kept : length (run .kept) ≡ maxRows
+  pub all-servers : length (run .table .servers) ≡ maxServers
+  pub all-last : length (run .last) ≡ maxServers
   pub all-places : length (run .pending .places) ≡ maxPlaces
 
 -- A run passes the test exactly when the facts about a sound run hold for it, and on no other condition. (6.20)

@@ -4,6 +4,7 @@ mod soundness;
 
 use crate::soundness::jobs_sound;
 use crate::soundness::rows_sound;
+use crate::soundness::servers_sound;
 use due::Due;
 use due::Kept;
 use jobs::Job;
@@ -24,7 +25,8 @@ ghost use Rattle.run.specs.Sound.{soundOf, Whole};
 ghost use Rattle.run.specs.Release.{refusedRelease, released};
 ghost use Rattle.run.specs.Ticking.{ticked};
 
-// A run holds its table, which is the timer and the rows, the clock, the pending jobs, the next serial, and the kept due times of each row. (6.1)
+// A run holds its table, which is the timer, the rows and the servers, the clock, the pending jobs, the next serial, the kept due times of each row, and the
+// last due time of each server. (6.1)
 #[repr(C)]
 pub struct Run {
     pub table: Table,
@@ -32,6 +34,7 @@ pub struct Run {
     pub pending: Pending,
     pub next: Serial,
     pub kept: [Kept; Table::MAX_ROWS],
+    pub last: [Tick; Table::MAX_SERVERS],
 }
 
 // The answer of a start: the run is ready, or the table was refused. (6.4)
@@ -119,6 +122,7 @@ impl Run {
             pending,
             next: Serial(0),
             kept: [nothing; Table::MAX_ROWS],
+            last: [Tick(0); Table::MAX_SERVERS],
         }
     }
 
@@ -130,12 +134,17 @@ impl Run {
         let table = self.table;
         let pending = self.pending;
         let kept = self.kept;
+        let servers = table.servers;
+        let last = self.last;
         let clock = self.clock;
         let next = self.next;
         if !table::timer_in_range(table.s, table.p) {
             return false;
         }
         if Table::MAX_ROWS < table.count {
+            return false;
+        }
+        if Table::MAX_SERVERS < table.serving {
             return false;
         }
         if Run::MAX_CLOCK < clock.0 {
@@ -147,16 +156,19 @@ impl Run {
         if !rows_sound(table, kept) {
             return false;
         }
+        if !servers_sound(servers, table.serving, last) {
+            return false;
+        }
         let limits = table.cost_limits();
-        let used = table.count;
+        let used = table.count + table.serving;
         if !jobs_sound(&limits[..used], clock, next, pending) {
             return false;
         }
         next.0 <= clock.0 + pending.count as u64
     }
 
-    // Releases a job of a row at the clock. It answers the job's serial and due time, or refuses with 11, 6, 7, 8 or 9, in this order. A refused release leaves
-    // the run unchanged. (6.6 to 6.8, 6.18)
+    // Releases a job of a row or of a server at the clock. It answers the job's serial and due time, or refuses with 11, 6, 7, 8 or 9, in this order. A
+    // refused release leaves the run unchanged. (6.6 to 6.8, 6.18)
     pub fn release(self, row: RowNumber, cost: u64) -> ReleaseStep
         ensures { λ r. ⌜ r ≡ released self (row .0) cost ⌝ }
     {
@@ -166,24 +178,32 @@ impl Run {
         let mut run = self;
         let table = run.table;
         let limits = table.cost_limits();
-        let used = table.count;
+        let used = table.count + table.serving;
         let limit = table::limit_of(&limits[..used], row);
         match limit.answer(cost) {
             CostAnswer::Refused(r) => return refused_release(run, r),
             CostAnswer::Allowed => {}
         }
-        let at = row.0 as usize;
-        let its = table.rows[at];
         let pending = run.pending;
         if Run::MAX_PENDING <= pending.count {
             return refused_release(run, Refusal::PlacesFull);
         }
-        let kept = run.kept[at];
+        let at = row.0 as usize;
+        let count = table.count;
         let clock = run.clock;
         let serial = run.next;
-        match kept.due(its, clock, cost) {
+        let given = if at < count {
+            let kept = run.kept[at];
+            let its = table.rows[at];
+            kept.due(its, clock, cost)
+        } else {
+            let server = table.servers[at - count];
+            let last = run.last[at - count];
+            due::odd_due(server, last, clock, cost)
+        };
+        match given {
             Due::Refused(r) => refused_release(run, r),
-            // A place is unused and the row is in range, so the job is put in and its due time is kept.
+            // A place is unused and the row or server is in range, so the job is put in and its due time is kept.
             Due::At(due) => {
                 let put = pending.put(Job {
                     serial,
@@ -195,9 +215,15 @@ impl Run {
                 });
                 let more = put.pending;
                 run.pending = more;
-                let keep = kept.keep(its, due);
-                let newest = keep.kept;
-                run.kept[at] = newest;
+                if at < count {
+                    let kept = run.kept[at];
+                    let its = table.rows[at];
+                    let keep = kept.keep(its, due);
+                    let newest = keep.kept;
+                    run.kept[at] = newest;
+                } else {
+                    run.last[at - count] = due;
+                }
                 let following = Serial(serial.0 + 1);
                 run.next = following;
                 ReleaseStep {

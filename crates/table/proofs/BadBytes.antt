@@ -9,9 +9,12 @@ use Rattle.numbers.specs.BadByte.{NumbersBetween, nothing-between, number-first
 use Rattle.numbers.proofs.Spellings.{spelled-rest}
 use Rattle.numbers.proofs.BadByte.{numbers-joined}
 use Rattle.table.specs.declared.Row.{Row}
-use Rattle.table.specs.SpelledTables.{WithinLimits, AcceptableRow, spelledRow}
-use Rattle.table.specs.Refusals.{PartStands, ValueNext, misspelled, out-of-range, TimerEnds, no-s, bad-p, s-not-below}
-use Rattle.table.specs.Refusals.{no-count, too-large-count, bad-value, hopeless-row, RefusedSo, bad-timer, bad-rows, bytes-after, long-period}
+use Rattle.table.specs.declared.Server.{Server}
+use Rattle.table.specs.Servers.{GoodServer}
+use Rattle.table.specs.SpelledTables.{WithinLimits, AcceptableRow, spelledRow, spelledServer}
+use Rattle.table.specs.Refusals.{PartStands, ValueNext, RowsEnd, misspelled, out-of-range, TimerEnds, no-s, bad-p, s-not-below}
+use Rattle.table.specs.Refusals.{no-count, too-large-count, bad-value, hopeless-row, ServerNext, misspelled-b, b-out-of-range}
+use Rattle.table.specs.Refusals.{no-server-count, too-many-servers, bad-a, bad-b, RefusedSo, bad-timer, bad-rows, bad-servers, bytes-after, long-period}
 use Rattle.table.specs.Refusals.{RefusedAtTheFirstBadByte}
 use Rattle.table.proofs.Each.{each-head, each-tail}
 use Rattle.table.proofs.Spelling.{parted}
@@ -63,12 +66,43 @@ module _ {s : List ℕ} where
       numbers-joined (number-there (p .count) (omega (arith, p .few-rows)) (t .1))
       (numbers-joined (rows-there (p .rows) (p .rows-acceptable) (u .1)) (values-there (p .values) small (u .2)))
 
+  -- Where rows end, numbers stand before.
+  rows-end-there : {from at : ℕ} {rows : List Row} → RowsEnd s from at rows → NumbersBetween s from at
+  rows-end-there {rows = rows} e =
+      let t = parted (spelling (length rows)) (flatten (map spelledRow rows)) (e .before) in
+      numbers-joined (number-there (length rows) (omega (arith, e .few-rows)) (t .1)) (rows-there rows (e .rows-acceptable) (t .2))
+
+  -- Where the spelling of a server stands, two numbers stand.
+  server-there : {at next : ℕ} (v : Server) → GoodServer v → PartStands s at (spelledServer v) next → NumbersBetween s at next
+  server-there v w p =
+      let t = parted (spelling (v .a)) (spelling (v .b)) p in
+      numbers-joined (number-there (v .a) (omega (arith, w .a-within-b, w .most-b)) (t .1)) (number-there (v .b) (omega (arith, w .most-b)) (t .2))
+
+  -- Where the spellings of servers stand, numbers stand.
+  servers-there : {at next : ℕ} (vs : List Server) → ((v : Server) → List·Memᴰ v vs → GoodServer v) → PartStands s at (flatten (map spelledServer vs)) next
+      → NumbersBetween s at next
+  unfolding flatten
+  servers-there {at} {next} [] each p = let same : at ≡ next = omega (arith, p .ends) in subst (λ end. NumbersBetween s at end) same nothing-between
+  servers-there (v ∷ vs) each p =
+      let t = parted (spelledServer v) (flatten (map spelledServer vs)) p in
+      numbers-joined (server-there v (each-head each) (t .1)) (servers-there vs (each-tail each) (t .2))
+
+  -- Up to a server that is next, numbers stand.
+  numbers-before-server : {from at : ℕ} → ServerNext s from at → NumbersBetween s from at
+  numbers-before-server p =
+      let t = parted (spelling (p .count)) (flatten (map spelledServer (p .servers))) (p .before) in
+      numbers-joined (number-there (p .count) (omega (arith, p .few-servers)) (t .1)) (servers-there (p .servers) (p .each-good) (t .2))
+
   -- Where a timer ends, its two numbers stand before.
   timer-there : {at ts tp : ℕ} → TimerEnds s at ts tp → NumbersBetween s 0 at
   timer-there {ts = ts} {tp} e =
       let w = e .good-timer in
       let t = parted (spelling ts) (spelling tp) (e .before) in
       numbers-joined (number-there ts (omega (arith, w .s-below-p, w .most-p)) (t .1)) (number-there tp (omega (arith, w .most-p)) (t .2))
+
+  -- Where rows end behind a timer, numbers stand before.
+  table-there : {from then ts tp : ℕ} {rows : List Row} → TimerEnds s from ts tp → RowsEnd s from then rows → NumbersBetween s 0 then
+  table-there timed ended = numbers-joined (timer-there timed) (rows-end-there ended)
 
   -- What is to be refused with 1 has its first bad byte there.
   first-bad : {number place : ℕ} → RefusedSo s number place → number ≡ 1 → FirstBadByte s place
@@ -82,6 +116,17 @@ module _ {s : List ℕ} where
       record { start = at; before = numbers-joined (timer-there timed) (numbers-before next); bad = p }
   first-bad (bad-rows timed (bad-value next (out-of-range n p o))) one = absurd (omega arith)
   first-bad (bad-rows timed (hopeless-row p)) one = absurd (omega arith)
+  first-bad (bad-servers {then = then} timed ended (no-server-count p)) one = record { start = then; before = table-there timed ended; bad = p }
+  first-bad (bad-servers timed ended (too-many-servers n read many)) one = absurd (omega arith)
+  first-bad (bad-servers timed ended (bad-a {at = at} next (misspelled p))) one =
+      record { start = at; before = numbers-joined (table-there timed ended) (numbers-before-server next); bad = p }
+  first-bad (bad-servers timed ended (bad-a next (out-of-range n p o))) one = absurd (omega arith)
+  first-bad (bad-servers timed ended (bad-b next a stands some most (misspelled-b p))) one = record {
+    start = a .next;
+    before = numbers-joined (table-there timed ended) (numbers-joined (numbers-before-server next) (number-first a stands nothing-between));
+    bad = p;
+  }
+  first-bad (bad-servers timed ended (bad-b next a stands some most (b-out-of-range n p o))) one = absurd (omega arith)
   first-bad (bytes-after p l) one = absurd (omega arith)
   first-bad (long-period p l) one = absurd (omega arith)
 

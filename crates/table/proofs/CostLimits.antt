@@ -1,13 +1,14 @@
--- The one test of a row number and a cost: each answer comes exactly where its rule says, and the limits of a table are those of its rows in use.
--- (docs/RULES.md, 6.8.)
-use Prim.Native.Nat.{ℕ, _≤_, _<_}
+-- The one test of a row number and a cost: each answer comes exactly where its rule says, and the limits of a table are those of its rows and servers in use.
+-- (docs/RULES.md, 3.20 and 6.8.)
+use Prim.Native.Nat.{ℕ, _+_, _-_, _≤_, _<_}
 use native.Mathlib.Decide.{decLe}
 use native.Mathlib.Omega.{arith}
-use mathlib.Core.Path.{_≡_, refl, ap, _∙_}
+use mathlib.Core.Path.{_≡_, refl, sym, ap, ap₂, _∙_}
 use mathlib.Core.Logic.{_⊎_, inl, inr, ⊎-elim}
-use mathlib.Core.List.{List, [], _∷_}
-use lib.ListN.{length, getD, length-map, List·getD-map}
-use lib.Seq.{getD-take, length-take-le}
+use mathlib.Core.List.{List, [], _∷_, _++_, append-assoc}
+use lib.ListN.{length, take, getD, replicate, length-append, length-map, length-replicate, getD-replicate, replicate-append-replicate, List·getD-append}
+use lib.ListN.{List·getD-map}
+use lib.Seq.{getD-take, getD-append-add, length-take-le, take-at}
 use borrow.Author.Tests.{lt-ltb, le-ltb, le-leb, lt-leb}
 use Rattle.kinds.specs.declared.Refusal.the-variants as refusal
 use Rattle.kinds.specs.Numbering.{values, NeverNumberedZero, refusedWith}
@@ -20,10 +21,10 @@ use Rattle.table.specs.declared.CostLimit.{CostLimit}
 use Rattle.table.specs.declared.CostLimit.the-variants as limit
 use Rattle.table.specs.declared.CostAnswer.{CostAnswer}
 use Rattle.table.specs.declared.CostAnswer.the-variants as answer
+use Rattle.table.specs.Limits.{maxRows, maxSources, maxC}
 use Rattle.table.specs.Tables.{noRow, rowsOf}
-use Rattle.table.specs.Costs.{limitOf, costAnswer, limitSays, costSays}
+use Rattle.table.specs.Costs.{csOf, costLimits, heldLimits, limitOf, costAnswer, limitSays, costSays}
 use Rattle.table.specs.Costs as laws
-use Rattle.table.proofs.Columns.{map-take}
 
 -- ---- the answers
 
@@ -156,11 +157,30 @@ costs-said-apart = (limits, costs)
 
 -- ---- the limits of a table
 
-pub limits-are-the-first : laws.LimitsAreTheFirst
-limits-are-the-first t = map-take (λ (r : Row). r .c) (t .count) (t .rows)
+-- There is one c for each row in use.
+one-c-for-each : (t : Table) → t .count ≤ maxRows → length (t .rows) ≡ maxRows → length (csOf (rowsOf t)) ≡ t .count
+one-c-for-each t few places = length-map (rowsOf t) _ ∙ length-take-le (t .count) (t .rows) (omega arith)
 
-pub one-limit-for-each-row : laws.OneLimitForEachRow
-one-limit-for-each-row t few places = length-map (rowsOf t) _ ∙ length-take-le (t .count) (t .rows) (omega arith)
+pub one-limit-for-each : laws.OneLimitForEach
+one-limit-for-each t few places = length-append (csOf (rowsOf t)) _ ∙ ap₂ _+_ (one-c-for-each t few places) (length-replicate (t .serving) maxC)
+
+pub limits-are-the-first : laws.LimitsAreTheFirst
+limits-are-the-first t few places serving =
+    let used : length (rowsOf t) ≡ t .count = length-take-le (t .count) (t .rows) (omega arith) in
+    let left : maxSources - length (rowsOf t) ≡ t .serving + (maxSources - t .count - t .serving) = omega arith in
+    let split : heldLimits t ≡ costLimits t ++ replicate (maxSources - t .count - t .serving) maxC =
+    ap (λ n. csOf (rowsOf t) ++ replicate n maxC) left
+    ∙ ap (_++_ (csOf (rowsOf t))) (sym (replicate-append-replicate (t .serving) _ maxC)) ∙ sym (append-assoc (csOf (rowsOf t)) _ _)
+    in
+    sym (ap (take (t .count + t .serving)) split ∙ take-at (costLimits t) _ _ (one-limit-for-each t few places))
 
 pub limit-is-its-c : laws.LimitIsItsC
-limit-is-its-c t number h = List·getD-map (λ (r : Row). r .c) (rowsOf t) number noRow ∙ ap (λ (r : Row). r .c) (getD-take (t .count) (t .rows) number noRow h)
+limit-is-its-c t number few places h =
+    List·getD-append (csOf (rowsOf t)) _ 0 number (omega (arith, one-c-for-each t few places))
+    ∙ List·getD-map (λ (r : Row). r .c) (rowsOf t) number noRow ∙ ap (λ (r : Row). r .c) (getD-take (t .count) (t .rows) number noRow h)
+
+pub limit-of-a-server : laws.LimitOfAServer
+limit-of-a-server t number few places above below =
+    let place : number ≡ length (csOf (rowsOf t)) + (number - t .count) = omega (arith, one-c-for-each t few places) in
+    ap (λ n. getD (costLimits t) n 0) place ∙ getD-append-add (csOf (rowsOf t)) _ (number - t .count) 0
+    ∙ getD-replicate (t .serving) (number - t .count) maxC 0 (omega arith)

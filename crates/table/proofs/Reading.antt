@@ -22,7 +22,7 @@ use Rattle.table.specs.declared.Row.{Row}
 use Rattle.table.specs.declared.RowAt.{RowAt}
 use Rattle.table.specs.declared.RowRead.{RowRead}
 use Rattle.table.specs.declared.RowRead.the-variants as row
-use Rattle.table.specs.declared.RowsAnswer.the-variants as answer
+use Rattle.table.specs.declared.PartAnswer.the-variants as answer
 use Rattle.table.specs.Limits.{maxRows}
 use Rattle.table.specs.Rows.{withinLimit, ruleOfX, ruleOfY, ruleOfD, rangeOfC, withinD, afterRange, ruleOfC, fine, rowInRange, testedAt}
 use Rattle.table.specs.Rows.{tested, readValue, afterValue, readRow}
@@ -49,6 +49,15 @@ value-out-of-range most s at n e wrong = rw (e, out-of-range most (n .value) wro
 pub value-misspelled : (rule : ℕ → Option Refusal) (s : List ℕ) (at : ℕ) (r : RefusedAt) → readAt s at ≡ number.Refused r
     → readValue rule s at ≡ number.Refused r
 value-misspelled rule s at r e = rw e
+
+-- A number that passes the test of its rule is fine by that rule.
+pub tested-fine : (rule : ℕ → Option Refusal) (at : ℕ) (v : NumberRead) (n : Number) → tested rule at v ≡ number.Number n → fine (rule (n .value)) ≡ true
+tested-fine rule at (number.Number m) n e = by-rule (rule (m .value)) refl e
+  where
+    by-rule : (o : Option Refusal) → rule (m .value) ≡ o → testedAt at o m ≡ number.Number n → fine (rule (n .value)) ≡ true
+    by-rule none f g = let same : m ≡ n = cc in rw (← same, f)
+    by-rule (some r) f g = impossible cc
+tested-fine rule at (number.Refused r) n e = impossible cc
 
 -- ---- a c, whose rule looks at d after its own range was tested
 
@@ -226,12 +235,12 @@ none-read s from n e few =
       answers = rw (e, le-leb (n .value) maxRows few, all);
     }
 
--- After one more row is stored, the rows after it are still unused.
-unused-more : (held : List Row) (i : ℕ) (r : Row) → i < maxRows → drop i held ≡ replicate (maxRows - i) noRow
-    → drop (i + 1) (set held i r) ≡ replicate (maxRows - (i + 1)) noRow
-unused-more held i r h e =
-    let left : maxRows - i ≡ suc (maxRows - (i + 1)) = omega arith in
-    drop-set-lt (i + 1) held i r (omega arith) ∙ sym (drop-drop 1 i held) ∙ rw (e, left)
+-- After one more element is stored, those after it are still unused.
+pub unused-more : {A : Type 0} (room : ℕ) (fill : A) (held : List A) (i : ℕ) (a : A) → i < room → drop i held ≡ replicate (room - i) fill
+    → drop (i + 1) (set held i a) ≡ replicate (room - (i + 1)) fill
+unused-more room fill held i a h e =
+    let left : room - i ≡ suc (room - (i + 1)) = omega arith in
+    drop-set-lt (i + 1) held i a (omega arith) ∙ sym (drop-drop 1 i held) ∙ rw (e, left)
 
 module _ {s : List ℕ} {from n : ℕ} {held : List Row} {at i : ℕ} (p : ReadSoFar s from n held at i) where
   -- If row i is read, one more row is held.
@@ -244,7 +253,7 @@ module _ {s : List ℕ} {from n : ℕ} {held : List Row} {at i : ℕ} (p : ReadS
         not-past = omega arith;
         few-rows = p .few-rows;
         all-places = length-set held i (r .row) ∙ p .all-places;
-        unused = unused-more held i (r .row) room (p .unused);
+        unused = unused-more maxRows noRow held i (r .row) room (p .unused);
         answers = p .answers ∙ rw (left, next-row (n - (i + 1)) s at r e, add-one, now-first, one-more-in-front);
       }
 

@@ -1,11 +1,11 @@
--- Bytes are refused exactly as the rules say: for their timer, for their row count, for a bad value, for a hopeless row, for bytes after the rows, or for
--- their H. (docs/RULES.md, 3.3, 3.7 to 3.12 and 3.17.)
+-- Bytes are refused exactly as the rules say: for their timer, for their row count, for a bad value, for a hopeless row, for their servers, for bytes after the
+-- servers, or for their H. (docs/RULES.md, 3.3, 3.7 to 3.12, 3.17 and 3.19.)
 use Prim.Native.Nat.{ℕ, _+_, _≤_}
 use native.Mathlib.Decide.{decLe}
 use native.Mathlib.Omega.{arith}
 use mathlib.Core.Path.{_≡_, refl, ap, _∙_}
-use mathlib.Core.Logic.{_↔_, inl, inr}
-use mathlib.Core.List.{List, _++_, flatten, map, append-assoc}
+use mathlib.Core.Logic.{inl, inr}
+use mathlib.Core.List.{List, _++_, flatten, map}
 use lib.ListN.{length, getD}
 use borrow.Author.Tests.{le-leb, lt-leb, lt-ltb, le-ltb}
 use Rattle.kinds.specs.Numbering.{refusalNumber, refusedWith}
@@ -20,6 +20,7 @@ use Rattle.numbers.specs.Reading.{readAt}
 use Rattle.numbers.specs.SpelledNumbers.{Bytes}
 use Rattle.numbers.proofs.Spellings.{number-has-one-spelling, spelled-read}
 use Rattle.numbers.proofs.BadByte.{bad-read, refused-bad}
+use Rattle.table.specs.declared.Row.{Row}
 use Rattle.table.specs.declared.TimerAt.{TimerAt}
 use Rattle.table.specs.declared.TimerRead.{TimerRead}
 use Rattle.table.specs.declared.TimerRead.the-variants as timer
@@ -28,15 +29,20 @@ use Rattle.table.specs.Limits.{maxRows, maxPeriod}
 use Rattle.table.specs.Content.{Content}
 use Rattle.table.specs.Period.{periodOf}
 use Rattle.table.specs.Timer.{readTimer}
-use Rattle.table.specs.Tables.{Rows, rows, refused, readRows, rowsFrom, afterCount, refusedTable, atEnd, withRows, afterRows, afterTimer, tableRead}
+use Rattle.table.specs.Servers.{Servers, servers, serversFrom}
+use Rattle.table.specs.Servers as servers
+use Rattle.table.specs.Tables.{Rows, rows, refused, rowsFrom, afterCount, refusedTable, atEnd, contentWith, afterServers, afterRows, afterTimer}
+use Rattle.table.specs.Tables.{tableRead}
 use Rattle.table.specs.Answers.{tableSays}
 use Rattle.table.specs.SpelledTables.{spelledRow}
 use Rattle.table.specs.Refusals.{PartStands, valueLimits, ValueNext, RowsEnd, TimerEnds, ContentEnds, BadValue, misspelled, out-of-range}
 use Rattle.table.specs.Refusals.{HopelessRowIn, TableRefusal, RowsRefusedSo, no-count, too-large-count, bad-value, hopeless-row}
-use Rattle.table.specs.Refusals.{TimerRefusedSo, no-s, bad-p, s-not-below, RefusedSo, bad-timer, bad-rows, bytes-after, long-period}
-use Rattle.table.proofs.Spelling.{parted, joined, ends-inside, number-stands, RowsStand, count-then, rows-then, rows-end}
+use Rattle.table.specs.Refusals.{ServersRefusedSo, no-server-count, too-many-servers, bad-a, bad-b, misspelled-b, b-out-of-range}
+use Rattle.table.specs.Refusals.{TimerRefusedSo, no-s, bad-p, s-not-below, RefusedSo, bad-timer, bad-rows, bad-servers, bytes-after, long-period}
+use Rattle.table.proofs.Spelling.{parted, joined, ends-inside, number-stands, RowsStand, count-then, rows-end}
 use Rattle.table.proofs.Timers.{timer-then, timer-ends, timer-refused-if-so, timer-so-if-refused}
-use Rattle.table.proofs.SpelledTables.{content-then}
+use Rattle.table.proofs.SpelledServers.{servers-end, servers-refused-if-so, servers-so-if-refused}
+use Rattle.table.proofs.SpelledTables.{rows-and-then, content-then}
 use Rattle.table.proofs.BadValues.{RowsEndBadly, rows-end-badly, bad-refused, row-refused, rows-refused, RowEnds, badly, hopelessly, HopelessHere, hopeless-refused}
 
 -- ---- rows
@@ -153,15 +159,19 @@ says-refused-if-so {s} b (bad-rows timed w) =
     let r = rows-refused-if-so b w in
     let read : tableRead s ≡ refusedTable (r .how) = ap (afterTimer s) (timer-then timed) ∙ ap (afterRows s _) (r .answer) in
     rw (read, r .its-number, r .its-place)
+says-refused-if-so {s} b (bad-servers {rows = rs} timed ended w) =
+    let r = servers-refused-if-so b w in
+    let read : tableRead s ≡ refusedTable (r .how) = rows-and-then timed ended ∙ ap (afterServers s _ rs) (r .answer) in
+    rw (read, r .its-number, r .its-place)
 says-refused-if-so {s} b (bytes-after {at} p l) = rw (content-then p, lt-ltb at (length s) l)
 says-refused-if-so {s} b (long-period {content} p l) =
     rw (content-then p, le-ltb (length s) (length s) (omega arith), lt-leb (periodOf content) maxPeriod l)
 
 -- What stands before the end of a content ends inside the bytes.
 content-inside : {s : List ℕ} {at : ℕ} {content : Content} → ContentEnds s at content → at ≤ length s
-content-inside p = ends-inside (p .its-rows .before) (ends-inside (p .timer .before) (omega arith))
+content-inside p = ends-inside (p .its-servers .before) (ends-inside (p .its-rows .before) (ends-inside (p .timer .before) (omega arith)))
 
--- After the rows, only extra bytes and an H above its limit are refused.
+-- After the servers, only extra bytes and an H above its limit are refused.
 refused-at-end : {s : List ℕ} {at : ℕ} {content : Content} {r : RefusedAt} → ContentEnds s at content → atEnd s content at .answer ≡ Refused r
     → RefusedSo s (refusalNumber (r .refusal)) (r .place)
 refused-at-end {s} {at} {content} {r} p e = elim (decLe (length s) at) [
@@ -186,17 +196,29 @@ refused-at-end {s} {at} {content} {r} p e = elim (decLe (length s) at) [
 pub so-if-refused : (s : List ℕ) (r : RefusedAt) → Bytes s → tableRead s .answer ≡ Refused r → RefusedSo s (refusalNumber (r .refusal)) (r .place)
 so-if-refused s r b e = first (readTimer s) refl e
   where
-    after : (t : TimerAt) → TimerEnds s (t .next) (t .s) (t .p) → (v : Rows) → rowsFrom s (t .next) ≡ v → afterRows s t v .answer ≡ Refused r
-        → RefusedSo s (refusalNumber (r .refusal)) (r .place)
-    after t timed (rows rs at) f g =
-        refused-at-end {content = withRows t rs} (record { from = t .next; timer = timed; its-rows = rows-end (t .next) b f }) g
-    after t timed (refused q) f g =
+    last : (t : TimerAt) {rs : List Row} {then : ℕ} → TimerEnds s (t .next) (t .s) (t .p) → RowsEnd s (t .next) then rs → then ≤ length s → (v : Servers)
+        → serversFrom s then ≡ v → afterServers s t rs v .answer ≡ Refused r → RefusedSo s (refusalNumber (r .refusal)) (r .place)
+    last t {rs} {then} timed ended inside (servers vs at) f g =
+        refused-at-end {content = contentWith t rs vs}
+        (record { from = t .next; then = then; timer = timed; its-rows = ended; its-servers = servers-end then b inside f })
+        g
+    last t {then = then} timed ended inside (servers.refused q) f g =
         let same : q ≡ r = cc in
-        let inside : t .next ≤ length s = ends-inside (timed .before) (omega arith) in
+        bad-servers timed ended (servers-so-if-refused then b inside (f ∙ ap servers.refused same))
+
+    after : (t : TimerAt) → TimerEnds s (t .next) (t .s) (t .p) → t .next ≤ length s → (v : Rows) → rowsFrom s (t .next) ≡ v
+        → afterRows s t v .answer ≡ Refused r → RefusedSo s (refusalNumber (r .refusal)) (r .place)
+    after t timed inside (rows rs then) f g =
+        let ended = rows-end (t .next) b f in
+        last t timed ended (ends-inside (ended .before) inside) (serversFrom s then) refl g
+    after t timed inside (refused q) f g =
+        let same : q ≡ r = cc in
         bad-rows timed (rows-so-if-refused (t .next) b inside (f ∙ ap refused same))
 
     first : (v : TimerRead) → readTimer s ≡ v → afterTimer s v .answer ≡ Refused r → RefusedSo s (refusalNumber (r .refusal)) (r .place)
-    first (timer.Timer t) f g = after t (timer-ends b f) (rowsFrom s (t .next)) refl g
+    first (timer.Timer t) f g =
+        let timed = timer-ends b f in
+        after t timed (ends-inside (timed .before) (omega arith)) (rowsFrom s (t .next)) refl g
     first (timer.Refused q) f g = let same : q ≡ r = cc in bad-timer (timer-so-if-refused b (f ∙ ap timer.Refused same))
 
 -- A bad value is refused with 1 or 3.
@@ -210,6 +232,14 @@ timer-refusal (no-s none) = (omega arith, omega arith)
 timer-refusal (bad-p s stands bad) = value-refusal bad
 timer-refusal (s-not-below s p stands stands′ some most above) = (omega arith, omega arith)
 
+-- The rules refuse servers with 1, 2 or 3.
+servers-refusal : {s : List ℕ} {from number place : ℕ} → ServersRefusedSo s from number place → (1 ≤ number) × (number ≤ 3)
+servers-refusal (no-server-count none) = (omega arith, omega arith)
+servers-refusal (too-many-servers n read many) = (omega arith, omega arith)
+servers-refusal (bad-a next bad) = value-refusal bad
+servers-refusal (bad-b next a stands some most (misspelled-b none)) = (omega arith, omega arith)
+servers-refusal (bad-b next a stands some most (b-out-of-range n read outside)) = (omega arith, omega arith)
+
 -- The rules refuse bytes with the numbers 1 to 5 and 16 only.
 pub table-refusal : {s : List ℕ} {number place : ℕ} → RefusedSo s number place → TableRefusal number
 table-refusal (bad-timer bad) = let n = timer-refusal bad in inl (n .0, omega (arith, n .1))
@@ -217,6 +247,7 @@ table-refusal (bad-rows timed (no-count none)) = inl (omega arith, omega arith)
 table-refusal (bad-rows timed (too-large-count n read many)) = inl (omega arith, omega arith)
 table-refusal (bad-rows timed (bad-value next bad)) = let n = value-refusal bad in inl (n .0, omega (arith, n .1))
 table-refusal (bad-rows timed (hopeless-row p)) = inr refl
+table-refusal (bad-servers timed ended bad) = let n = servers-refusal bad in inl (n .0, omega (arith, n .1))
 table-refusal (bytes-after ended more) = inl (omega arith, omega arith)
 table-refusal (long-period ended long) = inl (omega arith, omega arith)
 
@@ -232,5 +263,6 @@ sixteen-is-hopeless e (bad-rows timed (too-large-count n read many)) = absurd (o
 sixteen-is-hopeless e (bad-rows timed (bad-value next bad)) = absurd (omega (arith, value-refusal bad))
 sixteen-is-hopeless e (bad-rows {from = from} {ts = ts} {tp = tp} timed (hopeless-row p)) =
     record { s = ts; p = tp; from = from; timer = timed; its-row = p }
+sixteen-is-hopeless e (bad-servers timed ended bad) = absurd (omega (arith, servers-refusal bad))
 sixteen-is-hopeless e (bytes-after ended more) = absurd (omega arith)
 sixteen-is-hopeless e (long-period ended long) = absurd (omega arith)

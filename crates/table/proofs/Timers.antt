@@ -26,10 +26,11 @@ use Rattle.table.specs.declared.TimerAt.{TimerAt}
 use Rattle.table.specs.declared.TimerRead.{TimerRead}
 use Rattle.table.specs.declared.TimerRead.the-variants as timer
 use Rattle.table.specs.Limits.{maxP}
-use Rattle.table.specs.Rows.{fine, testedAt, tested, readValue}
+use Rattle.table.specs.Rows.{fine, testedAt, readValue}
 use Rattle.table.specs.Timer.{ruleOfP, ruleOfS, GoodTimer, afterTimerNumber, readTimer, TimerInRangeMeans}
 use Rattle.table.specs.Refusals.{BadValue, TimerEnds, TimerRefusedSo, no-s, bad-p, s-not-below}
 use Rattle.table.proofs.Ranges.{both-true, fine-where, fine-limits, within-fine}
+use Rattle.table.proofs.Reading.{tested-fine}
 use Rattle.table.proofs.Spelling.{parted, joined, spelled-stands, number-read, value-read}
 use Rattle.table.proofs.BadValues.{ValueAnswer, good, bad, good-value, value-answer, bad-refused}
 
@@ -63,15 +64,6 @@ module _ (bytes : List ℕ) where
       -- An s below p is answered, with p and the place right after it.
       pub timer-stands : s .value < p .value → timer.Timer (record { s = s .value; p = p .value; next = p .next }) ≡ readTimer bytes
       timer-stands h = rw (s-read, p-read, lt-ltb (s .value) (p .value) h)
-
--- A number that passes the test of its rule is fine by that rule.
-tested-fine : (rule : ℕ → Option Refusal) (at : ℕ) (v : NumberRead) (n : Number) → tested rule at v ≡ number.Number n → fine (rule (n .value)) ≡ true
-tested-fine rule at (number.Number m) n e = by-rule (rule (m .value)) refl e
-  where
-    by-rule : (o : Option Refusal) → rule (m .value) ≡ o → testedAt at o m ≡ number.Number n → fine (rule (n .value)) ≡ true
-    by-rule none f g = let same : m ≡ n = cc in rw (← same, f)
-    by-rule (some r) f g = impossible cc
-tested-fine rule at (number.Refused r) n e = impossible cc
 
 -- A timer that was read has a p of at least 1.
 pub some-p-read : (bytes : List ℕ) (t : TimerAt) → readTimer bytes ≡ timer.Timer t → 1 ≤ t .p

@@ -1,12 +1,12 @@
 -- One test of a row number and a cost. A release, the soundness of a run and a script's record all use it. It answers 6 where the row number is not in use, and
--- 7 where the cost is 0 or above the row's c. (docs/RULES.md, 6.8 and 2.11.)
-use Prim.Native.Nat.{ℕ, _≤_, _<_}
+-- 7 where the cost is 0 or above the row's c. A server is a row whose c is 4,096. (docs/RULES.md, 3.20, 6.8 and 2.11.)
+use Prim.Native.Nat.{ℕ, _+_, _-_, _≤_, _<_}
 use mathlib.Core.Path.{_≡_}
 use mathlib.Core.Logic.{_↔_, _⊎_}
 use mathlib.Core.Bool.{cond}
-use mathlib.Core.List.{List, [], _∷_, map}
+use mathlib.Core.List.{List, [], _∷_, _++_, map}
 use lib.Dec.{ltb}
-use lib.ListN.{length, take, getD}
+use lib.ListN.{length, take, getD, replicate}
 use Rattle.kinds.specs.declared.Refusal.the-variants as refusal
 use Rattle.kinds.specs.Numbering.{Says, numbered, values, refusedSays, withoutPlace, NeverNumberedZero, SaysApart, refusedWith}
 use Rattle.table.specs.declared.Row.{Row}
@@ -15,7 +15,7 @@ use Rattle.table.specs.declared.CostLimit.{CostLimit}
 use Rattle.table.specs.declared.CostLimit.the-variants as limit
 use Rattle.table.specs.declared.CostAnswer.{CostAnswer}
 use Rattle.table.specs.declared.CostAnswer.the-variants as answer
-use Rattle.table.specs.Limits.{maxRows}
+use Rattle.table.specs.Limits.{maxRows, maxServers, maxSources, maxC}
 use Rattle.table.specs.Rows.{fromOneTo}
 use Rattle.table.specs.Tables.{noRow, rowsOf}
 
@@ -23,11 +23,16 @@ use Rattle.table.specs.Tables.{noRow, rowsOf}
 abbrev pub csOf : List Row → List ℕ
 csOf rows = map (λ (r : Row). r .c) rows
 
--- A table's cost limits are the c of each row in use, in the order of the row numbers. (1.6)
+-- A table's cost limits, in the order of the row numbers, are the c of each row in use, and then 4,096 for each server in use. (1.6, 3.20)
 abbrev pub costLimits : Table → List ℕ
-costLimits t = csOf (rowsOf t)
+costLimits t = csOf (rowsOf t) ++ replicate (t .serving) maxC
 
--- `limits` has one cost limit for each row in use. A row number below their count has the limit at that number, and any other number is not in use. (6.8)
+-- `cost_limits` lists the c of each row in use, and then 4,096 for every row number that is left. (1.6, 3.20)
+abbrev pub heldLimits : Table → List ℕ
+heldLimits t = csOf (rowsOf t) ++ replicate (maxSources - length (rowsOf t)) maxC
+
+-- `limits` has one cost limit for each row number in use. A row number below their count has the limit at that number, and any other number is not in use.
+-- (6.8)
 abbrev pub limitOf : (limits : List ℕ) (number : ℕ) → CostLimit
 limitOf limits number = cond (ltb number (length limits)) (limit.Units (getD limits number 0)) limit.NoSuchRow
 
@@ -81,14 +86,21 @@ AllowedMeans = (limits : List ℕ) (number cost : ℕ)
     → (costSays (costAnswer (limitOf limits number) cost) ≡ values [])
     ↔ ((number < length limits) × (1 ≤ cost) × (cost ≤ getD limits number 0))
 
--- `cost_limits` gives a limit for every row that there is room for. Those of the rows in use are the first `count` of them. (3.14)
+-- `cost_limits` gives a limit for every row number that there is room for. Those of the row numbers in use are the first of them. (3.14)
 abbrev pub LimitsAreTheFirst : Type 0
-LimitsAreTheFirst = (t : Table) → costLimits t ≡ take (t .count) (csOf (t .rows))
+LimitsAreTheFirst = (t : Table) → t .count ≤ maxRows → length (t .rows) ≡ maxRows → t .serving ≤ maxServers
+    → costLimits t ≡ take (t .count + t .serving) (heldLimits t)
 
--- A table has as many cost limits as rows in use. (3.14)
-abbrev pub OneLimitForEachRow : Type 0
-OneLimitForEachRow = (t : Table) → t .count ≤ maxRows → length (t .rows) ≡ maxRows → length (costLimits t) ≡ t .count
+-- A table has as many cost limits as rows and servers in use. (3.14)
+abbrev pub OneLimitForEach : Type 0
+OneLimitForEach = (t : Table) → t .count ≤ maxRows → length (t .rows) ≡ maxRows → length (costLimits t) ≡ t .count + t .serving
 
--- The cost limit at a row number in use is the c of that row. (1.6)
+-- The cost limit at a row's number is the c of that row. (1.6)
 abbrev pub LimitIsItsC : Type 0
-LimitIsItsC = (t : Table) (number : ℕ) → number < t .count → getD (costLimits t) number 0 ≡ getD (t .rows) number noRow .c
+LimitIsItsC = (t : Table) (number : ℕ) → t .count ≤ maxRows → length (t .rows) ≡ maxRows → number < t .count
+    → getD (costLimits t) number 0 ≡ getD (t .rows) number noRow .c
+
+-- The cost limit at a server's row number is 4,096. (3.20)
+abbrev pub LimitOfAServer : Type 0
+LimitOfAServer = (t : Table) (number : ℕ) → t .count ≤ maxRows → length (t .rows) ≡ maxRows → t .count ≤ number → number < t .count + t .serving
+    → getD (costLimits t) number 0 ≡ 4096

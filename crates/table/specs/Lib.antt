@@ -3,6 +3,7 @@ pub mod Content
 pub mod Period
 pub mod Rows
 pub mod Timer
+pub mod Servers
 pub mod Tables
 pub mod Costs
 pub mod Answers

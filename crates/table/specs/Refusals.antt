@@ -1,5 +1,5 @@
 -- Which bytes are refused as a table, with which number and at which place. There is one case for each test, in the order of the tests. A case describes the
--- bytes before the place by their spelling, and not by what the reader does with them. (docs/RULES.md, 3.3, 3.7 to 3.12 and 3.17.)
+-- bytes before the place by their spelling, and not by what the reader does with them. (docs/RULES.md, 3.3, 3.7 to 3.12, 3.17 and 3.19.)
 use Prim.Native.Nat.{ℕ, _+_, _≤_, _<_}
 use mathlib.Core.Path.{_≡_}
 use mathlib.Core.Logic.{_↔_, _⊎_}
@@ -10,11 +10,14 @@ use Rattle.numbers.specs.SpelledNumbers.{Bytes, Spelled}
 use Rattle.numbers.specs.BadByte.{BadByteAt, FirstBadByte}
 use Rattle.numbers.specs.Spelling.{spelling}
 use Rattle.table.specs.declared.Row.{Row}
-use Rattle.table.specs.Limits.{maxRows, maxX, maxY, maxD, maxC, maxP, maxPeriod}
+use Rattle.table.specs.declared.Server.{Server}
+use Rattle.table.specs.Limits.{maxRows, maxServers, maxX, maxY, maxD, maxC, maxB, maxP, maxPeriod}
 use Rattle.table.specs.Content.{Content}
 use Rattle.table.specs.Period.{periodOf}
 use Rattle.table.specs.Timer.{GoodTimer}
-use Rattle.table.specs.SpelledTables.{WithinLimits, AcceptableRow, spelledRow, spelledRows, SaysRefused}
+use Rattle.table.specs.Servers.{GoodServer}
+use Rattle.table.specs.SpelledTables.{WithinLimits, AcceptableRow, spelledRow, spelledRows, spelledServer, spelledServers}
+use Rattle.table.specs.SpelledTables.{SaysRefused}
 
 -- In the bytes s, `part` stands from the place `at` on, and `next` is the place right after it.
 pub record PartStands (s : List ℕ) (at : ℕ) (part : List ℕ) (next : ℕ) : Type 0 where
@@ -101,21 +104,63 @@ pub data TimerRefusedSo (bytes : List ℕ) : (number place : ℕ) → Type 0 whe
   s-not-below : (s p : Number) → Spelled bytes 0 s → Spelled bytes (s .next) p → 1 ≤ p .value → p .value ≤ maxP → p .value ≤ s .value
       → TimerRefusedSo bytes 3 0
 
+-- ---- servers, whose count stands at a place
+
+-- No test before the place `at` refuses, and a server begins there. Between the server count's place `from` and `at` stand a server count of at most the limit
+-- of servers, and fewer servers than it counts, each of which a table may have. (3.7)
+pub record ServerNext (s : List ℕ) (from at : ℕ) : Type 0 where
+  pub count : ℕ
+  pub servers : List Server
+  pub few-servers : count ≤ maxServers
+  pub fewer : length servers < count
+  pub each-good : (v : Server) → List·Memᴰ v servers → GoodServer v
+  pub before : PartStands s from (spelling count ++ flatten (map spelledServer servers)) at
+
+-- No test before the place `at` refuses, and the servers end there: their spelling stands between the server count's place `from` and `at`. (3.6, 3.7)
+pub record ServersEnd (s : List ℕ) (from at : ℕ) (servers : List Server) : Type 0 where
+  pub few-servers : length servers ≤ maxServers
+  pub each-good : (v : Server) → List·Memᴰ v servers → GoodServer v
+  pub before : PartStands s from (spelledServers servers) at
+
+-- A b that begins at `at`, after this a, is refused with 1, at its bad byte, if it can't be read, and with 3, at its start, if it is below a or above its
+-- limit. (3.8, 3.19)
+pub data BadB (s : List ℕ) (at a : ℕ) : (number place : ℕ) → Type 0 where
+  misspelled-b : {place : ℕ} → BadByteAt s at place → BadB s at a 1 place
+  b-out-of-range : (n : Number) → Spelled s at n → (n .value < a) ⊎ (maxB < n .value) → BadB s at a 3 at
+
+-- The rules refuse the servers whose count stands at the place `from`, with this number and at this place. (3.7 to 3.9, 3.19)
+pub data ServersRefusedSo (s : List ℕ) (from : ℕ) : (number place : ℕ) → Type 0 where
+  -- If the server count can't be read, that is refusal 1, at its bad byte. (3.8)
+  no-server-count : {place : ℕ} → BadByteAt s from place → ServersRefusedSo s from 1 place
+  -- If the server count is above the limit of servers, that is refusal 2, at its start, whatever follows. (3.9)
+  too-many-servers : (n : Number) → Spelled s from n → maxServers < n .value → ServersRefusedSo s from 2 from
+  -- If an a can't be read, that is refusal 1, at its bad byte. If it is out of its range, that is refusal 3, at its start. (3.8, 3.19)
+  bad-a : {number place at : ℕ} → ServerNext s from at → BadValue s at maxB number place → ServersRefusedSo s from number place
+  -- If a b can't be read, that is refusal 1, at its bad byte. If it is below a or above its limit, that is refusal 3, at its start. (3.8, 3.19)
+  bad-b : {number place at : ℕ} → ServerNext s from at → (a : Number) → Spelled s at a → 1 ≤ a .value → a .value ≤ maxB
+      → BadB s (a .next) (a .value) number place → ServersRefusedSo s from number place
+
 -- ---- tables
 
--- No test before the place `at` refuses, and the rows of the content end there. Their count stands at the place `from`, where the timer ends. (3.6, 3.7)
+-- No test before the place `at` refuses, and the servers of the content end there. The row count stands at the place `from`, where the timer ends, and the
+-- server count at the place `then`, where the rows end. (3.6, 3.7)
 pub record ContentEnds (s : List ℕ) (at : ℕ) (content : Content) : Type 0 where
   pub from : ℕ
+  pub then : ℕ
   pub timer : TimerEnds s from (content .s) (content .p)
-  pub its-rows : RowsEnd s from at (content .rows)
+  pub its-rows : RowsEnd s from then (content .rows)
+  pub its-servers : ServersEnd s then at (content .servers)
 
--- The rules refuse the bytes as a table, with this number and at this place. (3.3, 3.7 to 3.12, 3.17)
+-- The rules refuse the bytes as a table, with this number and at this place. (3.3, 3.7 to 3.12, 3.17, 3.19)
 pub data RefusedSo (s : List ℕ) : (number place : ℕ) → Type 0 where
   -- If the rules refuse the timer, that is refusal 1 or 3. (3.8, 3.17)
   bad-timer : {number place : ℕ} → TimerRefusedSo s number place → RefusedSo s number place
   -- If the rules refuse the rows, whose count stands where a timer ends that a table may have, that is refusal 1, 2, 3 or 16. (3.3, 3.8 to 3.10)
   bad-rows : {number place from ts tp : ℕ} → TimerEnds s from ts tp → RowsRefusedSo s from number place → RefusedSo s number place
-  -- If there are bytes after the last row, that is refusal 4, at the first of them. (3.11)
+  -- If the rules refuse the servers, whose count stands where rows end that a table may have, that is refusal 1, 2 or 3. (3.8, 3.9, 3.19)
+  bad-servers : {number place from then ts tp : ℕ} {rows : List Row} → TimerEnds s from ts tp → RowsEnd s from then rows
+      → ServersRefusedSo s then number place → RefusedSo s number place
+  -- If there are bytes after the last server, that is refusal 4, at the first of them. (3.11)
   bytes-after : {at : ℕ} {content : Content} → ContentEnds s at content → at < length s → RefusedSo s 4 at
   -- If H is above 1,048,576, that is refusal 5, at the table's length. (3.12)
   long-period : {content : Content} → ContentEnds s (length s) content → maxPeriod < periodOf content → RefusedSo s 5 (length s)
@@ -136,7 +181,7 @@ TableRefusal number = ((1 ≤ number) × (number ≤ 5)) ⊎ (number ≡ 16)
 -- ---- what is proved (proofs/TableAnswers.antt and BadBytes.antt)
 
 -- Reading bytes answers a refusal, with its number and its place, exactly when the rules refuse the bytes so. All other bytes are accepted, since an answer is
--- one or the other. (3.7 to 3.13, 3.17)
+-- one or the other. (3.7 to 3.13, 3.17, 3.19)
 abbrev pub RefusedExactly : Type 0
 RefusedExactly = (s : List ℕ) (number place : ℕ) → Bytes s → SaysRefused s number place ↔ RefusedSo s number place
 

@@ -7,11 +7,13 @@ use lib.ListN.{length}
 use Rattle.kinds.specs.Numbering.{values, refusedWith}
 use Rattle.numbers.specs.Spelling.{spelling}
 use Rattle.table.specs.declared.Row.{Row}
-use Rattle.table.specs.Limits.{maxRows, maxX, maxY, maxD, maxC, maxPeriod}
+use Rattle.table.specs.declared.Server.{Server}
+use Rattle.table.specs.Limits.{maxRows, maxServers, maxX, maxY, maxD, maxC, maxPeriod}
 use Rattle.table.specs.Content.{Content}
 use Rattle.table.specs.Period.{periodsOf, periodOf}
 use Rattle.table.specs.Rows.{rowInRange}
 use Rattle.table.specs.Timer.{GoodTimer}
+use Rattle.table.specs.Servers.{GoodServer}
 use Rattle.table.specs.Tables.{tableOf, tableRead}
 use Rattle.table.specs.Answers.{tableSays}
 
@@ -45,14 +47,28 @@ pub record GoodRows (rows : List Row) : Type 0 where
   pub in-range : (r : Row) → List·Memᴰ r rows → rowInRange r ≡ true
   pub c-within-d : (r : Row) → List·Memᴰ r rows → r .c ≤ r .d
 
--- A table is spelled as its timer's s and p and then its rows, with nothing after them. (3.6)
-abbrev pub spelledTable : Content → List ℕ
-spelledTable content = spelling (content .s) ++ (spelling (content .p) ++ spelledRows (content .rows))
+-- A server is spelled as its a and b, one after the other. (3.6)
+abbrev pub spelledServer : Server → List ℕ
+spelledServer v = spelling (v .a) ++ spelling (v .b)
 
--- A content is acceptable when a table may have its timer and its rows, and its H is at most 1,048,576. (3.1 to 3.4, 3.16)
+-- Servers are spelled as their count, and then each server in turn. (3.6)
+abbrev pub spelledServers : List Server → List ℕ
+spelledServers servers = spelling (length servers) ++ flatten (map spelledServer servers)
+
+-- A table may have these servers: there are at most as many as the limit of servers says, and each has 1 ≤ a ≤ b with b at most its limit. (3.18)
+pub record GoodServers (servers : List Server) : Type 0 where
+  pub few-servers : length servers ≤ maxServers
+  pub each-good : (v : Server) → List·Memᴰ v servers → GoodServer v
+
+-- A table is spelled as its timer's s and p, then its rows, and then its servers, with nothing after them. (3.6)
+abbrev pub spelledTable : Content → List ℕ
+spelledTable content = spelling (content .s) ++ (spelling (content .p) ++ (spelledRows (content .rows) ++ spelledServers (content .servers)))
+
+-- A content is acceptable when a table may have its timer, its rows and its servers, and its H is at most 1,048,576. (3.1 to 3.4, 3.16, 3.18)
 pub record Acceptable (content : Content) : Type 0 where
   pub good-timer : GoodTimer (content .s) (content .p)
   pub good-rows : GoodRows (content .rows)
+  pub good-servers : GoodServers (content .servers)
   pub period-within : periodOf content ≤ maxPeriod
 
 -- The bytes s were accepted as this content: the content is acceptable, s is its spelling, the table that was read holds it, and h is its H. (3.4, 3.6)
@@ -62,13 +78,15 @@ pub record AcceptedAs (s : List ℕ) (h : ℕ) (content : Content) : Type 0 wher
   pub read-as : tableRead s .table ≡ tableOf content
   pub period : h ≡ periodOf content
 
--- Other crates may use this about an accepted table: the bytes s were accepted as this content, a table may have its timer, each row is within its limits and
--- has a c of at most its d, and h is at least 1, at most 1,048,576 and a multiple of p and of each y. (3.2 to 3.4, 3.16)
+-- Other crates may use this about an accepted table: the bytes s were accepted as this content, a table may have its timer and each of its servers, each row is
+-- within its limits and has a c of at most its d, and h is at least 1, at most 1,048,576 and a multiple of p, of each y and of each b. (3.2 to 3.4, 3.16,
+-- 3.18)
 pub record UsableContent (s : List ℕ) (h : ℕ) (content : Content) : Type 0 where
   pub accepted-as : AcceptedAs s h content
   pub good-timer : GoodTimer (content .s) (content .p)
   pub within-limits : (r : Row) → List·Memᴰ r (content .rows) → WithinLimits r
   pub c-within-d : (r : Row) → List·Memᴰ r (content .rows) → r .c ≤ r .d
+  pub each-server : (v : Server) → List·Memᴰ v (content .servers) → GoodServer v
   pub some-period : 1 ≤ h
   pub most-period : h ≤ maxPeriod
   pub divides-period : (y : ℕ) → List·Memᴰ y (periodsOf content) → y ∣ h

@@ -14,18 +14,21 @@ use Rattle.table.specs.declared.Row.{Row}
 use Rattle.table.specs.declared.RowRead.{RowRead}
 use Rattle.table.specs.declared.RowRead.the-variants as row
 use Rattle.table.specs.declared.RowsRead.{RowsRead}
-use Rattle.table.specs.declared.RowsAnswer.the-variants as answer
+use Rattle.table.specs.declared.PartAnswer.the-variants as answer
+use Rattle.table.specs.declared.Server.{Server}
 use Rattle.table.specs.declared.TimerAt.{TimerAt}
 use Rattle.table.specs.declared.TimerRead.{TimerRead}
 use Rattle.table.specs.declared.TimerRead.the-variants as timer
 use Rattle.table.specs.declared.Table.{Table}
 use Rattle.table.specs.declared.TableRead.{TableRead}
 use Rattle.table.specs.declared.TableAnswer.the-variants.{Accepted, Refused}
-use Rattle.table.specs.Limits.{maxRows, maxPeriod}
+use Rattle.table.specs.Limits.{maxRows, maxServers, maxPeriod}
 use Rattle.table.specs.Content.{Content, rowsAlone}
 use Rattle.table.specs.Period.{periodOf}
 use Rattle.table.specs.Rows.{rowInRange, readRow}
 use Rattle.table.specs.Timer.{GoodTimer, readTimer}
+use Rattle.table.specs.Servers.{GoodServer, noServer, heldServers, Servers, servers, serversFrom}
+use Rattle.table.specs.Servers as servers
 
 -- ---- rows and tables
 
@@ -41,26 +44,40 @@ heldRows rows = rows ++ replicate (maxRows - length rows) noRow
 abbrev pub rowsOf : Table → List Row
 rowsOf t = take (t .count) (t .rows)
 
--- The content of a table is its timer and its rows in use. (1.2, 3.14, 3.16)
+-- The servers in use are the first `serving` servers of a table. (3.14)
+abbrev pub serversOf : Table → List Server
+serversOf t = take (t .serving) (t .servers)
+
+-- The content of a table is its timer, its rows in use and its servers in use. (1.2, 3.14, 3.16)
 abbrev pub contentOf : Table → Content
-contentOf t = record { s = t .s; p = t .p; rows = rowsOf t }
+contentOf t = record { s = t .s; p = t .p; rows = rowsOf t; servers = serversOf t }
 
 -- `tableOf` is the table that holds a content. (3.14)
 abbrev pub tableOf : Content → Table
-tableOf content = record { s = content .s; p = content .p; rows = heldRows (content .rows); count = length (content .rows) }
+tableOf content = record {
+  s = content .s;
+  p = content .p;
+  rows = heldRows (content .rows);
+  count = length (content .rows);
+  servers = heldServers (content .servers);
+  serving = length (content .servers);
+}
 
--- The empty table has no rows, and its timer, with s = 0 and p = 1, takes no tick. (3.15)
+-- The empty table has no rows and no servers, and its timer, with s = 0 and p = 1, takes no tick. (3.15)
 abbrev pub emptyTable : Table
 emptyTable = tableOf (rowsAlone [])
 
--- A table is in range when its timer is one that a table may have, it has room for as many rows as the limit of rows says, no more rows are in use, and each
--- row in use is in range and has a c of at most its d. (3.1 to 3.3, 3.14, 3.16)
+-- A table is in range when its timer is one that a table may have, it has room for as many rows and servers as their limits say, no more of them are in use,
+-- each row in use is in range and has a c of at most its d, and each server in use is one that a table may have. (3.1 to 3.3, 3.14, 3.16, 3.18)
 pub record InRange (t : Table) : Type 0 where
   pub good-timer : GoodTimer (t .s) (t .p)
   pub few-rows : t .count ≤ maxRows
   pub all-places : length (t .rows) ≡ maxRows
   pub rows-in-range : (i : ℕ) → i < t .count → rowInRange (getD (t .rows) i noRow) ≡ true
   pub c-within-d : (i : ℕ) → i < t .count → getD (t .rows) i noRow .c ≤ getD (t .rows) i noRow .d
+  pub few-servers : t .serving ≤ maxServers
+  pub all-servers : length (t .servers) ≡ maxServers
+  pub good-servers : (k : ℕ) → k < t .serving → GoodServer (getD (t .servers) k noServer)
 
 -- ---- how rows are read
 
@@ -105,21 +122,26 @@ heldAs (refused r) = record { rows = heldRows []; count = 0; answer = answer.Ref
 abbrev pub refusedTable : RefusedAt → TableRead
 refusedTable at = record { table = emptyTable; answer = Refused at }
 
--- The rows were read up to the place `next`. Bytes after them are refusal 4. After that test, an H above 1,048,576 is refusal 5. Otherwise the table is
--- accepted, with its H. (3.11, 3.12, 3.13)
+-- The rows and servers were read up to the place `next`. Bytes after them are refusal 4. After that test, an H above 1,048,576 is refusal 5. Otherwise the
+-- table is accepted, with its H. (3.11, 3.12, 3.13)
 abbrev pub atEnd : List ℕ → Content → (next : ℕ) → TableRead
 atEnd s content next =
     cond (ltb next (length s)) (refusedTable (record { refusal = ExtraBytes; place = next }))
     (cond (leb (periodOf content) maxPeriod) (record { table = tableOf content; answer = Accepted (periodOf content) })
     (refusedTable (record { refusal = PeriodTooLong; place = length s })))
 
--- `withRows` is the content that has a timer and these rows. (3.6)
-abbrev pub withRows : TimerAt → List Row → Content
-withRows t rs = record { s = t .s; p = t .p; rows = rs }
+-- `contentWith` is the content that has a timer, these rows and these servers. (3.6)
+abbrev pub contentWith : TimerAt → List Row → List Server → Content
+contentWith t rs vs = record { s = t .s; p = t .p; rows = rs; servers = vs }
 
--- After the rows come the tests for extra bytes and of H. A refusal of the rows is the table's refusal. (3.7)
+-- After the servers come the tests for extra bytes and of H. A refusal of the servers is the table's refusal. (3.7)
+abbrev pub afterServers : List ℕ → TimerAt → List Row → Servers → TableRead
+afterServers s t rs (servers vs next) = atEnd s (contentWith t rs vs) next
+afterServers s t rs (servers.refused at) = refusedTable at
+
+-- After the rows come the server count and the servers. A refusal of the rows is the table's refusal. (3.7)
 abbrev pub afterRows : List ℕ → TimerAt → Rows → TableRead
-afterRows s t (rows rs next) = atEnd s (withRows t rs) next
+afterRows s t (rows rs next) = afterServers s t rs (serversFrom s next)
 afterRows s t (refused at) = refusedTable at
 
 -- After the timer come the row count and the rows. A refusal of the timer is the table's refusal. (3.7, 3.17)
@@ -127,6 +149,6 @@ abbrev pub afterTimer : List ℕ → TimerRead → TableRead
 afterTimer s (timer.Timer t) = afterRows s t (rowsFrom s (t .next))
 afterTimer s (timer.Refused at) = refusedTable at
 
--- The bytes are read as a table: the timer's s and p, the row count, its rows, and nothing after them. (3.6, 3.7)
+-- The bytes are read as a table: the timer's s and p, the row count, its rows, the server count, its servers, and nothing after them. (3.6, 3.7)
 abbrev pub tableRead : List ℕ → TableRead
 tableRead s = afterTimer s (readTimer s)

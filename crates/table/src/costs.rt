@@ -1,20 +1,24 @@
-// The test of a row number and a cost: is the row number in use, and is the cost from 1 to the row's c? (docs/RULES.md, 6.8.)
+// The test of a row number and a cost: is the row number in use, and is the cost from 1 to the row's c? A server is a row whose c is 4,096. (docs/RULES.md,
+// 3.20 and 6.8.)
 use crate::CostAnswer;
 use crate::CostLimit;
+use crate::Row;
 use crate::Table;
 use kinds::Refusal;
 use kinds::RowNumber;
 ghost use mathlib.Core.Path.{_≡_};
-ghost use Rattle.table.specs.Costs.{csOf, limitOf, costAnswer};
+ghost use Rattle.table.specs.Costs.{heldLimits, limitOf, costAnswer};
 
 impl Table {
-    // The c of every row is listed. Those of the rows in use are the first `count`. (1.6, 3.14)
-    pub fn cost_limits(self) -> [u64; Table::MAX_ROWS]
-        ensures { λ r. ⌜ r ≡ csOf (self .rows) ⌝ }
+    // The most that a job may cost is listed by row number: the c of every row in use, and then 4,096 for every server. The entries of the row numbers in use
+    // are the first, as many as there are rows and servers in use. (1.6, 3.14, 3.20)
+    pub fn cost_limits(self) -> [u64; Table::MAX_SOURCES]
+        ensures { λ r. ⌜ r ≡ heldLimits self ⌝ }
     {
-        let mut limits: [u64; Table::MAX_ROWS] = [0; Table::MAX_ROWS];
+        let count = self.count;
+        let mut limits: [u64; Table::MAX_SOURCES] = [Row::MAX_C; Table::MAX_SOURCES];
         let mut i: usize = 0;
-        while i < Table::MAX_ROWS {
+        while (i < count) & (i < Table::MAX_ROWS) {
             let row = self.rows[i];
             limits[i] = row.c;
             i += 1;
@@ -23,7 +27,7 @@ impl Table {
     }
 }
 
-// `limits` holds the most that a job may cost, for each row in use. The row number is compared with their count before it is narrowed. (2.11, 6.8)
+// `limits` holds the most that a job may cost, for each row number in use. The row number is compared with their count before it is narrowed. (2.11, 6.8)
 pub fn limit_of(limits: &[u64], number: RowNumber) -> CostLimit
     ensures { λ r. ⌜ r ≡ limitOf (now (limits .entry)) (number .0) ⌝ }
 {

@@ -1,10 +1,12 @@
-// Tables: the rows that a rig is to serve, the timer that takes ticks from them, and the reader that turns any bytes into a table or its exact refusal.
+// Tables: the rows and the servers of a rig, the timer that takes ticks from them, and the reader that turns any bytes into a table or its exact refusal.
 // (docs/RULES.md, section 3.)
 mod costs;
 mod rows;
+mod servers;
 mod timer;
 
 use crate::rows::read_rows;
+use crate::servers::read_servers;
 use crate::timer::read_timer;
 pub use costs::limit_of;
 use kinds::Refusal;
@@ -12,11 +14,12 @@ use kinds::RefusedAt;
 use periods::Period;
 pub use timer::timer_in_range;
 ghost use mathlib.Core.Path.{_≡_};
-ghost use mathlib.Core.List.{_∷_};
-ghost use Rattle.table.specs.Limits.{limits};
-ghost use Rattle.table.specs.Period.{ysOf};
+ghost use Prim.Native.Nat.{_+_, _≤_};
+ghost use lib.ListN.{take};
+ghost use Rattle.table.specs.Limits.{maxRows, maxServers, limits};
+ghost use Rattle.table.specs.Period.{periodsOf};
 ghost use Rattle.table.specs.Rows.{withinLimit, fine, rowInRange, hopeless, rowAcceptable};
-ghost use Rattle.table.specs.Tables.{emptyTable, refusedTable, tableRead};
+ghost use Rattle.table.specs.Tables.{contentOf, emptyTable, refusedTable, tableRead};
 
 // A row expects x jobs in any y ticks, each due d ticks after its release and costing at most c units. (1.1)
 #[repr(C)]
@@ -27,13 +30,23 @@ pub struct Row {
     pub c: u64,
 }
 
-// The timer takes the first s ticks of every p. The rows in use are the first `count`. The others hold zeros in every table that was read. (3.14, 3.16)
+// A server gives odd jobs a share of the processor, a units in b ticks. (1.21)
+#[repr(C)]
+pub struct Server {
+    pub a: u64,
+    pub b: u64,
+}
+
+// The timer takes the first s ticks of every p. The rows in use are the first `count`, and the servers in use are the first `serving`. The others hold
+// zeros in every table that was read. (3.14, 3.16, 3.18)
 #[repr(C)]
 pub struct Table {
     pub s: u64,
     pub p: u64,
     pub rows: [Row; Table::MAX_ROWS],
     pub count: usize,
+    pub servers: [Server; Table::MAX_SERVERS],
+    pub serving: usize,
 }
 
 // A table is accepted, with its H, or it is refused. (3.4, 3.13)
@@ -48,7 +61,7 @@ pub struct TableRead {
     pub answer: TableAnswer,
 }
 
-// These are all limits of a table. (3.1, 3.2, 3.4, 3.16)
+// These are all limits of a table. (3.1, 3.2, 3.4, 3.16, 3.18)
 pub struct Limits {
     pub p: u64,
     pub rows: usize,
@@ -56,6 +69,8 @@ pub struct Limits {
     pub y: u64,
     pub d: u64,
     pub c: u64,
+    pub servers: usize,
+    pub b: u64,
     pub period: u64,
 }
 
@@ -96,8 +111,8 @@ enum RowRead {
     Refused(RefusedAt),
 }
 
-// Rows were read up to this place, or this refusal ended them.
-enum RowsAnswer {
+// Rows or servers were read up to this place, or this refusal ended them.
+enum PartAnswer {
     Until(usize),
     Refused(RefusedAt),
 }
@@ -106,7 +121,26 @@ enum RowsAnswer {
 struct RowsRead {
     rows: [Row; Table::MAX_ROWS],
     count: usize,
-    answer: RowsAnswer,
+    answer: PartAnswer,
+}
+
+// A server that was read comes with the place right after it.
+struct ServerAt {
+    server: Server,
+    next: usize,
+}
+
+// Reading a server gives the server, or the refusal that ended it.
+enum ServerRead {
+    Server(ServerAt),
+    Refused(RefusedAt),
+}
+
+// The servers that were read stand beside the answer. If they were refused, no server is in use.
+struct ServersRead {
+    servers: [Server; Table::MAX_SERVERS],
+    count: usize,
+    answer: PartAnswer,
 }
 
 impl Row {
@@ -154,14 +188,18 @@ fn within_limit(most: u64, value: u64) -> bool
 impl Table {
     // A table has room for this many rows. (3.1)
     pub const MAX_ROWS: usize = 64;
+    // A table has room for this many servers. (3.18)
+    pub const MAX_SERVERS: usize = 8;
+    // A table has room for this many rows and servers together, each of which has a row number. (1.2)
+    pub const MAX_SOURCES: usize = Table::MAX_ROWS + Table::MAX_SERVERS;
     // The timer's p may be at most this. (3.16)
     pub const MAX_P: u64 = 4_096;
     // H may be at most this. (3.4)
     pub const MAX_PERIOD: u64 = 1_048_576;
-    // H is made from at most this many numbers: p and the y of every row. (3.4)
-    const MAX_PERIODS: usize = Table::MAX_ROWS + 1;
+    // H is made from at most this many numbers: p, the y of every row and the b of every server. (3.4)
+    const MAX_PERIODS: usize = Table::MAX_SOURCES + 1;
 
-    // The empty table has no rows, and its timer takes no tick. (3.15)
+    // The empty table has no rows and no servers, and its timer takes no tick. (3.15)
     pub fn empty() -> Table
         ensures { λ r. ⌜ r ≡ emptyTable ⌝ }
     {
@@ -175,19 +213,30 @@ impl Table {
                 c: 0,
             }; Table::MAX_ROWS],
             count: 0,
+            servers: [Server { a: 0, b: 0 }; Table::MAX_SERVERS],
+            serving: 0,
         }
     }
 
-    // The numbers from which H is made are listed: p, and then the y of every row. Those of the rows in use are the first `count` after p. (3.4, 3.14)
+    // The numbers from which H is made are listed: p, then the y of every row in use, and then the b of every server in use. What follows them counts for
+    // nothing. (3.4, 3.14)
     fn periods(self) -> [u64; Table::MAX_PERIODS]
-        ensures { λ r. ⌜ r ≡ self .p ∷ ysOf (self .rows) ⌝ }
+        requires { ⌜ (self .count ≤ maxRows) × (self .serving ≤ maxServers) ⌝ }
+        ensures { λ r. ⌜ take (self .count + self .serving + 1) r ≡ periodsOf (contentOf self) ⌝ }
     {
+        let count = self.count;
         let mut periods: [u64; Table::MAX_PERIODS] = [self.p; Table::MAX_PERIODS];
         let mut i: usize = 0;
-        while i < Table::MAX_ROWS {
+        while i < count {
             let row = self.rows[i];
             periods[i + 1] = row.y;
             i += 1;
+        }
+        let mut k: usize = 0;
+        while k < self.serving {
+            let server = self.servers[k];
+            periods[count + 1 + k] = server.b;
+            k += 1;
         }
         periods
     }
@@ -203,6 +252,8 @@ impl Table {
             y: Row::MAX_Y,
             d: Row::MAX_D,
             c: Row::MAX_C,
+            servers: Table::MAX_SERVERS,
+            b: Server::MAX_B,
             period: Table::MAX_PERIOD,
         }
     }
@@ -218,7 +269,7 @@ fn refused(at: RefusedAt) -> TableRead
     }
 }
 
-// The answer is the table that the bytes spell, or the refusal with its place. (3.6, 3.7, 3.13, 3.17)
+// The answer is the table that the bytes spell, or the refusal with its place. (3.6, 3.7, 3.13, 3.17, 3.19)
 pub fn read_table(bytes: &[u8]) -> TableRead
     ensures { λ r. ⌜ r ≡ tableRead (now (bytes .entry)) ⌝ }
 {
@@ -228,9 +279,15 @@ pub fn read_table(bytes: &[u8]) -> TableRead
     };
     let read = read_rows(bytes, timer.next);
     let answer = read.answer;
-    let next = match answer {
-        RowsAnswer::Until(next) => next,
-        RowsAnswer::Refused(r) => return refused(r),
+    let after = match answer {
+        PartAnswer::Until(next) => next,
+        PartAnswer::Refused(r) => return refused(r),
+    };
+    let served = read_servers(bytes, after);
+    let last = served.answer;
+    let next = match last {
+        PartAnswer::Until(next) => next,
+        PartAnswer::Refused(r) => return refused(r),
     };
     if next < bytes.len() {
         return refused(RefusedAt {
@@ -240,14 +297,18 @@ pub fn read_table(bytes: &[u8]) -> TableRead
     }
     let rows = read.rows;
     let count = read.count;
+    let servers = served.servers;
+    let serving = served.count;
     let table = Table {
         s: timer.s,
         p: timer.p,
         rows,
         count,
+        servers,
+        serving,
     };
     let periods = table.periods();
-    match periods::period_within(&periods[..count + 1], Table::MAX_PERIOD) {
+    match periods::period_within(&periods[..count + serving + 1], Table::MAX_PERIOD) {
         Period::Ticks(h) => TableRead {
             table,
             answer: TableAnswer::Accepted(h),

@@ -1,8 +1,8 @@
 // How rows are read: a value, a row of four values, and rows one after another after their count. (docs/RULES.md, 3.3 and 3.6 to 3.10.)
+use crate::PartAnswer;
 use crate::Row;
 use crate::RowAt;
 use crate::RowRead;
-use crate::RowsAnswer;
 use crate::RowsRead;
 use crate::Table;
 use crate::within_limit;
@@ -76,7 +76,7 @@ fn refused_rows(at: RefusedAt) -> RowsRead
     RowsRead {
         rows,
         count: 0,
-        answer: RowsAnswer::Refused(at),
+        answer: PartAnswer::Refused(at),
     }
 }
 
@@ -112,6 +112,6 @@ pub(crate) fn read_rows(bytes: &[u8], at: usize) -> RowsRead
     RowsRead {
         rows,
         count: i,
-        answer: RowsAnswer::Until(next),
+        answer: PartAnswer::Until(next),
     }
 }

@@ -8,6 +8,7 @@ pub mod Demand
 pub mod Paper
 pub mod DueTimes
 pub mod Windows
+pub mod Servers
 pub mod AllAtZero
 pub mod Trace
 pub mod EarliestDue

@@ -4,6 +4,7 @@ pub mod Demand
 pub mod Paper
 pub mod Jobs
 pub mod DueTimes
+pub mod Servers
 pub mod Ticks
 pub mod Trace
 pub mod Schedules

@@ -24,7 +24,7 @@ pub struct Case {
 impl Case {
     pub const NUMBERS: usize = 8;
 
-    // A table with every row has room, and so has a script that puts a job into every place and one more.
+    // A table with every row and every server has room, and so has a script that puts a job into every place and one more.
     pub const BYTES: usize = 8 * Table::MAX_ROWS + 4 * Pending::PLACES;
 
     const MOST: u64 = 0x100_0000_0000_0000;

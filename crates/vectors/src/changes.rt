@@ -9,6 +9,7 @@ use kinds::Serial;
 use kinds::Tick;
 use run::Run;
 use table::Row;
+use table::Server;
 use table::Table;
 
 // The run after one change. `what` is the first letter of the change.
@@ -26,6 +27,10 @@ pub fn changed(what: u8, numbers: [u64; Case::NUMBERS], run: Run) -> Run {
         b'p' => with_pending(run, a as usize),
         b'j' => with_job(run, numbers),
         b'k' => with_kept(run, a as usize, b as usize, numbers[2]),
+        b's' => with_servers(run, a as usize),
+        b'a' => with_a(run, a as usize, b),
+        b'b' => with_b(run, a as usize, b),
+        b'l' => with_last(run, a as usize, b),
         _ => run,
     }
 }
@@ -121,5 +126,48 @@ fn with_kept(mut run: Run, row: usize, count: usize, due: u64) -> Run {
     kept.count = count;
     kept.times[0] = first;
     run.kept[at] = kept;
+    run
+}
+
+// `servers = 2`, all of them as server 0 is.
+fn with_servers(mut run: Run, count: usize) -> Run {
+    let mut table = run.table;
+    let server = table.servers[0];
+    let servers = [server; Table::MAX_SERVERS];
+    table.servers = servers;
+    table.serving = count;
+    run.table = table;
+    run
+}
+
+// Sets the a of one server: `a of server 1 = 3`.
+fn with_a(run: Run, server: usize, a: u64) -> Run {
+    let table = run.table;
+    let mut its = table.servers[server % Table::MAX_SERVERS];
+    its.a = a;
+    with_server(run, server, its)
+}
+
+// Sets the b of one server: `b of server 1 = 4`.
+fn with_b(run: Run, server: usize, b: u64) -> Run {
+    let table = run.table;
+    let mut its = table.servers[server % Table::MAX_SERVERS];
+    its.b = b;
+    with_server(run, server, its)
+}
+
+// The run with other numbers of one server.
+fn with_server(mut run: Run, server: usize, its: Server) -> Run {
+    let mut table = run.table;
+    table.servers[server % Table::MAX_SERVERS] = its;
+    run.table = table;
+    run
+}
+
+// Sets the last due time of one server: `last 0 = 4`.
+fn with_last(mut run: Run, server: usize, due: u64) -> Run {
+    let at = server % Table::MAX_SERVERS;
+    let newest = Tick(due);
+    run.last[at] = newest;
     run
 }

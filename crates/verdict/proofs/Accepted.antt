@@ -1,14 +1,16 @@
 -- What is known about a table that was accepted: it is in range, its H is from 1 to its limit, and its demand is a curve with the period H.
 use Prim.Native.Nat.{ℕ, _≤_}
 use mathlib.Core.Path.{_≡_, refl}
-use mathlib.Core.List.{List, List·Memᴰ·head, List·Memᴰ·tail, Memᴰ·map}
+use mathlib.Core.List.{List, List·Memᴰ·head, List·Memᴰ·tail, Memᴰ·map, Memᴰ·append-left, Memᴰ·append-right}
 use Rattle.numbers.specs.SpelledNumbers.{Bytes}
 use Rattle.theory.specs.Curves.{Curve}
 use Rattle.table.specs.declared.Row.{Row}
+use Rattle.table.specs.declared.Server.{Server}
 use Rattle.table.specs.declared.Table.{Table}
 use Rattle.table.specs.declared.TableAnswer.the-variants as answer
 use Rattle.table.specs.Limits.{maxPeriod}
-use Rattle.table.specs.Tables.{tableRead, InRange}
+use Rattle.table.specs.Period.{ysOf, bsOf}
+use Rattle.table.specs.Tables.{rowsOf, serversOf, tableRead, InRange}
 use Rattle.table.proofs.SpelledTables.{accepted-is-usable}
 use Rattle.table.proofs.Tables.{read-in-range}
 use Rattle.verdict.specs.Demand.{tableDemand, tableGrowth, largestD}
@@ -25,13 +27,15 @@ pub record Known (t : Table) (period : ℕ) : Type 0 where
 pub accepted-is-known : (s : List ℕ) (period : ℕ) → Bytes s → tableRead s .answer ≡ answer.Accepted period → Known (tableRead s .table) period
 accepted-is-known s period bytes accepted =
     let u = accepted-is-usable s period bytes accepted in
+    let t = tableRead s .table in
     let in-range = read-in-range s bytes in
     record {
       in-range = in-range;
       some-period = u .some-period;
       most-period = u .most-period;
       curve =
-          table-is-a-curve (tableRead s .table) period in-range
-          (u .divides-period (tableRead s .table .p) (List·Memᴰ·head refl))
-          (λ r m. u .divides-period (r .y) (List·Memᴰ·tail (Memᴰ·map (λ (q : Row). q .y) m)));
+          table-is-a-curve t period in-range
+          (u .divides-period (t .p) (List·Memᴰ·head refl))
+          (λ r m. u .divides-period (r .y) (List·Memᴰ·tail (Memᴰ·append-left (bsOf (serversOf t)) (Memᴰ·map (λ (q : Row). q .y) m))))
+          (λ v m. u .divides-period (v .b) (List·Memᴰ·tail (Memᴰ·append-right (ysOf (rowsOf t)) (Memᴰ·map (λ (q : Server). q .b) m))));
     }

@@ -1,4 +1,6 @@
+pub mod Sums
 pub mod Rows
+pub mod Servers
 pub mod Bounds
 pub mod TableCurve
 pub mod Accepted

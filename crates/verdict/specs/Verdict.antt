@@ -25,7 +25,7 @@ RightFor f verdict.Feasible = EveryLengthFits f
 RightFor f (verdict.Overloaded w) = SmallestFailing f (w .length) × (w .demand ≡ f (w .length))
 RightFor f (verdict.Refused r) = ⊥
 
--- A verdict is right for an accepted table if it is right for the table's demand, in which the ticks that the timer takes are counted. (5.3, 5.4, 5.5)
+-- A verdict is right for an accepted table if it is right for the table's demand, in which servers and the ticks that the timer takes are counted. (5.3 to 5.5)
 abbrev pub RightOf : Table → Verdict → Type 0
 RightOf t v = RightFor (tableDemand t) v
 

@@ -2,6 +2,7 @@
 // smallest length that has, with its demand. (docs/RULES.md, section 5.)
 use kinds::RefusedAt;
 use table::Row;
+use table::Server;
 use table::Table;
 use table::TableAnswer;
 ghost use mathlib.Core.Path.{_≡_};
@@ -10,8 +11,9 @@ ghost use Rattle.theory.specs.Ticks.{timerTakes};
 ghost use Rattle.table.specs.SpelledTables.{WithinLimits};
 ghost use Rattle.table.specs.Limits.{maxPeriod};
 ghost use Rattle.table.specs.Timer.{GoodTimer};
+ghost use Rattle.table.specs.Servers.{GoodServer};
 ghost use Rattle.table.specs.Tables.{InRange};
-ghost use Rattle.verdict.specs.Demand.{rowDemandOf, tableDemand, tableGrowth, largestD, maxLength};
+ghost use Rattle.verdict.specs.Demand.{rowDemandOf, serverDemandOf, tableDemand, tableGrowth, largestD, maxLength};
 ghost use Rattle.verdict.specs.Verdict.{Scanned, Judged};
 
 // The witness of an overloaded table is the smallest length whose demand is above it, with that demand. (1.11)
@@ -44,6 +46,14 @@ fn row_demand(row: Row, length: u64) -> u64
     ((length - row.d) / row.y + 1) * row.x * row.c
 }
 
+// A server's demand is rounded down. (5.16)
+fn server_demand(server: Server, length: u64) -> u64
+    requires { ⌜ (GoodServer server) × (length ≤ maxLength) ⌝ }
+    ensures { λ r. ⌜ r ≡ serverDemandOf server length ⌝ }
+{
+    server.a * length / server.b
+}
+
 // The timer takes s ticks of each whole p, and of the rest as many as there are, but at most s. (5.3)
 fn timer_takes(s: u64, p: u64, length: u64) -> u64
     requires { ⌜ GoodTimer s p ⌝ }
@@ -58,15 +68,22 @@ fn timer_takes(s: u64, p: u64, length: u64) -> u64
 }
 
 // The demand in each length from `first` to `last` is worked out, and the first length whose demand is above it ends the scan. The ticks that the timer takes
-// are counted first, and then each row's demand. (5.3, 5.5)
+// are counted first, then each server's demand, and then each row's. (5.3, 5.5)
 fn scan_range(table: Table, first: u64, last: u64) -> Scan
     requires { ⌜ (InRange table) × (last ≤ maxLength) ⌝ }
     ensures { λ r. ⌜ Scanned (tableDemand table) first last r ⌝ }
 {
     let count = table.count;
+    let serving = table.serving;
     let mut length = first;
     while length <= last {
         let mut demand: u64 = timer_takes(table.s, table.p, length);
+        let mut k: usize = 0;
+        while k < serving {
+            let server = table.servers[k];
+            demand += server_demand(server, length);
+            k += 1;
+        }
         let mut i: usize = 0;
         while i < count {
             let row = table.rows[i];
@@ -81,13 +98,20 @@ fn scan_range(table: Table, first: u64, last: u64) -> Scan
     Scan::Fits
 }
 
-// The sum of s · (period/p) and of x · c · (period/y) over the rows is how much the demand grows in a period. (5.7)
+// The sum of s · (period/p), of a · (period/b) over the servers and of x · c · (period/y) over the rows is how much the demand grows in a period. (5.7)
 fn growth(table: Table, period: u64) -> u64
     requires { ⌜ (InRange table) × (period ≤ maxPeriod) ⌝ }
     ensures { λ r. ⌜ r ≡ tableGrowth table period ⌝ }
 {
     let count = table.count;
+    let serving = table.serving;
     let mut sum: u64 = period / table.p * table.s;
+    let mut k: usize = 0;
+    while k < serving {
+        let server = table.servers[k];
+        sum += period / server.b * server.a;
+        k += 1;
+    }
     let mut i: usize = 0;
     while i < count {
         let row = table.rows[i];
@@ -97,7 +121,7 @@ fn growth(table: Table, period: u64) -> u64
     sum
 }
 
-// The largest d of no rows is 0. (5.8)
+// The largest d of no rows is 0. Servers have no d. (5.8)
 fn largest_d(table: Table) -> u64
     requires { ⌜ InRange table ⌝ }
     ensures { λ r. ⌜ r ≡ largestD table ⌝ }

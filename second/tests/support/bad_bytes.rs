@@ -4,14 +4,16 @@
 use super::case::hex;
 use super::random::Random;
 use super::scripts::Record;
+use super::servers::Server;
 use super::tables::{spell_numbers, Row, Table};
 use super::{damage, scripts, tables};
 use second::numbers::MOST_GROUPS;
-use second::table::{MOST_ROWS, MOST_X};
+use second::table::{MOST_ROWS, MOST_SERVERS, MOST_X};
 use std::collections::{BTreeMap, BTreeSet};
 
-/// The timer's s and p, the row count, and four numbers for each row of a longest table.
-const NUMBERS_OF_A_TABLE: usize = 3 + 4 * MOST_ROWS as usize;
+/// The timer's s and p, the row count and four numbers for each row, the server count and two numbers for each server of a
+/// longest table.
+const NUMBERS_OF_A_TABLE: usize = 3 + 4 * MOST_ROWS as usize + 1 + 2 * MOST_SERVERS as usize;
 const NUMBERS_OF_A_RECORD: usize = 3;
 
 /// What is wrong with a number, as the place of its refusal shows it. Groups are counted from 0.
@@ -143,7 +145,8 @@ fn of_groups(groups: usize, random: &mut Random) -> Vec<u8> {
 pub fn tables(seed: u64, count: u64) -> impl Iterator<Item = Vec<u8>> {
     let mut random = Random::of(seed, u64::MAX);
     let rows: Vec<Row> = (0..MOST_ROWS).map(|_| row_of_any_length(&mut random)).collect();
-    let longest = Table { timer: [3, 8], rows };
+    let servers = (0..MOST_SERVERS).map(|_| server_of_any_length(&mut random)).collect();
+    let longest = Table { timer: [3, 8], rows, servers };
     let random_ones = (0..count).flat_map(move |index| {
         let table = tables::any(&mut Random::of(seed, index));
         damage::everywhere(&table.spell())
@@ -159,11 +162,18 @@ fn row_of_any_length(random: &mut Random) -> Row {
     [random.within(1, MOST_X), 1 << random.within(0, 12), d, c.min(d)]
 }
 
+/// A server that is accepted, whose a and b have spellings of all lengths that the range allows.
+fn server_of_any_length(random: &mut Random) -> Server {
+    let b = 1 << random.within(0, 12);
+    [random.within(1, b), b]
+}
+
 /// Tables with scripts of at most so many records. The script has one byte damaged, each byte in turn: one script in
 /// which each number has each length, and so many random ones.
 pub fn scripts(most_records: usize, seed: u64, count: u64) -> impl Iterator<Item = (Vec<u8>, Vec<u8>)> {
     let mut random = Random::of(seed, u64::MAX);
-    let table = tables::spell_with([1, 4], &[[64, 1, 16_384, 4_096]; MOST_ROWS as usize]);
+    let rows = [[64, 1, 16_384, 4_096]; MOST_ROWS as usize];
+    let table = tables::spell_all([1, 4], &rows, &[[1, 8]; MOST_SERVERS as usize]);
     let records: Vec<_> = (0..most_records).map(|_| record_of_any_length(&mut random)).collect();
     let random_ones = (0..count).flat_map(move |index| {
         let mut random = Random::of(seed, index);
@@ -180,5 +190,5 @@ pub fn scripts(most_records: usize, seed: u64, count: u64) -> impl Iterator<Item
 /// A record that can be released, with a short gap or a long one.
 fn record_of_any_length(random: &mut Random) -> Record {
     let bits = random.within(0, 30);
-    [random.below(1 << bits), random.below(MOST_ROWS), random.within(1, 300)]
+    [random.below(1 << bits), random.below(MOST_ROWS + MOST_SERVERS), random.within(1, 300)]
 }

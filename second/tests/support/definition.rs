@@ -21,14 +21,17 @@ pub fn contradicts(case: &Case, outcome: &Outcome) -> bool {
     }
     let table = table::read(&case.table).expect("a table with a verdict is accepted");
     let of_rows: u64 = table.rows.iter().map(|row| row.x * row.c * (table.period / row.y)).sum();
-    let sum_is_above_1 = of_rows + table.timer.s * (table.period / table.timer.p) > table.period;
+    let of_servers: u64 = table.servers.iter().map(|server| server.a * (table.period / server.b)).sum();
+    let sum_is_above_1 = of_rows + of_servers + table.timer.s * (table.period / table.timer.p) > table.period;
     let mut taken = 0;
     let mut length = 0;
     let (status, first, second) = loop {
         length += 1;
         taken += u64::from((length - 1) % table.timer.p < table.timer.s);
         let in_use = table.rows.iter().filter(|row| row.d <= length);
-        let demand = in_use.map(|row| ((length - row.d) / row.y + 1) * row.x * row.c).sum::<u64>() + taken;
+        let of_rows: u64 = in_use.map(|row| ((length - row.d) / row.y + 1) * row.x * row.c).sum();
+        let of_servers: u64 = table.servers.iter().map(|server| server.a * length / server.b).sum();
+        let demand = of_rows + of_servers + taken;
         if demand > length {
             break (OVERLOADED, length, demand);
         }

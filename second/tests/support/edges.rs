@@ -4,7 +4,7 @@ use super::case::Case;
 use super::damage::replaced;
 use super::scripts::{self, Record};
 use super::tables::{self, Row};
-use super::{hopeless, timers};
+use super::{hopeless, servers, timers};
 use second::run::{LAST_TICK, MOST_PENDING};
 use second::table::{self, MOST_C, MOST_D, MOST_ROWS, MOST_X, MOST_Y};
 use second::{numbers, replay};
@@ -20,14 +20,18 @@ pub fn all() -> impl Iterator<Item = Case> {
         std::iter::once(judged).chain(std::iter::once_with(move || replays(&table, &scripts::spell(&R1))).flatten())
     });
     let without_timer = edge_scripts().into_iter().map(|(rows, script)| (tables::spell(&rows), script));
-    let of_scripts = without_timer.chain(timers::edge_scripts()).flat_map(|(table, script)| replays(&table, &script));
+    let of_scripts = without_timer
+        .chain(timers::edge_scripts())
+        .chain(servers::edge_scripts())
+        .flat_map(|(table, script)| replays(&table, &script));
     of_tables.chain(of_scripts).chain(other_answer_sizes())
 }
 
 fn other_answer_sizes() -> Vec<Case> {
     let mut cases = vec![];
     for size in [0, 1, 8, 15, 17, 32] {
-        for table in [tables::spell(&V3), one_row_too_many(), vec![], vec![1, 1, 0], vec![0, 0, 0]] {
+        let refused = [one_row_too_many(), vec![], vec![1, 1, 0, 0], vec![0, 0, 0, 0], vec![0, 1, 0, 9]];
+        for table in refused.into_iter().chain([tables::spell(&V3)]) {
             cases.push(Case::verdict(table.clone(), vec![0x5a; size]));
             cases.push(Case::replay(table, scripts::spell(&R1), vec![0xa5; 20], vec![0x5a; size]));
         }
@@ -66,6 +70,7 @@ fn edge_tables() -> Vec<Vec<u8>> {
     tables.extend((full.len() - 6..full.len()).map(|cut| full[..cut].to_vec()));
     tables.extend(hopeless::edge_tables());
     tables.extend(timers::edge_tables());
+    tables.extend(servers::edge_tables());
     tables
 }
 

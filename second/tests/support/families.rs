@@ -2,7 +2,7 @@
 
 use super::case::Case;
 use super::random::Random;
-use super::{bad_bytes, damage, hopeless, scripts, tables, timers};
+use super::{bad_bytes, damage, hopeless, scripts, servers, tables, timers};
 use second::{replay, table};
 
 /// As many lengths as a program that looks at every length can be waited for.
@@ -13,7 +13,7 @@ pub const RECORDS: usize = 5;
 
 pub type Family = (&'static str, fn(&mut Random) -> Case);
 
-pub const ALL: [Family; 15] = [
+pub const ALL: [Family; 18] = [
     ("verdicts", |random| {
         let table = tables::any(random);
         judge(table.spell(), random)
@@ -24,6 +24,10 @@ pub const ALL: [Family; 15] = [
     }),
     ("verdicts with a timer", |random| {
         let table = tables::timed(random);
+        judge(table.spell(), random)
+    }),
+    ("verdicts with servers", |random| {
+        let table = tables::served(random);
         judge(table.spell(), random)
     }),
     ("verdicts of damaged tables", |random| {
@@ -37,6 +41,11 @@ pub const ALL: [Family; 15] = [
     }),
     ("replays with a timer", |random| {
         let table = tables::timed_to_replay(random);
+        let records = scripts::any(&table, random);
+        play(table.spell(), scripts::spell(&records), random)
+    }),
+    ("replays with servers", |random| {
+        let table = tables::served_to_replay(random);
         let records = scripts::any(&table, random);
         play(table.spell(), scripts::spell(&records), random)
     }),
@@ -58,7 +67,7 @@ pub const ALL: [Family; 15] = [
         let table = tables::to_replay(random);
         let mut records = scripts::any(&table, random);
         let last = records.len().saturating_sub(1);
-        scripts::spoil_a_value(&table.rows, &mut records[last..], random);
+        scripts::spoil_a_value(&table, &mut records[last..], random);
         let mut case = play(table.spell(), scripts::spell(&records), random);
         case.log.truncate(random.index(12));
         case
@@ -81,6 +90,10 @@ pub const ALL: [Family; 15] = [
     }),
     ("bad timers", |random| {
         let (table, bytes) = timers::any_bad(random);
+        judge_or_play(&table, bytes, random)
+    }),
+    ("bad servers", |random| {
+        let (table, bytes) = servers::any_bad(random);
         judge_or_play(&table, bytes, random)
     }),
     ("noise", |random| {

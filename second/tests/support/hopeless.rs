@@ -6,7 +6,7 @@ use super::random::Random;
 use super::tables::{self, Row, Table};
 use second::numbers;
 use second::refusal::Reason;
-use second::table::{self, MOST_C, MOST_D, MOST_ROWS, MOST_X, MOST_Y};
+use second::table::{self, MOST_C, MOST_D, MOST_ROWS, MOST_SERVERS, MOST_X, MOST_Y};
 use std::collections::BTreeSet;
 
 /// What a comparison met on either side of the rule that c is at most d.
@@ -27,8 +27,14 @@ pub enum Met {
 /// What has to be met: 16 in the first row and in the last, and before each refusal that can come after it.
 pub fn wanted() -> BTreeSet<Met> {
     let rows = [0, MOST_ROWS - 1].map(Met::InRow);
-    let later =
-        [Reason::Misspelled, Reason::ValueOutOfRange, Reason::ExtraBytes, Reason::PeriodTooLong, Reason::HopelessRow];
+    let later = [
+        Reason::Misspelled,
+        Reason::TooManyRows,
+        Reason::ValueOutOfRange,
+        Reason::ExtraBytes,
+        Reason::PeriodTooLong,
+        Reason::HopelessRow,
+    ];
     let before = later.map(|reason| Met::Before(reason.number()));
     [Met::CIsD, Met::COneAboveD, Met::AfterRangeOfC].into_iter().chain(rows).chain(before).collect()
 }
@@ -73,7 +79,7 @@ fn c_at(table: &[u8], start: usize) -> Option<OfRow> {
     let (c, end) = numbers::read(table, start).ok()?;
     let values_before = before.len().checked_sub(3)?;
     let row = values_before as u64 / 4;
-    (values_before % 4 == 3).then(|| OfRow { row, d: before[before.len() - 1], c, start, end })
+    (values_before % 4 == 3 && row < before[2]).then(|| OfRow { row, d: before[before.len() - 1], c, start, end })
 }
 
 /// Makes a table with a row whose c is above its d, equal to it, one below it, or out of its range. About half of these
@@ -114,6 +120,7 @@ pub fn any(random: &mut Random) -> (Table, Vec<u8>) {
             rows[0][1] = first_y;
             rows.push([1, last_y, last_y, 1]);
         }
+        6 => table.servers = vec![[1, 1]; MOST_SERVERS as usize + 1],
         _ => {}
     }
     let bytes = table.spell();
@@ -160,6 +167,10 @@ pub fn edge_tables() -> Vec<Vec<u8>> {
     for extra in [&[0x00][..], &[0x80], &[0x80, 0x00], &[1, 4, 4, 4]] {
         tables.push([&alone[..], extra].concat());
         tables.push([&in_both[..], extra].concat());
+    }
+    for servers in [vec![[1, 1]], vec![[0, 1]], vec![[4, 3]], vec![[1, 1]; MOST_SERVERS as usize + 1]] {
+        tables.push(tables::spell_all(tables::NO_TIMER, &[hopeless], &servers));
+        tables.push(tables::spell_all(tables::NO_TIMER, &[[1, 4, 4, 4], hopeless], &servers));
     }
     for [first, last] in [[1, 2], [2, 1], [2, 2]] {
         let too_long = tables::spell(&[[1, 1_141, 1, first], [1, 919, 1, last]]);

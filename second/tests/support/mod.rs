@@ -15,6 +15,7 @@ pub mod fenced;
 pub mod hopeless;
 pub mod random;
 pub mod scripts;
+pub mod servers;
 pub mod settings;
 pub mod tables;
 pub mod tally;

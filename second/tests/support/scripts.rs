@@ -1,9 +1,9 @@
 //! Scripts for a table: quiet, crowded, and at the end of time.
 
 use super::random::Random;
-use super::tables::{spell_numbers, Row, Table};
+use super::tables::{spell_numbers, Table};
 use second::run::{LAST_TICK, MOST_PENDING};
-use second::table::{MOST_C, MOST_ROWS};
+use second::table::{MOST_B, MOST_C, MOST_ODD_COST, MOST_ROWS};
 
 /// A record is a gap, a row number and a cost.
 pub type Record = [u64; 3];
@@ -20,7 +20,7 @@ pub fn any(table: &Table, random: &mut Random) -> Vec<Record> {
     let kinds = [quiet, quiet, crowded, burst, near_the_end, far_apart];
     let mut records = random.pick(&kinds)(table, random);
     if random.one_in(4) {
-        spoil_a_value(&table.rows, &mut records, random);
+        spoil_a_value(table, &mut records, random);
     }
     records
 }
@@ -39,14 +39,10 @@ fn ticks_for_a_unit(table: &Table) -> u64 {
 }
 
 fn job(table: &Table, gap: u64, most_cost: u64, random: &mut Random) -> Record {
-    let rows = &table.rows;
-    if rows.is_empty() {
-        return [gap, 0, 1];
-    }
-    let row = random.index(rows.len());
-    let c = rows[row][3].clamp(1, MOST_C);
+    let row = random.below(table.row_numbers().max(1));
     let most_cost = (most_cost / ticks_for_a_unit(table)).max(1);
-    [gap, row as u64, random.within(1, c.min(most_cost))]
+    let highest = table.most_cost(row).min(most_cost);
+    [gap, row, if random.one_in(8) { highest } else { random.within(1, highest) }]
 }
 
 /// Makes so many jobs, or fewer where the timer leaves only a few ticks free.
@@ -92,6 +88,9 @@ pub fn burst(table: &Table, random: &mut Random) -> Vec<Record> {
 
 /// Makes due times, script times or final ticks that reach 2^40 or just miss it.
 pub fn near_the_end(table: &Table, random: &mut Random) -> Vec<Record> {
+    if !table.servers.is_empty() && random.one_in(2) {
+        return odd_jobs_near_the_end(table, random);
+    }
     let d = if table.rows.is_empty() { 1 } else { random.pick(&table.rows)[2] };
     let from_the_end = match random.below(4) {
         0 => random.below(4),
@@ -120,6 +119,28 @@ pub fn near_the_end(table: &Table, random: &mut Random) -> Vec<Record> {
     records
 }
 
+/// Makes odd jobs of one server whose due times reach 2^40 or just miss it. The first may be one of full cost. There are
+/// more after it, at once or after a while.
+fn odd_jobs_near_the_end(table: &Table, random: &mut Random) -> Vec<Record> {
+    let server = random.index(table.servers.len());
+    let row = (table.rows.len() + server) as u64;
+    let [a, b] = table.servers[server].map(|number| number.max(1));
+    let most_cost = (MOST_ODD_COST / ticks_for_a_unit(table)).max(1);
+    let costs: Vec<u64> =
+        (0..random.pick(&[1, 1, 2, 3])).map(|_| random.pick(&[1, 2, 9, 300, MOST_ODD_COST]).min(most_cost)).collect();
+    let ticks: u64 = costs.iter().map(|cost| (cost * b).div_ceil(a)).sum();
+    let to_the_first = (LAST_TICK - ticks.min(LAST_TICK) + random.below(4)).saturating_sub(2);
+    let mut records: Vec<Record> = costs.iter().map(|&cost| [0, row, cost]).collect();
+    records[0][0] = to_the_first;
+    if random.one_in(2) {
+        records.push([random.below(3), row, random.within(1, 3)]);
+    }
+    if random.one_in(3) {
+        records.push(job(table, random.below(2), 3, random));
+    }
+    records
+}
+
 /// Makes long times with nothing pending, which have to be crossed in one go.
 fn far_apart(table: &Table, random: &mut Random) -> Vec<Record> {
     let count = random.within(1, 20);
@@ -132,19 +153,22 @@ fn far_apart(table: &Table, random: &mut Random) -> Vec<Record> {
         .collect()
 }
 
-/// Gives a record a row number that is not in use, a cost that is 0 or above the row's c, or a time above 2^40.
-pub fn spoil_a_value(rows: &[Row], records: &mut [Record], random: &mut Random) {
+/// Gives a record a row number that is not in use, a cost that is 0 or above the most, or a time above 2^40.
+pub fn spoil_a_value(table: &Table, records: &mut [Record], random: &mut Random) {
     if records.is_empty() {
         return;
     }
     let record = random.index(records.len());
-    let count = rows.len() as u64;
-    let c = rows.get(records[record][1] as usize).map_or(1, |row| row[3].min(MOST_C));
+    let count = table.row_numbers();
+    let c = table.most_cost(records[record][1]);
     let [gap, row, cost] = &mut records[record];
     match random.below(3) {
         0 => *gap = random.pick(&[LAST_TICK, LAST_TICK + 1, 2 * LAST_TICK, 4 * LAST_TICK - 1]),
-        1 => *row = random.pick(&[count, count + 1, MOST_ROWS, MOST_ROWS + 1, 1 << 8, 1 << 16, 1 << 32, 1 << 41]),
-        _ => *cost = random.pick(&[0, c + 1, c + (1 << 8), c + (1 << 16), c + (1 << 32), 1 << 41]),
+        1 => {
+            let far = random.pick(&[MOST_ROWS, MOST_ROWS + 1, MOST_ROWS + 8, 1 << 8, 1 << 16, 1 << 32, 1 << 41]);
+            *row = random.pick(&[count, count, count + 1, far, far]);
+        }
+        _ => *cost = random.pick(&[0, c + 1, c + 1, c + (1 << 8), c + (1 << 16), c + (1 << 32), 1 << 41]),
     }
 }
 
@@ -153,7 +177,10 @@ pub fn spoil_a_value(rows: &[Row], records: &mut [Record], random: &mut Random) 
 pub fn waiting_job(random: &mut Random) -> (Table, Vec<Record>) {
     let timer = random.pick(&[[0, 1], [0, 1], [0, 7], [1, 4], [1, 12], [2, 3]]);
     let rows = vec![[1, 1, 16_000, 4], [64, 1, random.within(1, 3), 1]];
-    let mut records = vec![[0, 0, random.within(1, 4)], [0, 1, 1]];
+    // The job that waits may be an odd job.
+    let servers = if random.one_in(3) { vec![[1, MOST_B]] } else { vec![] };
+    let waits = 2 * servers.len() as u64;
+    let mut records = vec![[0, waits, random.within(1, 4)], [0, 1, 1]];
     records.resize(random.within(130, 160) as usize, [1, 1, 1]);
-    (Table { timer, rows }, records)
+    (Table { timer, rows, servers }, records)
 }

@@ -1,9 +1,10 @@
 //! Tables: ordinary ones, ones on the edge of feasible, and ones at the limits.
 
 use super::random::Random;
+use super::servers::{self, Server};
 use super::timers::{self, Timer};
 use second::numbers;
-use second::table::{self, MOST_C, MOST_D, MOST_P, MOST_ROWS};
+use second::table::{self, MOST_C, MOST_D, MOST_ODD_COST, MOST_P, MOST_ROWS};
 use second::verdict::{verdict, Verdict};
 
 /// A row is x, y, d and c.
@@ -17,49 +18,84 @@ pub const NO_TIMER: Timer = [0, 1];
 pub struct Table {
     pub timer: Timer,
     pub rows: Vec<Row>,
+    pub servers: Vec<Server>,
 }
 
 impl Table {
     pub fn without_timer(rows: Vec<Row>) -> Table {
-        Table { timer: NO_TIMER, rows }
+        Table { timer: NO_TIMER, rows, servers: vec![] }
     }
 
     pub fn spell(&self) -> Vec<u8> {
-        spell_with(self.timer, &self.rows)
+        spell_all(self.timer, &self.rows, &self.servers)
     }
 
     pub fn numbers(&self) -> Vec<u64> {
-        numbers_of(self.timer, &self.rows)
+        numbers_of(self.timer, &self.rows, &self.servers)
+    }
+
+    /// Returns how many row numbers are in use, those of servers too.
+    pub fn row_numbers(&self) -> u64 {
+        (self.rows.len() + self.servers.len()) as u64
+    }
+
+    /// Returns the most that a job of a row number may cost, or 1 where it is not in use.
+    pub fn most_cost(&self, number: u64) -> u64 {
+        match self.rows.get(number as usize) {
+            Some(row) => row[3].clamp(1, MOST_C),
+            None if number < self.row_numbers() => MOST_ODD_COST,
+            None => 1,
+        }
     }
 }
 
-/// Spells a table without a timer.
+/// Spells a table without a timer and without servers.
 pub fn spell(rows: &[Row]) -> Vec<u8> {
     spell_with(NO_TIMER, rows)
 }
 
+/// Spells a table without servers.
 pub fn spell_with(timer: Timer, rows: &[Row]) -> Vec<u8> {
-    spell_numbers(&numbers_of(timer, rows))
+    spell_all(timer, rows, &[])
+}
+
+pub fn spell_all(timer: Timer, rows: &[Row], servers: &[Server]) -> Vec<u8> {
+    spell_numbers(&numbers_of(timer, rows, servers))
 }
 
 pub fn spell_numbers(numbers: &[u64]) -> Vec<u8> {
     numbers.iter().flat_map(|&number| numbers::spell(number).unwrap()).collect()
 }
 
-fn numbers_of(timer: Timer, rows: &[Row]) -> Vec<u64> {
-    timer.into_iter().chain([rows.len() as u64]).chain(rows.iter().flatten().copied()).collect()
+fn numbers_of(timer: Timer, rows: &[Row], servers: &[Server]) -> Vec<u64> {
+    let with_rows = timer.into_iter().chain([rows.len() as u64]).chain(rows.iter().flatten().copied());
+    with_rows.chain([servers.len() as u64]).chain(servers.iter().flatten().copied()).collect()
+}
+
+/// Returns the numbers that can be read from the start on, each with the place where it starts.
+pub fn read_numbers(bytes: &[u8]) -> Vec<(usize, u64)> {
+    let mut list = vec![];
+    let mut place = 0;
+    while let Ok((number, after)) = numbers::read(bytes, place) {
+        list.push((place, number));
+        place = after;
+    }
+    list
 }
 
 /// Returns the row count of a table's bytes, where it can be read: it is the third number.
 pub fn row_count(bytes: &[u8]) -> Option<u64> {
-    let (_, place) = numbers::read(bytes, 0).ok()?;
-    let (_, place) = numbers::read(bytes, place).ok()?;
-    let (count, _) = numbers::read(bytes, place).ok()?;
-    Some(count)
+    read_numbers(bytes).get(2).map(|&(_, count)| count)
 }
 
-/// Returns how many lengths a program looks at that goes through them from 1 up. Where the sum of x * c / y and of s / p
-/// is above 1, only the witness tells.
+/// Returns the server count of a table's bytes, where it can be read: it stands after the last row.
+pub fn server_count(bytes: &[u8]) -> Option<u64> {
+    let rows = usize::try_from(row_count(bytes)?).ok().filter(|&rows| rows <= bytes.len())?;
+    read_numbers(bytes).get(3 + 4 * rows).map(|&(_, count)| count)
+}
+
+/// Returns how many lengths a program looks at that goes through them from 1 up. Where the sum of x * c / y, of a / b and
+/// of s / p is above 1, only the witness tells.
 pub fn lengths_to_look_at(bytes: &[u8]) -> u64 {
     match table::read(bytes) {
         Err(_) => 0,
@@ -74,22 +110,33 @@ pub fn last_of_first_period(table: &table::Table) -> u64 {
     table.period + table.largest_d()
 }
 
-/// Makes rows of any of the kinds below, and any timer.
+/// Makes rows of any of the kinds below, any timer, and any servers.
 pub fn any(random: &mut Random) -> Table {
     let kinds = [small, balanced, balanced, balanced, many, late_witness, long_period, at_limits];
     let rows = random.pick(&kinds)(random);
     let rows = with_hope(rows, random);
-    Table { timer: timers::any(&rows, random), rows }
+    let timer = timers::any(&rows, random);
+    Table { timer, servers: servers::any(&rows, random), rows }
 }
 
-/// Makes a table to replay on: it is accepted, and has room for many jobs. Half of these have a timer that takes ticks.
+/// Makes a table to replay on: it is accepted, and has room for many jobs. Half of these have a timer that takes ticks,
+/// and about half have servers.
 pub fn to_replay(random: &mut Random) -> Table {
     let table = timed_to_replay(random);
     if random.one_in(2) {
         return table;
     }
     let p = random.pick(&[1, 1, 1, 2, 4, table.timer[1]]);
-    Table { timer: [0, p], ..table }
+    servers::fitting(Table { timer: [0, p], ..table })
+}
+
+/// Makes a table to replay on that has servers.
+pub fn served_to_replay(random: &mut Random) -> Table {
+    let mut table = to_replay(random);
+    if table.servers.is_empty() {
+        table.servers = servers::some(&table.rows, random);
+    }
+    servers::fitting(table)
 }
 
 /// Makes a table to replay on whose timer takes ticks, where the period of the rows allows for one.
@@ -99,13 +146,19 @@ pub fn timed_to_replay(random: &mut Random) -> Table {
     }
     let rows = random.pick(&[small, small, hasty, hasty, balanced, many, wide])(random);
     let rows = with_hope(rows, random);
-    Table { timer: timers::to_replay(&rows, random), rows }
+    let timer = timers::to_replay(&rows, random);
+    let servers = if random.one_in(2) { servers::some(&rows, random) } else { vec![] };
+    servers::fitting(Table { timer, rows, servers })
 }
 
-/// Makes a table whose witness is long. Half of these would be feasible without their timer.
+/// Makes a table whose witness is long. A third of these would be feasible without their timer, and a third without
+/// their servers.
 pub fn to_search(random: &mut Random) -> Table {
-    let mut table =
-        if random.one_in(2) { late_witness_by_the_timer(random) } else { Table::without_timer(late_witness(random)) };
+    let mut table = match random.below(3) {
+        0 => late_witness_by_the_timer(random),
+        1 => servers::late_witness(random),
+        _ => Table::without_timer(late_witness(random)),
+    };
     table.rows = with_hope(table.rows, random);
     table
 }
@@ -115,6 +168,13 @@ pub fn timed(random: &mut Random) -> Table {
     random.pick(&[filled, filled, filled, timed_to_replay, late_witness_by_the_timer, long_period_by_p])(random)
 }
 
+/// Makes a table with servers, of which many take about the whole processor together with the rows and the timer.
+pub fn served(random: &mut Random) -> Table {
+    let kinds = [filled_with_servers, filled_with_servers, servers::alone, servers::late_witness, servers::long_period];
+    let table = random.pick(&kinds)(random);
+    Table { rows: with_hope(table.rows, random), ..table }
+}
+
 /// Makes a timer and rows that together take about the whole processor.
 fn filled(random: &mut Random) -> Table {
     let period: u64 = random.pick(&[6, 12, 24, 60, 120, 210, 1_024]);
@@ -122,7 +182,35 @@ fn filled(random: &mut Random) -> Table {
     let most_s = random.pick(&[1, p / 4, p / 2, p - 1]).max(1);
     let s = random.within(1, most_s);
     let rows = rows_that_take(period, period - s * (period / p), random);
-    Table { timer: [s, p], rows: with_hope(rows, random) }
+    Table { timer: [s, p], rows: with_hope(rows, random), servers: vec![] }
+}
+
+/// Makes servers and rows that together take about the whole processor, or what a timer leaves of it.
+fn filled_with_servers(random: &mut Random) -> Table {
+    let period: u64 = random.pick(&[6, 12, 24, 60, 120, 210, 1_024]);
+    let divisors = divisors(period);
+    let p = random.pick(&divisors);
+    let s = if random.one_in(2) { 0 } else { random.within(0, p.div_ceil(4)).min(p - 1) };
+    let mut free = period - s * (period / p);
+    let mut servers = vec![];
+    for _ in 0..random.within(1, 8) {
+        let b = random.pick(&divisors);
+        let a = random.within(1, b.div_ceil(3));
+        let taken = a * (period / b);
+        if taken < free {
+            free -= taken;
+            servers.push([a, b]);
+        }
+    }
+    let mut rows = rows_that_take(period, free, random);
+    if random.one_in(4) {
+        // The last server takes about all that is free, and no row is left.
+        let a = (free + random.below(3)).saturating_sub(1).clamp(1, period);
+        servers.truncate(7);
+        servers.push([a, period]);
+        rows.clear();
+    }
+    Table { timer: [s, p], rows, servers }
 }
 
 /// Makes a timer and rows that together ask for a little more than there is. The rows are due so late that the witness
@@ -136,7 +224,7 @@ fn late_witness_by_the_timer(random: &mut Random) -> Table {
         1 => ([s, y], vec![[1, y, d, y - s], [1, random.within(1, 40), d, 1]]),
         _ => ([1, random.within(2, 40)], vec![[1, y, d, y]]),
     };
-    Table { timer, rows: with_hope(rows, random) }
+    Table { timer, rows: with_hope(rows, random), servers: vec![] }
 }
 
 /// Makes periods near the limit by p: 1023 with 1025 is just accepted, and 1141 with 919 is just refused.
@@ -148,7 +236,7 @@ pub fn long_period_by_p(random: &mut Random) -> Table {
     if random.one_in(3) {
         rows.push([1, random.pick(&[y, p, 1]), random.within(1, 2 * p), 1]);
     }
-    Table { timer: [s, p.min(MOST_P)], rows: with_hope(rows, random) }
+    Table { timer: [s, p.min(MOST_P)], rows: with_hope(rows, random), servers: vec![] }
 }
 
 /// Mends the rows that are hopeless by chance, where d and c are in range: c comes down to d, or d goes up to c. Hopeless
@@ -177,7 +265,7 @@ fn balanced(random: &mut Random) -> Vec<Row> {
     rows_that_take(period, period, random)
 }
 
-fn divisors(period: u64) -> Vec<u64> {
+pub fn divisors(period: u64) -> Vec<u64> {
     (1..=period).filter(|divisor| period.is_multiple_of(*divisor)).collect()
 }
 
@@ -202,7 +290,7 @@ fn rows_that_take(period: u64, mut free: u64, random: &mut Random) -> Vec<Row> {
     rows
 }
 
-fn due_near(y: u64, random: &mut Random) -> u64 {
+pub fn due_near(y: u64, random: &mut Random) -> u64 {
     match random.below(5) {
         0 => y,
         1 => (y + random.below(3)).saturating_sub(1).max(1),
@@ -242,7 +330,7 @@ fn late_witness(random: &mut Random) -> Vec<Row> {
 }
 
 /// Pairs of numbers whose least common multiple is near the longest period.
-const LONG_PERIODS: [(u64, u64); 12] = [
+pub const LONG_PERIODS: [(u64, u64); 12] = [
     (1_023, 1_025),
     (1_141, 919),
     (4_095, 256),

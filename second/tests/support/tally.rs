@@ -3,10 +3,10 @@
 use super::bad_bytes::Met;
 use super::case::{Call, Case, Outcome};
 use super::tables::{self, last_of_first_period};
-use super::{hopeless, timers};
+use super::{hopeless, servers, timers};
 use second::host::{FEASIBLE, IN_TIME, LATE, OVERLOADED};
 use second::run::MOST_PENDING;
-use second::table::{self, MOST_ROWS};
+use second::table::{self, MOST_ROWS, MOST_SERVERS};
 use second::verdict::{verdict, Verdict};
 use std::collections::{BTreeMap, BTreeSet};
 
@@ -16,14 +16,18 @@ const TOO_MANY_ROWS: u32 = 2;
 const PLACES_FULL: u32 = 8;
 const ANSWER_NOT_16_BYTES: u32 = 13;
 
-/// What a comparison met near the limit of rows or the limit of pending jobs, near the rule that c is at most d, or of
-/// the timer.
+/// What a comparison met near the limit of rows, the limit of servers or the limit of pending jobs, near the rule that c is
+/// at most d, of the timer, or of the servers.
 #[derive(Clone, Copy, Debug, PartialEq, Eq, PartialOrd, Ord)]
 pub enum Limit {
     /// A table of so many rows was accepted.
     Rows(u64),
     /// A table of so many rows was refused with 2.
     TooManyRows(u64),
+    /// A table of so many servers was accepted.
+    Servers(u64),
+    /// A table of so many servers was refused with 2.
+    TooManyServers(u64),
     /// At most so many jobs were pending at a time in a replay that was not refused.
     Pending(usize),
     /// A release was refused with 8.
@@ -32,6 +36,8 @@ pub enum Limit {
     Hopeless(hopeless::Met),
     /// A call had this to do with the timer.
     Timer(timers::Met),
+    /// A call had this to do with the servers.
+    Server(servers::Met),
 }
 
 #[derive(Default)]
@@ -117,12 +123,22 @@ fn has_late_witness(bytes: &[u8]) -> bool {
 }
 
 fn limits_wanted(call: Call) -> BTreeSet<Limit> {
-    let rows = [Limit::Rows(MOST_ROWS - 1), Limit::Rows(MOST_ROWS), Limit::TooManyRows(MOST_ROWS + 1)];
+    let counts = [
+        Limit::Rows(MOST_ROWS - 1),
+        Limit::Rows(MOST_ROWS),
+        Limit::TooManyRows(MOST_ROWS + 1),
+        Limit::Servers(0),
+        Limit::Servers(MOST_SERVERS - 1),
+        Limit::Servers(MOST_SERVERS),
+        Limit::TooManyServers(MOST_SERVERS + 1),
+        Limit::TooManyServers(MOST_ROWS),
+    ];
     let pending = [Limit::Pending(MOST_PENDING - 1), Limit::Pending(MOST_PENDING), Limit::PlacesFull];
     let of_replay = pending.into_iter().filter(|_| call == Call::Replay);
     let of_timer = timers::wanted(call).into_iter().map(Limit::Timer);
     let hopeless = hopeless::wanted().into_iter().map(Limit::Hopeless);
-    rows.into_iter().chain(of_replay).chain(hopeless).chain(of_timer).collect()
+    let of_servers = servers::wanted(call).into_iter().map(Limit::Server);
+    counts.into_iter().chain(of_replay).chain(hopeless).chain(of_timer).chain(of_servers).collect()
 }
 
 fn limits(case: &Case, outcome: &Outcome) -> Vec<Limit> {
@@ -130,21 +146,25 @@ fn limits(case: &Case, outcome: &Outcome) -> Vec<Limit> {
         return vec![];
     }
     let rows = tables::row_count(&case.table).unwrap_or(0);
+    let servers = tables::server_count(&case.table).unwrap_or(0);
+    let accepted = [Limit::Rows(rows), Limit::Servers(servers)];
     let at_the_counts = match outcome.status {
-        FEASIBLE | OVERLOADED => vec![Limit::Rows(rows)],
-        IN_TIME | LATE => vec![Limit::Rows(rows), Limit::Pending(most_pending(&outcome.log[..outcome.first()]))],
-        TOO_MANY_ROWS => vec![Limit::TooManyRows(rows)],
-        PLACES_FULL => vec![Limit::Rows(rows), Limit::PlacesFull],
+        FEASIBLE | OVERLOADED => accepted.to_vec(),
+        IN_TIME | LATE => [&accepted[..], &[Limit::Pending(most_pending(&outcome.log[..outcome.first()]))]].concat(),
+        TOO_MANY_ROWS if rows > MOST_ROWS => vec![Limit::TooManyRows(rows)],
+        TOO_MANY_ROWS => vec![Limit::TooManyServers(servers)],
+        PLACES_FULL => [&accepted[..], &[Limit::PlacesFull]].concat(),
         _ => vec![],
     };
     let hopeless = hopeless::met(&case.table).into_iter().map(Limit::Hopeless);
     let of_timer = timers::met(case, outcome).into_iter().map(Limit::Timer);
-    at_the_counts.into_iter().chain(hopeless).chain(of_timer).collect()
+    let of_servers = servers::met(case, outcome).into_iter().map(Limit::Server);
+    at_the_counts.into_iter().chain(hopeless).chain(of_timer).chain(of_servers).collect()
 }
 
 /// Returns how many jobs of a whole log were pending at a time, at most. A job is pending from its release until its
 /// finish, and a place that is freed can be used at once.
-fn most_pending(log: &[u8]) -> usize {
+pub fn most_pending(log: &[u8]) -> usize {
     let jobs = timers::jobs_of(log);
     let mut changes: Vec<(u64, i64)> = jobs.iter().flat_map(|job| [(job[2], 1), (job[4], -1)]).collect();
     changes.sort();

@@ -136,6 +136,7 @@ pub fn met(case: &Case, outcome: &Outcome) -> Vec<Met> {
 fn of_refusal(bytes: &[u8], reason: Reason, place: usize) -> Vec<Met> {
     let Ok((s, start_of_p)) = numbers::read(bytes, 0) else { return vec![] };
     let p = numbers::read(bytes, start_of_p);
+    let start_of_row_count = p.map_or(0, |(_, after)| after);
     let no_p_would_do = s >= MOST_P;
     match (reason, p) {
         (Reason::Misspelled, Err(_)) => {
@@ -151,7 +152,7 @@ fn of_refusal(bytes: &[u8], reason: Reason, place: usize) -> Vec<Met> {
             by_p.into_iter().chain([Met::BothBad].into_iter().filter(|_| no_p_would_do)).collect()
         }
         (Reason::ValueOutOfRange, Ok((p, _))) if place == 0 => vec![if s == p { Met::SIsP } else { Met::SAboveP }],
-        (Reason::TooManyRows, _) if place > 2 => vec![Met::TooManyRowsAfterALongTimer],
+        (Reason::TooManyRows, _) if place > 2 && place == start_of_row_count => vec![Met::TooManyRowsAfterALongTimer],
         (Reason::PeriodTooLong, Ok((_, after))) if table::read(&[&[0, 1], &bytes[after..]].concat()).is_ok() => {
             vec![Met::PeriodByP { s_is_0: s == 0 }]
         }
@@ -346,7 +347,7 @@ pub fn any_bad(random: &mut Random) -> (Table, Vec<u8>) {
     let mut table = tables::to_replay(random);
     table.timer = bad(random);
     let [s, p] = table.timer.map(|number| numbers::spell(number).unwrap());
-    let rest = tables::spell(&table.rows)[2..].to_vec();
+    let rest = tables::spell_all(NO_TIMER, &table.rows, &table.servers)[2..].to_vec();
     let bytes = match random.below(12) {
         0 | 1 => [s, misspelled(&p, random), rest].concat(),
         2 => [misspelled(&s, random), p, rest].concat(),
@@ -418,8 +419,9 @@ pub fn edge_tables() -> Vec<Vec<u8>> {
     }
     for timer in [[0, 0], [1, 1], [MOST_P, 1], [0, MOST_P + 1], [128, MOST_P], [127, 128]] {
         let start = tables::spell_numbers(&timer);
-        let rests = [&[][..], &[0x80, 0x00], &[MOST_ROWS as u8 + 1], &[1], &[1, 0], &[1, 1, 4, 4, 5], &[0, 7]];
+        let rests = [&[][..], &[0x80, 0x00], &[MOST_ROWS as u8 + 1], &[1], &[1, 0], &[1, 1, 4, 4, 5], &[0], &[0, 7]];
         tables.extend(rests.map(|rest| [&start[..], rest].concat()));
+        tables.extend([&[0, 0, 7][..], &[0, 9], &[0, 1, 4, 3]].map(|rest| [&start[..], rest].concat()));
     }
     tables
 }
