@@ -244,3 +244,24 @@ fn single_calls() {
         assert!(pending_jobs.contains(&pending), "no trace had {pending} jobs pending at most");
     }
 }
+
+/// Release and end, 300 times at clock 0, and then a release: all are accepted (11.108). The answers are written out here,
+/// so that both programs are held to them.
+#[test]
+fn release_and_end_300_times_at_clock_0() {
+    let mut random = Random::of(settings::number("JYRMEKKO_SEED", 1), 0);
+    for (rows, servers) in [(vec![[1, 1, 1, 1]], vec![]), (vec![], vec![[1, 1]])] {
+        let table = tables::spell_all([0, 1], &rows, &servers);
+        let mut calls = vec![];
+        let mut wanted: Vec<Answer> = vec![[kind::STARTED, 0, 0, 0]];
+        for serial in 0..300 {
+            calls.extend([Call::Release { row: 0, cost: 1 }, Call::End { serial }]);
+            wanted.extend([[kind::RELEASED, serial, serial + 1, 0], [kind::ENDED, 0, 0, 0]]);
+        }
+        calls.extend([Call::Release { row: 0, cost: 1 }, Call::Tick]);
+        wanted.extend([[kind::RELEASED, 300, 301, 0], [kind::FINISHED, 300, 0, 0]]);
+        assert_eq!(trace(&table, &calls), wanted);
+        let (count, found) = by_library(&table, &calls, &mut random);
+        assert_eq!((count as usize, found), (wanted.len(), bytes_of(wanted.iter().flatten().copied())));
+    }
+}

@@ -1,5 +1,5 @@
 // The probe, which is for comparisons only: calls by which another program can compare what the host's two calls don't reach. They are the number writer, the
-// chooser, a trace of calls on a run, and three calls on a run that is lent. Numbers are lent as words of eight bytes, lowest byte first.
+// chooser, a trace of calls on a run, and four calls on a run that is lent. Numbers are lent as words of eight bytes, lowest byte first.
 use jobs::Finished;
 use kinds::Refusal;
 use kinds::RowNumber;
@@ -29,7 +29,7 @@ ghost use Rattle.probe.specs.Words.{mostWords, wordsBytes};
 ghost use Rattle.probe.specs.Written.{inOneNumber};
 ghost use Rattle.probe.specs.Chosen.{copied, chosenAnswered};
 ghost use Rattle.probe.specs.Traced.{wordOr0, callOf, startWords, releaseWords, tickWords, endWords, afterCall, answersShown, traceWords, answersAfter};
-ghost use Rattle.probe.specs.LentRuns.{lentStarted, lentReleased, lentTicked};
+ghost use Rattle.probe.specs.LentRuns.{lentStarted, lentReleased, lentTicked, lentEnded};
 
 // The length of the chooser's answer buffer in bytes: two words.
 const CHOICE: usize = 2 * WORD;
@@ -294,7 +294,7 @@ pub extern "C" fn trace(table: &[u8], calls: &[u8], answers: &mut [u8]) -> u32
     shown as u32
 }
 
-// ---- a lent run: release and tick go through crate `lent`
+// ---- a lent run: release, tick and end go through crate `lent`
 
 // The answer of a call on a lent run: the four words that a trace writes.
 #[repr(C)]
@@ -342,6 +342,15 @@ fn tick_said(said: TickAnswer) -> FourWords
     }
 }
 
+// The answer of an end in words. (6.27, 6.30)
+fn end_said(answer: Ended) -> FourWords
+    ensures { λ r. ⌜ r ≡ record { words = endWords (endSays answer) } ⌝ }
+{
+    FourWords {
+        words: end_words(answer),
+    }
+}
+
 // Starts a run on a table, in the memory that is lent, whatever stood there before. It returns the start's answer in four words, as a trace writes it. (6.4)
 #[no_mangle]
 pub extern "C" fn lent_start(table: &[u8], run: &mut Run) -> FourWords
@@ -370,4 +379,14 @@ pub extern "C" fn lent_tick(run: &mut Run) -> FourWords
 {
     let said = lent::tick(run);
     tick_said(said)
+}
+
+// Ends the pending job that has a serial in the run that is lent. It returns the end's answer in four words, as a trace writes it. The run afterwards is that
+// of the end by value, refusals included. (6.18, 6.19, 6.27)
+#[no_mangle]
+pub extern "C" fn lent_end(run: &mut Run, serial: Serial) -> FourWords
+    ensures { λ r. ⌜ (r ≡ lentEnded (now (run .entry)) (serial .0) .answer) × (now (run .exit) ≡ lentEnded (now (run .entry)) (serial .0) .run) ⌝ }
+{
+    let said = lent::end(run, serial);
+    end_said(said)
 }
