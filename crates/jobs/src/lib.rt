@@ -61,7 +61,7 @@ pub enum Turn {
     Ran(Ran),
 }
 
-// The choice is the place of the job that goes first, or nobody if no job is pending. (6.11)
+// The place of a pending job, or nobody: of the job that goes first, where one is pending, or of the job with a serial, where one has it. (6.11, 6.27)
 pub enum Choice {
     Place(usize),
     Nobody,

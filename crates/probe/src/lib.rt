@@ -43,7 +43,7 @@ const CALL: usize = 3 * WORD;
 // The length of one answer of a trace in bytes: four words.
 const ANSWER: usize = 4 * WORD;
 
-// The first word of a call that is a release. A call with any other first word is a tick.
+// The first word of a release. A call whose first word is neither this nor `END` is a tick.
 const RELEASE: u64 = 1;
 
 // The first word of an end.

@@ -55,7 +55,7 @@ NeverMore = (bytes : List ℕ) → Bytes bytes → (calls : List Call) (j : Job)
 abbrev pub unitsOfTraceBefore : (time serial : ℕ) → List Event → ℕ
 unitsOfTraceBefore time s es = units s (drop (clockOf es - time) (ticksOf es))
 
--- All units of an accepted job come before its due time. None of them comes later. (1.8, 6.26)
+-- All units of an accepted job that was not ended early come before its due time. None of them comes later. (1.8, 6.26)
 abbrev pub InTimeBeforeDue : Type 0
 InTimeBeforeDue = (bytes : List ℕ) → Bytes bytes → SaidFeasible bytes → (calls : List Call) (j : Job) → List·Memᴰ j (jobsOfTrace (trace bytes calls))
     → wasEnded (trace bytes calls) j ≡ false → j .due ≤ clockOf (trace bytes calls)

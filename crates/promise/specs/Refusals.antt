@@ -1,7 +1,8 @@
--- Refused exactly when. This page says what each release and each tick is answered, in terms of the table and of the answers before it. A release gets 6 or 7
--- by the table. It gets 8 where as many accepted jobs are unfinished as there are places, and 9 where the due time by the rules over the accepted jobs of the
--- row or server is above 2^40. A tick gets 10 after 2^40 ticks. An end gets 17 where the serial was never given out, or its job has had its cost or was ended,
--- and 18 after 2^40 ends. No call gets 11. A refused call changes nothing. (1.18, 6.8, 6.16, 6.18, 6.25)
+-- Refused exactly when. This page says what each release, each tick and each end is answered, in terms of the table and of the answers before it. A release
+-- gets 6 or 7 by the table. It gets 8 where as many accepted jobs are unfinished as there are places, and 9 where the due time by the rules over the accepted
+-- jobs of the row or server is above 2^40. A tick gets 10 after 2^40 ticks. An end gets 17 where no unfinished job has the serial: it was never given out, or
+-- its job has had its cost or was ended early. An end of an unfinished job gets 18 after 2^40 ends. No call gets 11. A refused call changes nothing. (1.18,
+-- 6.8, 6.16, 6.18, 6.25, 6.30)
 use Prim.Native.Nat.{ℕ, _≤_}
 use mathlib.Core.Path.{_≡_}
 use mathlib.Core.Logic.{_↔_}

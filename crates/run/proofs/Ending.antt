@@ -25,7 +25,7 @@ use Rattle.run.specs.Sound.{maxEnded, soundOf, SoundJob, Whole}
 use Rattle.run.specs.Ending.{refusedEnd, unitsGiven, withEnded, ended}
 use Rattle.run.specs.Answers.{EndingSays, ended-with, endSays}
 use Rattle.run.specs.History.{KeepsHistory}
-use Rattle.run.specs.RunLaws.{EndKeepsSound, EndNotSoundMeans, NotPendingMeans, TooManyEndedMeans, EndedAt, EndChangesNothingElse}
+use Rattle.run.specs.RunLaws.{EndKeepsSound, EndNotSoundMeans, NotPendingMeans, TooManyEndedMeans, EndIsDoneMeans, EndedAt, EndChangesNothingElse}
 use Rattle.run.specs.RunLaws.{RefusedEndChangesNothing, HistoriesStay}
 use Rattle.run.proofs.Sound.{sound-means}
 use Rattle.run.proofs.Release.{bounded}
@@ -202,6 +202,24 @@ too-many-ended-means run serial = (
       let where-found = is-found run serial (h .1 .0) (h .1 .1) (h .1 .2) _ refl in
       let many : maxEnded ≤ run .ended = omega (arith, h .2) in
       rw (← end-too-many run serial (h .0) (where-found .0) (where-found .1) many) refl,
+)
+
+pub end-is-done-means : EndIsDoneMeans
+end-is-done-means run serial = (
+  λ said.
+      each-end run serial
+      (λ step. endSays (step .answer) ≡ ended-with (said .0) → (soundOf run ≡ true)
+      × ((at : ℕ) × (at < length (jobsOf (run .pending))) × (getD (jobsOf (run .pending)) at noJob .serial .0 ≡ serial)) × (run .ended < maxEnded))
+      (λ e f. impossible cc)
+      (λ s e f. impossible cc)
+      (λ s at e many f. impossible cc)
+      (λ s at e few f.
+      let there = found-there run serial at e in
+      (s, (at, there .0, there .1), few))
+      (said .1),
+  λ h.
+      let where-found = is-found run serial (h .1 .0) (h .1 .1) (h .1 .2) _ refl in
+      (unitsGiven (getD (jobsOf (run .pending)) (where-found .0) noJob), rw (← end-done run serial (h .0) (where-found .0) (where-found .1) (h .2)) refl),
 )
 
 pub end-changes-nothing-else : EndChangesNothingElse

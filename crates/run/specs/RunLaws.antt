@@ -109,12 +109,6 @@ abbrev pub DueByWholeHistory : Type 0
 DueByWholeHistory = (run : Run) (history : ℕ → List ℕ) (row cost serial due : ℕ) → Whole run → KeepsHistory run history
     → releaseSays (released run row cost .answer) ≡ accepted serial due → GaveDue run history row cost due (released run row cost .run)
 
--- A tick keeps what the run keeps of every history of due times, and so does an end: due times go on counting when a job has finished or was ended. (4.5, 4.9,
--- 6.17, 6.28)
-abbrev pub HistoriesStay : Type 0
-HistoriesStay = (run : Run) (history : ℕ → List ℕ) (serial : ℕ) → KeepsHistory run history
-    → KeepsHistory (ticked run .run) history × KeepsHistory (ended run serial .run) history
-
 -- ---- ends (proofs/Ending.antt)
 
 -- An end leaves a sound run sound, whether it is done or refused. (6.25)
@@ -136,6 +130,12 @@ TooManyEndedMeans = (run : Run) (serial : ℕ) → (endSays (ended run serial .a
     ↔ ((soundOf run ≡ true) × ((at : ℕ) × (at < length (jobsOf (run .pending))) × (getD (jobsOf (run .pending)) at noJob .serial .0 ≡ serial))
     × (run .ended ≡ maxEnded))
 
+-- An end is done exactly where the run is sound, a pending job has the serial, and fewer than 2^40 jobs were ended early. (6.27, 6.30)
+abbrev pub EndIsDoneMeans : Type 0
+EndIsDoneMeans = (run : Run) (serial : ℕ) → ((units : ℕ) × (endSays (ended run serial .answer) ≡ ended-with units))
+    ↔ ((soundOf run ≡ true) × ((at : ℕ) × (at < length (jobsOf (run .pending))) × (getD (jobsOf (run .pending)) at noJob .serial .0 ≡ serial))
+    × (run .ended < maxEnded))
+
 -- What an end that is done changes: the job with the serial leaves its place, later jobs move down, and one more job was ended. The units that it says are the
 -- job's stated cost less its units left, and less than its cost. (6.27, 6.28)
 pub record EndedAt (run : Run) (serial units : ℕ) (next : Run) : Type 0 where
@@ -156,3 +156,9 @@ EndChangesNothingElse = (run : Run) (serial units : ℕ) → Whole run → endSa
 abbrev pub RefusedEndChangesNothing : Type 0
 RefusedEndChangesNothing = (run : Run) (serial number place : ℕ) → endSays (ended run serial .answer) ≡ EndingSays.refused number place
     → ended run serial .run ≡ run
+
+-- A tick keeps what the run keeps of every history of due times, and so does an end: due times go on counting when a job has finished or was ended. (4.5, 4.9,
+-- 6.17, 6.28)
+abbrev pub HistoriesStay : Type 0
+HistoriesStay = (run : Run) (history : ℕ → List ℕ) (serial : ℕ) → KeepsHistory run history
+    → KeepsHistory (ticked run .run) history × KeepsHistory (ended run serial .run) history

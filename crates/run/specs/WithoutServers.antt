@@ -1,4 +1,4 @@
--- A run whose table has no servers is as it was before there were servers. This page says what soundness and a release were then, and that they are so still.
+-- A run whose table has no servers is as it was before there were servers. This page says what soundness and a release are by the rows alone, and that they are so still.
 -- (docs/RULES.md, 5.18.)
 use Prim.Native.Nat.{ℕ, _+_}
 use mathlib.Core.Path.{_≡_}
