@@ -27,20 +27,22 @@ type Answer = Result<[u64; 4], u64>;
 /// Plays calls on a fresh run of a table. It writes the answers of the start and of each call, as many as there is room
 /// for, and returns how many it wrote.
 pub fn trace(table: &[u8], calls: &[u8], answers: &mut [u8]) -> u32 {
-    play(table, calls, answers, Run::call, |said| said.unwrap_or_else(|number| [6, number, 0, 0]))
+    let words = |said: Answer| said.unwrap_or_else(|number| [6, number, 0, 0]);
+    play(table, calls, answers, Run::call, words, |number, place| [6, number, place, 0])
 }
 
 /// Plays calls on a live run. For each it writes the status, the two numbers of the answer buffer, and 0.
 pub fn live(table: &[u8], calls: &[u8], answers: &mut [u8]) -> u32 {
     let tested = |run: &mut Run, call: &[u8]| if run.sound() { run.call(call) } else { Err(11) };
-    play(table, calls, answers, tested, |said| match said {
+    let words = |said: Answer| match said {
         Ok([2, serial, due, _]) => [34, serial, due, 0],
         Ok([kind @ 3..=5, serial, _, late]) => [kind + 32, serial, late, 0],
         Ok([7, _, _, late]) => [38, 0, late, 0],
         Ok([8, units, ..]) => [39, units, 0, 0],
         Ok(_) => [33, 0, 0, 0],
         Err(number) => [number, 0, 0, 0],
-    })
+    };
+    play(table, calls, answers, tested, words, |number, place| [number, place, 0, 0])
 }
 
 #[inline]
@@ -50,6 +52,7 @@ fn play(
     answers: &mut [u8],
     call_on: impl Fn(&mut Run, &[u8]) -> Answer,
     words: impl Fn(Answer) -> [u64; 4],
+    refused_start: impl Fn(u64, u64) -> [u64; 4],
 ) -> u32 {
     let mut room = answers.chunks_exact_mut(4 * WORD);
     let Some(start) = room.next() else {
@@ -57,11 +60,7 @@ fn play(
     };
     let (timer, sources, answer) = match read_table(table) {
         Ok(table) => (table.timer, Source::all(&table.rows, &table.servers), words(Ok([1, 0, 0, 0]))),
-        Err(Refused(number, place)) => {
-            let mut refused = words(Err(number.into()));
-            refused[2] = place as u64;
-            (Timer { s: 0, p: 1 }, Vec::new(), refused)
-        }
+        Err(Refused(number, place)) => (Timer { s: 0, p: 1 }, Vec::new(), refused_start(number.into(), place as u64)),
     };
     put(start, answer);
     let mut run = Run { timer, sources, clock: 0, pending: Vec::new(), next: 0, ended: 0 };

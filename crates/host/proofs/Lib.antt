@@ -1,4 +1,4 @@
 pub mod Bytes
 pub mod Verdicts
 pub mod Answering
-pub mod LiveSteps
+pub mod Live

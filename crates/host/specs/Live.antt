@@ -50,7 +50,7 @@ abbrev pub stepAfter : (size : ℕ) (before after : Run) → Said → LiveStep
 stepAfter size before after s =
     cond (eqb size answerLength) (record { run = after; status = s .number }) (record { run = before; status = refusalNumber AnswerNot16Bytes })
 
--- A start leaves the run that is started, whatever stood there before. (9.10)
+-- A start leaves the run that is started, whatever stood there before, unless it returns 13. (9.10, 9.13)
 abbrev pub startLeaves : (size : ℕ) → Run → (table : List ℕ) → LiveStep
 startLeaves size run table = stepAfter size run (started table .run) (startTold table)
 
@@ -88,7 +88,8 @@ GarbageGets11 = (run : Run) → soundOf run ≡ false
 abbrev pub ZerosAreNotSound : Type 0
 ZerosAreNotSound = (run : Run) → run .table .p ≡ 0 → soundOf run ≡ false
 
--- Whatever stood in the memory, a start leaves a sound run; and a sound run stays sound. (6.25, 9.15)
+-- Whatever stood in the memory, a start with an answer buffer of 16 bytes leaves a sound run; and a sound run stays sound, whatever the answer buffer's length
+-- is. (6.25, 9.15)
 abbrev pub LiveRunsStaySound : Type 0
 LiveRunsStaySound =
     ((run : Run) (table : List ℕ) → Bytes table → (soundOf (startLeaves 16 run table .run) ≡ true) × Whole (startLeaves 16 run table .run))

@@ -17,7 +17,7 @@ struct LiveStep {
     status: u32,
 }
 
-// A start, with its answer written. What stood in the run's memory before is overwritten. (9.10, 9.13)
+// A start, with its answer written. What stood in the run's memory before plays no part, except that it stays at 13. (9.10, 9.13)
 fn start_step(table: &[u8], run: Run, answer: &mut [u8]) -> LiveStep
     ensures { λ r. ⌜ (r ≡ startLeaves (length (now (answer .entry))) run (now (table .entry)))
         × (now (answer .exit) ≡ answerAfter (now (answer .entry)) (startTold (now (table .entry)))) ⌝ }

@@ -1,7 +1,7 @@
 -- The statuses of the calls on a live run are never 0, and tell the answers apart. (docs/RULES.md, 1.16 and 9.12.)
-use Prim.Native.Nat.{ℕ, _≤_, _<_}
-use mathlib.Core.Path.{_≡_, refl, sym, _∙_}
-use mathlib.Core.Bool.{true, false, cond}
+use Prim.Native.Nat.{ℕ, _≤_}
+use mathlib.Core.Path.{_≡_, refl, sym}
+use mathlib.Core.Bool.{cond}
 use native.Mathlib.Omega.{arith}
 use lib.Dec.{leb}
 use borrow.Author.Tests.{ne-eqb, lt-leb}
@@ -22,30 +22,29 @@ use Rattle.run.specs.declared.Ended.{Ended}
 use Rattle.run.specs.declared.Ended.the-variants as end
 use Rattle.run.specs.Answers.{releaseSays, ran, tickSays, endSays}
 use Rattle.live.specs.Statuses.{startSaid, releaseSaid, ranStatus, tickSaid, endSaid, releaseRead, tickRead, endRead}
-use Rattle.live.specs.Statuses.{LiveNeverZero, LiveReadsBack, LateReadsBack, StartedMeans}
+use Rattle.live.specs.Statuses.{NoRefusalFrom33On, StartIsSaid, LiveNeverZero, LiveReadsBack, LateReadsBack, StartedMeans}
 
 -- ---- the refusals are below the other statuses
 
--- Every refusal has a number below 33, where the statuses of a live run begin that are no refusal.
-pub below-33 : (r : Refusal) → refusalNumber r < 33
-below-33 refusal.Misspelled = omega arith
-below-33 refusal.TooManyRows = omega arith
-below-33 refusal.ValueOutOfRange = omega arith
-below-33 refusal.ExtraBytes = omega arith
-below-33 refusal.PeriodTooLong = omega arith
-below-33 refusal.NoSuchRow = omega arith
-below-33 refusal.CostOutOfRange = omega arith
-below-33 refusal.PlacesFull = omega arith
-below-33 refusal.DueTooLate = omega arith
-below-33 refusal.TimeTooLate = omega arith
-below-33 refusal.RunNotSound = omega arith
-below-33 refusal.NoRoom = omega arith
-below-33 refusal.AnswerNot16Bytes = omega arith
-below-33 refusal.ScriptMisspelled = omega arith
-below-33 refusal.HopelessRow = omega arith
-below-33 refusal.NotPending = omega arith
-below-33 refusal.TooManyEnded = omega arith
-below-33 refusal.NumberTooBig = omega arith
+pub no-refusal-from-33-on : NoRefusalFrom33On
+no-refusal-from-33-on refusal.Misspelled = omega arith
+no-refusal-from-33-on refusal.TooManyRows = omega arith
+no-refusal-from-33-on refusal.ValueOutOfRange = omega arith
+no-refusal-from-33-on refusal.ExtraBytes = omega arith
+no-refusal-from-33-on refusal.PeriodTooLong = omega arith
+no-refusal-from-33-on refusal.NoSuchRow = omega arith
+no-refusal-from-33-on refusal.CostOutOfRange = omega arith
+no-refusal-from-33-on refusal.PlacesFull = omega arith
+no-refusal-from-33-on refusal.DueTooLate = omega arith
+no-refusal-from-33-on refusal.TimeTooLate = omega arith
+no-refusal-from-33-on refusal.RunNotSound = omega arith
+no-refusal-from-33-on refusal.NoRoom = omega arith
+no-refusal-from-33-on refusal.AnswerNot16Bytes = omega arith
+no-refusal-from-33-on refusal.ScriptMisspelled = omega arith
+no-refusal-from-33-on refusal.HopelessRow = omega arith
+no-refusal-from-33-on refusal.NotPending = omega arith
+no-refusal-from-33-on refusal.TooManyEnded = omega arith
+no-refusal-from-33-on refusal.NumberTooBig = omega arith
 
 -- ---- no status is 0
 
@@ -78,7 +77,7 @@ live-never-zero = (start-never-zero, release-never-zero, tick-never-zero, end-ne
 
 release-reads-back : (a : Released) → releaseRead (releaseSaid (releaseSays a)) ≡ releaseSays a
 release-reads-back (release.Accepted a) = refl
-release-reads-back (release.Refused r) = rw (ne-eqb (refusalNumber r) 34 (λ e. omega (arith, below-33 r)))
+release-reads-back (release.Refused r) = rw (ne-eqb (refusalNumber r) 34 (λ e. omega (arith, no-refusal-from-33-on r)))
 
 ran-reads-back : (f : Finished) (serial late : ℕ)
     → tickRead (record { number = ranStatus (hasFinished f); first = serial; second = late }) ≡ ran serial (hasFinished f)
@@ -90,7 +89,7 @@ tick-reads-back tick.Idle late = refl
 tick-reads-back (tick.Ran r) late = ran-reads-back (r .finished) (r .serial .0) late
 tick-reads-back tick.Taken late = refl
 tick-reads-back (tick.Refused r) late =
-    let low = below-33 r in
+    let low = no-refusal-from-33-on r in
     rw (
       ne-eqb (refusalNumber r) 35 (λ e. omega (arith, low)),
       ne-eqb (refusalNumber r) 36 (λ e. omega (arith, low)),
@@ -100,7 +99,7 @@ tick-reads-back (tick.Refused r) late =
 
 end-reads-back : (a : Ended) → endRead (endSaid (endSays a)) ≡ endSays a
 end-reads-back (end.Units n) = refl
-end-reads-back (end.Refused r) = rw (ne-eqb (refusalNumber r) 39 (λ e. omega (arith, below-33 r)))
+end-reads-back (end.Refused r) = rw (ne-eqb (refusalNumber r) 39 (λ e. omega (arith, no-refusal-from-33-on r)))
 
 pub live-reads-back : LiveReadsBack
 live-reads-back = (release-reads-back, tick-reads-back, end-reads-back)
@@ -115,13 +114,16 @@ late-reads-back tick.Idle late of-idle of-refused = sym (of-idle refl)
 late-reads-back (tick.Ran r) late of-idle of-refused = ran-late (r .finished) late
 late-reads-back tick.Taken late of-idle of-refused = refl
 late-reads-back (tick.Refused r) late of-idle of-refused =
-    rw (lt-leb 36 (refusalNumber r) (omega (arith, below-33 r))) (sym (of-refused (refusalNumber r) 0 refl))
+    rw (lt-leb 36 (refusalNumber r) (omega (arith, no-refusal-from-33-on r))) (sym (of-refused (refusalNumber r) 0 refl))
 
 -- ---- 33 means that the table is accepted
+
+pub start-is-said : StartIsSaid
+start-is-said = (refl, λ r place. refl)
 
 pub started-means : StartedMeans
 started-means start.Ready = (λ e. refl, λ e. refl)
 started-means (start.Refused r) = (
-  λ e. absurd (omega (arith, below-33 (r .refusal))),
+  λ e. absurd (omega (arith, no-refusal-from-33-on (r .refusal))),
   λ e. absurd (let z : _≡_ {A = ℕ} 0 1 = cc in omega arith),
 )

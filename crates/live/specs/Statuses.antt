@@ -1,10 +1,11 @@
 -- What the calls on a live run say to the host: a status, and two numbers beside it. (docs/RULES.md, 9.12.)
-use Prim.Native.Nat.{ℕ, _≤_}
+use Prim.Native.Nat.{ℕ, _≤_, _<_}
 use mathlib.Core.Path.{_≡_}
 use mathlib.Core.Logic.{_↔_}
-use mathlib.Core.Bool.{Bool, true, false, cond}
+use mathlib.Core.Bool.{Bool, true, false, cond, _&&_}
 use lib.Dec.{eqb, leb}
-use Rattle.kinds.specs.Numbering.{Said, refusalAt, refusedSays}
+use Rattle.kinds.specs.Numbering.{Said, refusalNumber, refusalAt, refusedSays}
+use Rattle.kinds.specs.declared.Refusal.{Refusal}
 use Rattle.run.specs.declared.StartAnswer.{StartAnswer}
 use Rattle.run.specs.declared.StartAnswer.the-variants as start
 use Rattle.run.specs.declared.Released.{Released}
@@ -15,8 +16,8 @@ use Rattle.run.specs.Answers as says
 use Rattle.live.specs.declared.Saying.{Saying}
 
 -- The status and the two numbers that the code hands on.
-abbrev pub saidOf : Saying → Said
-saidOf s = record { number = s .number; first = s .first; second = s .second }
+abbrev pub asSaid : Saying → Said
+asSaid s = record { number = s .number; first = s .first; second = s .second }
 
 -- A start says 33, 0 and 0, or the table's refusal with its place. (9.10, 9.12)
 abbrev pub startSaid : StartAnswer → Said
@@ -62,13 +63,23 @@ tickRead s =
 
 -- The late count of a tick: the second number beside 36, 37 and 38, and 0 beside any other status. (6.14, 9.12)
 abbrev pub lateRead : Said → ℕ
-lateRead s = cond (leb 36 (s .number)) (s .second) 0
+lateRead s = cond (leb 36 (s .number) && leb (s .number) 38) (s .second) 0
 
 -- What an end said: with 39 it was done, and any other status is a refusal. (9.12)
 abbrev pub endRead : Said → EndingSays
 endRead s = cond (eqb (s .number) 39) (ended-with (s .first)) (says.EndingSays.refused (s .number) (s .first))
 
 -- ---- what is proved (proofs/Statuses.antt)
+
+-- No refusal has a number from 33 to 39. (1.15, 10.3)
+abbrev pub NoRefusalFrom33On : Type 0
+NoRefusalFrom33On = (r : Refusal) → refusalNumber r < 33
+
+-- A start that is ready says 33, 0 and 0. One that is refused says the table's refusal: its number, its place and 0. (9.12)
+abbrev pub StartIsSaid : Type 0
+StartIsSaid =
+    (startSaid start.Ready ≡ record { number = 33; first = 0; second = 0 })
+    × ((r : Refusal) (place : ℕ) → startSaid (start.Refused (record { refusal = r; place = place })) ≡ refusalAt (refusalNumber r) place)
 
 -- No call on a live run says the status 0. (1.16)
 abbrev pub LiveNeverZero : Type 0
@@ -78,7 +89,7 @@ LiveNeverZero =
     × ((a : Ticked) (late : ℕ) → 1 ≤ tickSaid (tickSays a) late .number)
     × ((a : Ended) → 1 ≤ endSaid (endSays a) .number)
 
--- What a call on a live run says reads back as the answer of the run's own call. So different answers say different things. (1.17, 9.12)
+-- What a release, a tick or an end says reads back as the answer of the run's own call. So different answers say different things. (1.17, 9.12)
 abbrev pub LiveReadsBack : Type 0
 LiveReadsBack =
     ((a : Released) → releaseRead (releaseSaid (releaseSays a)) ≡ releaseSays a)

@@ -9,7 +9,7 @@ use run::Ticked;
 ghost use mathlib.Core.Path.{_≡_};
 ghost use Rattle.kinds.specs.Numbering.{refusedSays};
 ghost use Rattle.run.specs.Answers.{releaseSays, tickSays, endSays};
-ghost use Rattle.live.specs.Statuses.{saidOf, startSaid, releaseSaid, tickSaid, endSaid};
+ghost use Rattle.live.specs.Statuses.{asSaid, startSaid, releaseSaid, tickSaid, endSaid};
 
 // A status, and the two numbers beside it. (9.4)
 pub struct Saying {
@@ -35,7 +35,7 @@ const ENDED: u32 = 39;
 
 // A status with its two numbers.
 fn said(number: u32, first: u64, second: u64) -> Saying
-    ensures { λ r. ⌜ saidOf r ≡ record { number = number; first = first; second = second } ⌝ }
+    ensures { λ r. ⌜ asSaid r ≡ record { number = number; first = first; second = second } ⌝ }
 {
     Saying {
         number,
@@ -46,7 +46,7 @@ fn said(number: u32, first: u64, second: u64) -> Saying
 
 // What a refusal says: its number, its place and 0. (9.12)
 fn refused(at: RefusedAt) -> Saying
-    ensures { λ r. ⌜ saidOf r ≡ refusedSays at ⌝ }
+    ensures { λ r. ⌜ asSaid r ≡ refusedSays at ⌝ }
 {
     let refusal = at.refusal;
     said(refusal.number(), at.place as u64, 0)
@@ -54,7 +54,7 @@ fn refused(at: RefusedAt) -> Saying
 
 // What a start says. (9.10, 9.12)
 pub fn start(answer: StartAnswer) -> Saying
-    ensures { λ r. ⌜ saidOf r ≡ startSaid answer ⌝ }
+    ensures { λ r. ⌜ asSaid r ≡ startSaid answer ⌝ }
 {
     match answer {
         StartAnswer::Ready => said(STARTED, 0, 0),
@@ -64,7 +64,7 @@ pub fn start(answer: StartAnswer) -> Saying
 
 // What a release says. Its refusals name no place. (9.12, 10.2)
 pub fn release(answer: Released) -> Saying
-    ensures { λ r. ⌜ saidOf r ≡ releaseSaid (releaseSays answer) ⌝ }
+    ensures { λ r. ⌜ asSaid r ≡ releaseSaid (releaseSays answer) ⌝ }
 {
     match answer {
         Released::Accepted(a) => said(ACCEPTED, a.serial.0, a.due.0),
@@ -74,7 +74,7 @@ pub fn release(answer: Released) -> Saying
 
 // What a tick says, with its late count. Its refusals name no place. (9.12, 10.2)
 pub fn tick(answer: Ticked, late: u64) -> Saying
-    ensures { λ r. ⌜ saidOf r ≡ tickSaid (tickSays answer) late ⌝ }
+    ensures { λ r. ⌜ asSaid r ≡ tickSaid (tickSays answer) late ⌝ }
 {
     match answer {
         Ticked::Idle => said(IDLE, 0, 0),
@@ -92,7 +92,7 @@ pub fn tick(answer: Ticked, late: u64) -> Saying
 
 // What an end says. Its refusals name no place. (9.12, 10.2)
 pub fn end(answer: Ended) -> Saying
-    ensures { λ r. ⌜ saidOf r ≡ endSaid (endSays answer) ⌝ }
+    ensures { λ r. ⌜ asSaid r ≡ endSaid (endSays answer) ⌝ }
 {
     match answer {
         Ended::Units(units) => said(ENDED, units, 0),

@@ -3,20 +3,23 @@
 -- promise about what the program reads: in time, never more, share, refused exactly when. 11 never comes. (1.20, 9.9 to 9.15)
 use Prim.Native.Nat.{ℕ, _+_, _-_, _≤_, _<_}
 use mathlib.Core.Path.{_≡_}
-use mathlib.Core.Logic.{_↔_, _≢_}
+use mathlib.Core.Logic.{_↔_, _⊎_, _≢_}
 use mathlib.Core.Bool.{true, false, cond}
 use mathlib.Core.List.{List, [], _∷_, _++_, List·Memᴰ}
 use lib.Dec.{eqb}
 use lib.ListN.{length, take, drop}
-use Rattle.kinds.specs.Numbering.{Said, maxTime}
+use Rattle.kinds.specs.Numbering.{Said, refusedSays, maxTime}
 use Rattle.numbers.specs.SpelledNumbers.{Bytes}
 use Rattle.words.specs.Words.{wordLength, fromLowestFirst}
 use Rattle.theory.specs.Jobs.{Job}
 use Rattle.table.specs.Tables.{tableRead}
+use Rattle.verdict.specs.declared.Verdict.{Verdict}
+use Rattle.verdict.specs.declared.Verdict.the-variants as verdict
+use Rattle.verdict.specs.Verdict.{Judged}
 use Rattle.run.specs.declared.Run.{Run}
 use Rattle.live.specs.Statuses.{releaseSaid, tickSaid, endSaid, releaseRead, tickRead, lateRead, endRead}
 use Rattle.host.specs.Answer.{answerLength, VerdictAnswered}
-use Rattle.host.specs.Live.{answerAfter, startLeaves, releaseTold, releaseLeaves, tickTold, tickLeaves, endTold, endLeaves}
+use Rattle.host.specs.Live.{answerAfter, startTold, startLeaves, releaseTold, releaseLeaves, tickTold, tickLeaves, endTold, endLeaves}
 use Rattle.promise.specs.Sources.{sourceAt, sourceDemand}
 use Rattle.promise.specs.Traces.{Call, Event, EndedJob, runAt, trace, clockOf, jobsOfTrace, unitsOf, endedIn, wasEnded}
 use Rattle.promise.specs.InTime.{EndedWith}
@@ -58,7 +61,7 @@ abbrev pub seenAfter : Run → LiveCall → Seen
 seenAfter run c = record { status = liveStatus run (c .call) (length (c .buffer)); answer = answerAfter (c .buffer) (liveTold run (c .call)) }
 
 -- The run in the program's memory after some calls, newest first. It begins as `run_start`, lent an answer buffer of 16 bytes, leaves it on a table's bytes.
--- `memory` is whatever stood there before. (9.10)
+-- `memory` is whatever stood there before. Nobody else writes into it: each call finds the run that the call before it left. (9.10, 9.15)
 unfoldable pub liveRunAt : (memory : Run) (table : List ℕ) → List LiveCall → Run
 liveRunAt memory table [] = startLeaves answerLength memory table .run
 liveRunAt memory table (c ∷ earlier) = liveLeft (liveRunAt memory table earlier) (c .call) (length (c .buffer))
@@ -133,15 +136,35 @@ LiveShare = (table : List ℕ) → Bytes table → (memory : Run) (calls : List 
     → (costsIn a b row es ≤ sourceDemand (sourceAt (tableRead table .table) row) (b - a))
     × (consumedIn a b row es ≤ sourceDemand (sourceAt (tableRead table .table) row) (b - a))
 
--- What the next call returns, by what the program has read so far, where its answer buffer has 16 bytes: a release and an end say what `releaseAnswer` and
--- `endAnswer` make of the events, and a tick is refused, with 10, exactly when 2^40 ticks have gone by. (6.8, 6.16, 6.30)
+-- What the next call says, by what the program has read so far, where its answer buffer has 16 bytes: a release and an end say what `releaseAnswer` and
+-- `endAnswer` make of the events; a tick returns 10 exactly when 2^40 ticks have gone by, and otherwise one of 35 to 38. (6.8, 6.16, 6.30)
 abbrev pub LiveRefusedExactly : Type 0
 LiveRefusedExactly = (table : List ℕ) → Bytes table → (memory : Run) (calls : List LiveCall)
     → let run = liveRunAt memory table calls in
     let es = liveEvents memory table calls in
-    ((row cost : ℕ) → releaseLeaves 16 run row cost .status ≡ releaseSaid (releaseAnswer (tableRead table .table) es row cost) .number)
-    × ((tickLeaves 16 run .status ≤ 34) ↔ (clockOf es ≡ maxTime)) × (tickLeaves 16 run .status ≤ 34 → tickLeaves 16 run .status ≡ 10)
-    × ((serial : ℕ) → endLeaves 16 run serial .status ≡ endSaid (endAnswer es serial) .number)
+    ((row cost : ℕ) → releaseTold run row cost ≡ releaseSaid (releaseAnswer (tableRead table .table) es row cost))
+    × ((tickLeaves 16 run .status ≡ 10) ↔ (clockOf es ≡ maxTime))
+    × ((tickLeaves 16 run .status ≡ 10) ⊎ ((35 ≤ tickLeaves 16 run .status) × (tickLeaves 16 run .status ≤ 38)))
+    × ((serial : ℕ) → endTold run serial ≡ endSaid (endAnswer es serial))
+
+-- A call returns 13 exactly when its answer buffer is not 16 bytes long. (9.13)
+abbrev pub Live13Exactly : Type 0
+Live13Exactly = (memory : Run) (table : List ℕ) → Bytes table → (calls : List LiveCall) (c : Call) (size : ℕ)
+    → (liveStatus (liveRunAt memory table calls) c size ≡ 13) ↔ (size ≢ 16)
+
+-- What `run_start` says of a table, by the table's verdict: 33, 0 and 0 where the table is feasible or overloaded, and otherwise the same refusal. (6.4, 9.10)
+abbrev pub startByVerdict : Verdict → Said
+startByVerdict verdict.Feasible = record { number = 33; first = 0; second = 0 }
+startByVerdict (verdict.Overloaded w) = record { number = 33; first = 0; second = 0 }
+startByVerdict (verdict.Refused r) = refusedSays r
+
+-- A run starts exactly on the tables that get a verdict, and on all other bytes `run_start` says what `verdict` says: the refusal's number and place. (6.4, 9.10)
+abbrev pub LiveStartsByTheVerdict : Type 0
+LiveStartsByTheVerdict = (table : List ℕ) (v : Verdict) → Judged table v → startTold table ≡ startByVerdict v
+
+-- Where `verdict` returned 20 for a table, `run_start` on it returns 33. (6.4, 9.12)
+abbrev pub LiveStartsFeasible : Type 0
+LiveStartsFeasible = (table lent written : List ℕ) → VerdictAnswered table lent 20 written → (memory : Run) → startLeaves 16 memory table .status ≡ 33
 
 -- No call on a live run that was started returns 11. (6.25, 9.15)
 abbrev pub LiveNever11 : Type 0

@@ -4,7 +4,7 @@ use borrow.Author.Needs.{needs}
 use Rattle.run.specs.declared.EndStep.{EndStep}
 use Rattle.run.specs.Answers.{endSays}
 use Rattle.live.specs.Statuses.{endSaid}
-use Rattle.host.proofs.LiveSteps.{unanswered, answered}
+use Rattle.host.proofs.live_run.Steps.{unanswered, answered}
 use Rattle.host.proofs.live_run.end_step.Statement.{statement}
 use Rattle.host.proofs.live_run.end_step.Tie as tie
 

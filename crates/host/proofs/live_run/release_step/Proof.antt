@@ -4,7 +4,7 @@ use borrow.Author.Needs.{needs}
 use Rattle.run.specs.declared.ReleaseStep.{ReleaseStep}
 use Rattle.run.specs.Answers.{releaseSays}
 use Rattle.live.specs.Statuses.{releaseSaid}
-use Rattle.host.proofs.LiveSteps.{unanswered, answered}
+use Rattle.host.proofs.live_run.Steps.{unanswered, answered}
 use Rattle.host.proofs.live_run.release_step.Statement.{statement}
 use Rattle.host.proofs.live_run.release_step.Tie as tie
 
@@ -32,7 +32,8 @@ returns-2 : tie.Need-returns-2
 returns-2 c =
     let a = c .before .before .before .before .before .before .before .before .before .args in
     answered ReleaseStep (λ s. s .run) (λ s. releaseSaid (releaseSays (s .answer))) (a .run) (a .answer .now) _ _ _ _ _ (omega arith)
-    (c .before .before .before .before .before .before .release .ensures) (c .before .before .before .before .release2 .ensures) (c .before .before .say .ensures)
+    (c .before .before .before .before .before .before .release .ensures) (c .before .before .before .before .release2 .ensures)
+    (c .before .before .say .ensures)
 
 pub release-step-spec : {M : Type 1} → statement M
 release-step-spec =

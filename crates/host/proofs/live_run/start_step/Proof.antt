@@ -3,7 +3,7 @@ use native.Mathlib.Omega.{arith}
 use borrow.Author.Needs.{needs}
 use Rattle.run.specs.declared.Started.{Started}
 use Rattle.live.specs.Statuses.{startSaid}
-use Rattle.host.proofs.LiveSteps.{unanswered, answered}
+use Rattle.host.proofs.live_run.Steps.{unanswered, answered}
 use Rattle.host.proofs.live_run.start_step.Statement.{statement}
 use Rattle.host.proofs.live_run.start_step.Tie as tie
 

@@ -4,7 +4,7 @@ use borrow.Author.Needs.{needs}
 use Rattle.run.specs.declared.TickStep.{TickStep}
 use Rattle.run.specs.Answers.{tickSays}
 use Rattle.live.specs.Statuses.{tickSaid}
-use Rattle.host.proofs.LiveSteps.{unanswered, answered}
+use Rattle.host.proofs.live_run.Steps.{unanswered, answered}
 use Rattle.host.proofs.live_run.tick_step.Statement.{statement}
 use Rattle.host.proofs.live_run.tick_step.Tie as tie
 
