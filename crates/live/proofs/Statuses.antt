@@ -1,7 +1,7 @@
 -- The statuses of the calls on a live run are never 0, and tell the answers apart. (docs/RULES.md, 1.16 and 9.12.)
 use Prim.Native.Nat.{ℕ, _≤_}
 use mathlib.Core.Path.{_≡_, refl, sym}
-use mathlib.Core.Bool.{cond}
+use mathlib.Core.Bool.{cond, _&&_}
 use native.Mathlib.Omega.{arith}
 use lib.Dec.{leb}
 use borrow.Author.Tests.{ne-eqb, lt-leb}
@@ -104,8 +104,8 @@ end-reads-back (end.Refused r) = rw (ne-eqb (refusalNumber r) 39 (λ e. omega (a
 pub live-reads-back : LiveReadsBack
 live-reads-back = (release-reads-back, tick-reads-back, end-reads-back)
 
--- A status of a job that had the unit is at least 36, so its late count is read.
-ran-late : (f : Finished) (late : ℕ) → cond (leb 36 (ranStatus (hasFinished f))) late 0 ≡ late
+-- The status of a tick in which a job had the unit is 36 or 37, so its late count is read.
+ran-late : (f : Finished) (late : ℕ) → cond (leb 36 (ranStatus (hasFinished f)) && leb (ranStatus (hasFinished f)) 38) late 0 ≡ late
 ran-late finished.Yes late = refl
 ran-late finished.No late = refl
 
