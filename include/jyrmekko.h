@@ -160,6 +160,8 @@ enum jyrmekko_status {
 
     /* The refusals inside the scheduler, which these two calls never return. */
     JYRMEKKO_RUN_NOT_SOUND = 11,       /* The run is not sound. */
+    JYRMEKKO_NOT_PENDING = 17,         /* No pending job has the serial that is to be ended. */
+    JYRMEKKO_TOO_MANY_ENDED = 18,      /* 2^40 jobs were ended early. */
     JYRMEKKO_NUMBER_TOO_BIG = 25       /* A number to write is above 2^42 - 1. */
 };
 

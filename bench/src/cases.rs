@@ -303,6 +303,9 @@ fn ticks() -> Vec<Case> {
         for pending in [1, 16, 64, 256] {
             cases.push(taken_ticks(format!("taken tick, {said}, {pending} pending"), form, pending));
         }
+        for pending in [1, 16, 64, 255] {
+            cases.push(releases_and_ends(format!("release and end, {said}, {pending} pending"), form, pending));
+        }
     }
     cases
 }
@@ -336,6 +339,14 @@ fn ticks_and_releases(name: String, form: Form, servers: &[Server], pending: u64
     let first = (0..pending).map(release);
     let turns = (pending..pending + TICKS).flat_map(|i| [([2, 0, 0], 5), release(i)]);
     run(name, form, NO_TIMER, &rows, servers, first.chain(turns).collect())
+}
+
+/// So many jobs are released. Then a release and the end of that job take turns, all at clock 0.
+fn releases_and_ends(name: String, form: Form, pending: u64) -> Case {
+    let rows = [[1, 1, 1, 1]];
+    let first = (0..pending).map(|_| ([1, 0, 1], 2));
+    let turns = (pending..pending + TICKS).flat_map(|serial| [([1, 0, 1], 2), ([3, serial, 0], 8)]);
+    run(name, form, NO_TIMER, &rows, &[], first.chain(turns).collect())
 }
 
 /// Returns the row number of a job. Where there are servers every other job is an odd one, and the rest get a row each.

@@ -5,9 +5,10 @@ use crate::plain::{PLACES, ROWS, SERVERS, X};
 
 /// A run's size in bytes, by its fields. First comes the table: s and p of the timer, the rows and their count, the servers
 /// and their count. Then come the clock, the pending jobs and their count, the next serial, for each row the kept due times
-/// and their count, and for each server its last due time. Each number has eight bytes.
+/// and their count, for each server its last due time, and last the number of jobs that were ended. Each number has eight
+/// bytes.
 pub const RUN_SIZE: usize =
-    8 * (TABLE + 1 + (6 * PLACES + 1) + 1 + ROWS as usize * (X as usize + 1) + SERVERS as usize);
+    8 * (TABLE + 1 + (6 * PLACES + 1) + 1 + ROWS as usize * (X as usize + 1) + SERVERS as usize + 1);
 const TABLE: usize = 2 + (4 * ROWS as usize + 1) + (2 * SERVERS as usize + 1);
 
 /// This is memory for a run. The library does not say how large a run is, so there is room behind it, which has to stay as
@@ -24,16 +25,21 @@ const UNTOUCHED: u8 = 0xA5;
 #[repr(C)]
 pub struct RowNumber(u64);
 
+#[repr(C)]
+pub struct Serial(u64);
+
 /// The answer of a call on a run that is lent.
 #[repr(C)]
 pub struct FourWords([u64; 4]);
 
 const WORD: usize = 8;
-/// The first word of a call that is a release. A call with any other first word is a tick.
+/// The first word of a release.
 const RELEASE: u64 = 1;
+/// The first word of an end. A call with any other first word is a tick.
+const END: u64 = 3;
 
 mod calls {
-    use super::{FourWords, RowNumber, Run};
+    use super::{FourWords, RowNumber, Run, Serial};
 
     extern "C" {
         pub fn verdict(table: *const u8, table_len: usize, answer: *mut u8, answer_len: usize) -> u32;
@@ -58,6 +64,7 @@ mod calls {
         pub fn lent_start(table: *const u8, table_len: usize, run: *mut Run) -> FourWords;
         pub fn lent_release(run: *mut Run, row: RowNumber, cost: u64) -> FourWords;
         pub fn lent_tick(run: *mut Run) -> FourWords;
+        pub fn lent_end(run: *mut Run, serial: Serial) -> FourWords;
     }
 }
 
@@ -101,6 +108,7 @@ pub fn lent(table: &[u8], calls: &[u8], answers: &mut [u8]) -> u32 {
         let word = |index| u64::from_le_bytes(call[index * WORD..(index + 1) * WORD].try_into().unwrap());
         let said = match word(0) {
             RELEASE => unsafe { calls::lent_release(&mut *run, RowNumber(word(1)), word(2)) },
+            END => unsafe { calls::lent_end(&mut *run, Serial(word(1))) },
             _ => unsafe { calls::lent_tick(&mut *run) },
         };
         put(answer, said);

@@ -33,6 +33,10 @@ pub enum Reason {
     ScriptMisspelled = 14,
     /// A row's c is above its d, so no job of full cost could ever be in time.
     HopelessRow = 16,
+    /// No pending job has the serial of a job that is to be ended.
+    NotPending = 17,
+    /// As many jobs were ended early as may be.
+    TooManyEnded = 18,
     /// A number to write is above 2^42 - 1.
     NumberTooBig = 25,
 }

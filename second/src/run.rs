@@ -1,5 +1,5 @@
 //! Runs. Jobs are released, and each tick that the timer leaves free gives one unit to the pending job with the
-//! earliest due time.
+//! earliest due time. A pending job can be ended before it has had its cost.
 
 use crate::due::due;
 use crate::refusal::{Reason, Refusal};
@@ -9,6 +9,8 @@ use crate::table::{self, Row, Server, Table, MOST_ROWS, MOST_SERVERS, MOST_X};
 pub const LAST_TICK: u64 = 1 << 40;
 /// This is the limit of pending jobs.
 pub const MOST_PENDING: usize = 256;
+/// No more jobs than this are ended early.
+pub const MOST_ENDED: u64 = 1 << 40;
 
 #[derive(Clone, Debug, PartialEq, Eq)]
 pub struct Job {
@@ -28,6 +30,8 @@ pub struct Run {
     next_serial: u64,
     /// For each row, and after the rows for each server, these are the due times of all its accepted jobs.
     dues: Vec<Vec<u64>>,
+    /// This many jobs were ended early.
+    ended: u64,
 }
 
 #[derive(Clone, Copy, Debug, PartialEq, Eq)]
@@ -47,7 +51,7 @@ pub struct Ticked {
 impl Run {
     pub fn fresh(table: Table) -> Run {
         let dues = vec![vec![]; table.rows.len() + table.servers.len()];
-        Run { table, clock: 0, pending: vec![], next_serial: 0, dues }
+        Run { table, clock: 0, pending: vec![], next_serial: 0, dues, ended: 0 }
     }
 
     /// Starts a fresh run on the bytes of a table. Where they are refused, it is the fresh run of the empty table, with
@@ -108,6 +112,18 @@ impl Run {
         Ok(Ticked { given, late })
     }
 
+    /// Ends a pending job before it has had its cost, and returns the units that it was given. Its due time goes on
+    /// counting.
+    pub fn end(&mut self, serial: u64) -> Result<u64, Reason> {
+        let place = self.pending.iter().position(|job| job.serial == serial).ok_or(Reason::NotPending)?;
+        if self.ended == MOST_ENDED {
+            return Err(Reason::TooManyEnded);
+        }
+        let job = self.pending.remove(place);
+        self.ended += 1;
+        Ok(job.cost - job.left)
+    }
+
     /// Takes the clock to a later time in one go, where nothing is pending and every tick would be idle or taken.
     pub fn pass_until(&mut self, time: u64) {
         assert!(self.pending.is_empty() && self.clock <= time && time <= LAST_TICK);
@@ -137,6 +153,7 @@ impl Run {
             pending: padded(&self.pending, MOST_PENDING, no_job),
             pending_count: self.pending.len() as u64,
             next_serial: self.next_serial,
+            ended: self.ended,
             kept: padded(&kept, MOST_ROWS as usize, no_dues),
             last: padded(&last, MOST_SERVERS as usize, 0),
         }
@@ -501,5 +518,245 @@ mod tests {
         assert_eq!((&held.last[..3], held.pending_count, held.next_serial), (&[0, 4, 0][..], 5, 5));
         let lengths = [held.rows.len(), held.servers.len(), held.pending.len(), held.kept.len(), held.last.len()];
         assert_eq!(lengths, [64, 8, 256, 64, 8]);
+    }
+
+    #[test]
+    fn an_end_answers_the_units_given_so_far_and_the_job_leaves() {
+        let mut run = run_on(&[[4, 9, 9, 3]]);
+        for serial in 0..4 {
+            assert_eq!(released(&mut run, 0, 3), (serial, 9));
+        }
+        assert_eq!(run.end(2), Ok(0));
+        assert_eq!(run.tick(), ran(0, false, 0));
+        assert_eq!(run.end(0), Ok(1));
+        assert_eq!(run.tick(), ran(1, false, 0));
+        assert_eq!(run.tick(), ran(1, false, 0));
+        // One unit is left.
+        assert_eq!(run.end(1), Ok(2));
+        let serials: Vec<u64> = run.pending().iter().map(|job| job.serial).collect();
+        assert_eq!(serials, [3]);
+        for finished in [false, false, true] {
+            assert_eq!(run.tick(), ran(3, finished, 0));
+        }
+        assert_eq!(run.tick(), idle(0));
+    }
+
+    #[test]
+    fn an_end_of_who_is_not_pending() {
+        let mut run = run_of([0, 1], &[[2, 9, 9, 3]], &[[1, 4]]);
+        for serial in [0, 1, 1 << 32, 1 << 40, u64::MAX] {
+            assert_eq!(run.end(serial), Err(Reason::NotPending), "{serial}");
+        }
+        assert_eq!(released(&mut run, 0, 1), (0, 9));
+        assert_eq!(released(&mut run, 1, 4), (1, 16));
+        assert_eq!(run.tick(), ran(0, true, 0));
+        assert_eq!(run.end(1), Ok(0));
+        assert_eq!(released(&mut run, 0, 1), (2, 10));
+        let before = run.held();
+        // Job 0 has finished, job 1 was ended, and job 2 is pending. Serials are not cut short.
+        for serial in [0, 1, 3, (1 << 32) + 2, (1 << 40) + 2, u64::MAX] {
+            assert_eq!(run.end(serial), Err(Reason::NotPending), "{serial}");
+            assert!(run.held() == before);
+        }
+        assert_eq!(run.tick(), ran(2, true, 0));
+    }
+
+    #[test]
+    fn an_end_frees_its_place_at_once() {
+        let mut run = run_of([0, 1], &[[MOST_X, 9, 9, 2]; ROWS_FOR_ALL_PLACES], &[[1, 1]]);
+        let jobs = MOST_PENDING as u64;
+        for serial in 0..jobs {
+            assert_eq!(released(&mut run, serial / MOST_X, 2), (serial, 9));
+        }
+        for (serial, of) in [(jobs, 0), (jobs + 1, jobs - 1), (jobs + 2, 100), (jobs + 3, jobs + 2)] {
+            assert_eq!(run.release(0, 1), Err(Reason::PlacesFull));
+            assert_eq!(run.end(of), Ok(0));
+            // The jobs in later places have moved down, and the place after the last of them holds zeros.
+            let held = run.held();
+            assert!(held.pending.windows(2).take(MOST_PENDING - 2).all(|two| two[0].serial < two[1].serial));
+            assert_eq!((held.pending_count, held.pending[MOST_PENDING - 1].cost), (jobs - 1, 0));
+            assert_eq!(run.release(4, 1).unwrap().serial, serial);
+        }
+        assert_eq!(run.release(4, 1), Err(Reason::PlacesFull));
+    }
+
+    #[test]
+    fn release_and_end_300_times_at_one_clock() {
+        for (rows, servers) in [(vec![[1, 1, 1, 1]], vec![]), (vec![], vec![[1, 1]])] {
+            let mut run = run_of([0, 1], &rows, &servers);
+            for serial in 0..300 {
+                assert_eq!(released(&mut run, 0, 1), (serial, serial + 1));
+                assert!(run.held().is_sound());
+                assert_eq!(run.end(serial), Ok(0));
+                assert!(run.held().is_sound());
+            }
+            assert_eq!(released(&mut run, 0, 1), (300, 301));
+            assert_eq!((run.clock(), run.pending().len(), run.held().ended), (0, 1, 300));
+            assert_eq!(run.tick(), ran(300, true, 0));
+        }
+    }
+
+    #[test]
+    fn the_due_time_of_an_ended_job_counts_on() {
+        // In the second run no job is ended, and its due times are the same.
+        for ends in [true, false] {
+            let mut run = run_of([0, 1], &[[1, 4, 8, 2], [2, 5, 9, 2]], &[[1, 10]]);
+            let dues = [(0, 8), (0, 12), (1, 9), (1, 9), (1, 14), (2, 10), (2, 20), (0, 16), (1, 14), (2, 30)];
+            for (serial, (row, due)) in dues.into_iter().enumerate() {
+                assert_eq!(released(&mut run, row, 1), (serial as u64, due));
+                if ends {
+                    assert_eq!(run.end(serial as u64), Ok(0));
+                }
+            }
+            let held = run.held();
+            assert_eq!((held.kept[0].count, held.kept[0].dues[0]), (1, 16));
+            assert_eq!((held.kept[1].count, &held.kept[1].dues[..2]), (2, &[14, 14][..]));
+            assert_eq!(held.last[0], 30);
+        }
+        // A job before the newest is ended.
+        let mut run = run_of([0, 1], &[[2, 5, 9, 2]], &[[1, 10]]);
+        for (row, due) in [(0, 9), (1, 10), (0, 9), (0, 14), (1, 20)] {
+            assert_eq!(run.release(row, 1).unwrap().due, due);
+        }
+        for serial in [2, 1, 0] {
+            assert_eq!(run.end(serial), Ok(0));
+        }
+        assert_eq!(released(&mut run, 0, 1), (5, 14));
+        assert_eq!(released(&mut run, 0, 1), (6, 19));
+        assert_eq!(released(&mut run, 1, 1), (7, 30));
+    }
+
+    #[test]
+    fn an_ended_job_is_not_counted_late_and_not_served_again() {
+        let mut run = run_on(&[[4, 9, 2, 2]]);
+        for serial in 0..4 {
+            assert_eq!(released(&mut run, 0, 2), (serial, 2));
+        }
+        assert_eq!(run.tick(), ran(0, false, 0));
+        assert_eq!(run.end(0), Ok(1));
+        assert_eq!(run.end(2), Ok(0));
+        assert_eq!(run.tick(), ran(1, false, 2));
+        // A late job can be ended, too.
+        assert_eq!(run.end(1), Ok(1));
+        assert_eq!(run.tick(), ran(3, false, 0));
+        assert_eq!(run.tick(), ran(3, true, 0));
+        assert_eq!(run.tick(), idle(0));
+        let mut taken_run = run_with([2, 4], &[[2, 9, 2, 1]]);
+        assert_eq!(released(&mut taken_run, 0, 1), (0, 2));
+        assert_eq!(released(&mut taken_run, 0, 1), (1, 2));
+        assert_eq!(taken_run.end(0), Ok(0));
+        assert_eq!(taken_run.tick(), taken(0));
+        assert_eq!(taken_run.tick(), taken(1));
+        assert_eq!(taken_run.tick(), ran(1, true, 0));
+    }
+
+    #[test]
+    fn an_end_changes_the_pending_jobs_and_the_count_of_ended_jobs_alone() {
+        let mut run = run_of([1, 4], &[[2, 4, 9, 3]], &[[1, 4]]);
+        for row in [0, 1, 0, 1] {
+            run.release(row, 2).unwrap();
+        }
+        run.tick().unwrap();
+        run.tick().unwrap();
+        let mut expected = run.held();
+        let ended = expected.pending.remove(1);
+        expected.pending.push(Job { serial: 0, row: 0, release: 0, due: 0, cost: 0, left: 0 });
+        expected.pending_count -= 1;
+        expected.ended += 1;
+        assert_eq!(run.end(ended.serial), Ok(ended.cost - ended.left));
+        assert!(run.held() == expected);
+        assert_eq!((expected.clock, expected.next_serial, expected.ended), (2, 4, 1));
+        // Releases and ticks leave the count alone.
+        run.release(0, 1).unwrap();
+        run.tick().unwrap();
+        assert_eq!(run.held().ended, 1);
+    }
+
+    #[test]
+    fn an_end_at_the_last_tick() {
+        let mut run = run_with([1, 2], &[[2, 1, 1, 1]]);
+        run.pass_until(LAST_TICK - 1);
+        assert_eq!(released(&mut run, 0, 1), (0, LAST_TICK));
+        assert_eq!(released(&mut run, 0, 1), (1, LAST_TICK));
+        assert_eq!(run.tick(), ran(0, true, 1));
+        assert_eq!(run.tick(), Err(Reason::TimeTooLate));
+        assert_eq!(run.end(1), Ok(0));
+        assert_eq!(run.end(1), Err(Reason::NotPending));
+        assert_eq!(run.clock(), LAST_TICK);
+        assert!(run.held().is_sound());
+    }
+
+    #[test]
+    fn the_last_end_and_one_more() {
+        let mut run = run_on(&[[4, 9, 9, 2]]);
+        for serial in 0..3 {
+            assert_eq!(released(&mut run, 0, 2), (serial, 9));
+        }
+        run.ended = MOST_ENDED - 1;
+        assert_eq!(run.end(1), Ok(0));
+        assert_eq!(run.ended, 1 << 40);
+        let before = run.held();
+        assert!(before.is_sound());
+        for (serial, reason) in [
+            (0, Reason::TooManyEnded),
+            (1, Reason::NotPending),
+            (2, Reason::TooManyEnded),
+            (3, Reason::NotPending),
+            (u64::MAX, Reason::NotPending),
+        ] {
+            assert_eq!(run.end(serial), Err(reason), "{serial}");
+            assert!(run.held() == before);
+        }
+        assert_eq!((Reason::NotPending.number(), Reason::TooManyEnded.number()), (17, 18));
+        // The other calls don't ask for it.
+        assert_eq!(released(&mut run, 0, 1), (3, 9));
+        assert_eq!(run.tick(), ran(0, false, 0));
+    }
+
+    #[test]
+    fn on_feasible_tables_units_add_up_and_nobody_is_late_whoever_is_ended() {
+        let tables = [
+            ([0, 1], vec![[1, 4, 4, 2], [1, 6, 6, 3]], vec![]),
+            ([0, 1], vec![[3, 6, 6, 2]], vec![]),
+            ([1, 4], vec![[1, 8, 6, 2], [1, 8, 8, 3]], vec![]),
+            ([0, 1], vec![[1, 4, 4, 2]], vec![[1, 4], [1, 4]]),
+            ([1, 4], vec![], vec![[3, 4]]),
+        ];
+        let mut state: u64 = 7;
+        let mut below = |bound: u64| {
+            state = state.wrapping_mul(0x5851_f42d_4c95_7f2d).wrapping_add(1);
+            (state >> 33) % bound
+        };
+        for (timer, rows, servers) in tables {
+            let mut run = run_of(timer, &rows, &servers);
+            assert_eq!(crate::verdict::verdict(&run.table), crate::verdict::Verdict::Feasible);
+            // Of each serial, these are the units by the answers of the ticks.
+            let mut units: Vec<u64> = vec![];
+            let mut ended = vec![];
+            for _ in 0..5_000 {
+                match below(8) {
+                    0..=2 => drop(run.release(below(3), 1 + below(3)).map(|_| units.push(0))),
+                    3 => {
+                        let serials: Vec<u64> = run.pending().iter().map(|job| job.serial).collect();
+                        let some = serials.get(below(serials.len() as u64 + 1) as usize);
+                        let serial = some.copied().unwrap_or(below(units.len() as u64 + 2));
+                        if let Ok(given) = run.end(serial) {
+                            assert_eq!(given, units[serial as usize]);
+                            ended.push(serial);
+                        }
+                    }
+                    _ => {
+                        let ticked = run.tick().unwrap();
+                        assert_eq!(ticked.late, 0);
+                        if let Given::Ran { serial, .. } = ticked.given {
+                            assert!(!ended.contains(&serial));
+                            units[serial as usize] += 1;
+                        }
+                    }
+                }
+            }
+            assert_eq!((run.ended, run.next_serial), (ended.len() as u64, units.len() as u64));
+            assert!(ended.len() > 50 && units.len() > 200, "{} of {} jobs ended", ended.len(), units.len());
+        }
     }
 }

@@ -1,7 +1,7 @@
-//! Sound runs. A run of this program is changed only by its own calls, and those keep it sound. So release and tick
-//! don't ask. This is the rule for a run that was made in another way.
+//! Sound runs. A run of this program is changed only by its own calls, and those keep it sound. So release, tick
+//! and end don't ask. This is the rule for a run that was made in another way.
 
-use crate::run::{Job, LAST_TICK, MOST_PENDING};
+use crate::run::{Job, LAST_TICK, MOST_ENDED, MOST_PENDING};
 use crate::table::{Row, Server, Timer};
 use crate::table::{MOST_A, MOST_B, MOST_C, MOST_D, MOST_ODD_COST, MOST_P, MOST_ROWS, MOST_SERVERS, MOST_X, MOST_Y};
 use std::collections::BTreeSet;
@@ -18,6 +18,8 @@ pub struct Held {
     pub pending: Vec<Job>,
     pub pending_count: u64,
     pub next_serial: u64,
+    /// This many jobs were ended early.
+    pub ended: u64,
     /// For each row these are the kept due times.
     pub kept: Vec<Kept>,
     /// For each server this is the last due time.
@@ -36,7 +38,8 @@ impl Held {
         self.has_sound_table()
             && self.clock <= LAST_TICK
             && self.has_sound_jobs()
-            && self.next_serial <= self.clock + self.pending_count
+            && self.ended <= MOST_ENDED
+            && self.next_serial <= self.clock + self.pending_count + self.ended
             && self.has_sound_due_times()
     }
 
@@ -143,8 +146,9 @@ mod tests {
             assert!(run.held().is_sound());
             for _ in 0..60 {
                 let before = run.held();
-                let refused = match below(3) {
+                let refused = match below(4) {
                     0 => run.tick().is_err(),
+                    1 => run.end(below(before.next_serial + 2)).is_err(),
                     _ => run.release(below(13), below(6)).is_err(),
                 };
                 assert!(run.held().is_sound());
@@ -246,6 +250,31 @@ mod tests {
         // The clock is at 10, and five jobs are pending.
         assert!(sound_after(|held| held.next_serial = 15));
         assert!(!sound_after(|held| held.next_serial = 16));
+    }
+
+    #[test]
+    fn a_bad_count_of_ended_jobs_and_the_next_serial_with_them() {
+        assert!(sound_after(|held| held.ended = LAST_TICK));
+        assert!(!sound_after(|held| held.ended = LAST_TICK + 1));
+        // No sum is made of a count above its limit.
+        assert!(!sound_after(|held| held.ended = u64::MAX));
+        assert!(!sound_after(|held| (held.ended, held.clock) = (u64::MAX, LAST_TICK)));
+        assert!(!sound_after(|held| (held.ended, held.clock) = (u64::MAX, u64::MAX)));
+        // The clock is at 10, and five jobs are pending.
+        for (ended, most) in [(0, 15), (1, 16), (300, 315), (LAST_TICK, LAST_TICK + 15)] {
+            assert!(sound_after(|held| (held.ended, held.next_serial) = (ended, most)), "{ended}");
+            assert!(!sound_after(|held| (held.ended, held.next_serial) = (ended, most + 1)), "{ended}");
+        }
+        let all = |held: &mut Held| (held.clock, held.ended) = (LAST_TICK, LAST_TICK);
+        let with_next_serial = |next_serial| {
+            sound_after(|held| {
+                all(held);
+                held.next_serial = next_serial;
+            })
+        };
+        assert!(with_next_serial(2 * LAST_TICK + 5));
+        assert!(!with_next_serial(2 * LAST_TICK + 6));
+        assert!(!with_next_serial(u64::MAX));
     }
 
     #[test]

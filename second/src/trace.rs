@@ -6,6 +6,7 @@ use crate::run::{Given, Run};
 pub enum Call {
     Release { row: u64, cost: u64 },
     Tick,
+    End { serial: u64 },
 }
 
 /// An answer has four numbers. The first is one of these kinds, which says what the other three are.
@@ -25,6 +26,8 @@ pub mod kind {
     pub const REFUSED: u64 = 6;
     /// A tick was taken by the timer. The other three are 0, 0 and the late count.
     pub const TAKEN: u64 = 7;
+    /// A job was ended early. The other three are the units that it was given, 0 and 0.
+    pub const ENDED: u64 = 8;
 }
 
 pub type Answer = [u64; 4];
@@ -49,6 +52,7 @@ fn play(run: &mut Run, call: Call) -> Answer {
             Given::Ran { serial, finished: false } => [kind::RAN, serial, 0, ticked.late],
             Given::Ran { serial, finished: true } => [kind::FINISHED, serial, 0, ticked.late],
         }),
+        Call::End { serial } => run.end(serial).map(|units| [kind::ENDED, units, 0, 0]),
     };
     answer.unwrap_or_else(|reason| [kind::REFUSED, reason.number().into(), 0, 0])
 }
@@ -150,6 +154,38 @@ mod tests {
                 [kind::RELEASED, 1, 7, 0],
                 [kind::RELEASED, 2, 5, 0],
                 [kind::FINISHED, 2, 0, 0],
+            ]
+        );
+    }
+
+    #[test]
+    fn ends_are_answered_with_their_units_or_refused() {
+        let release = |row, cost| Call::Release { row, cost };
+        let end = |serial| Call::End { serial };
+        let calls = [end(0), release(0, 2), release(0, 2), release(1, 1), Call::Tick, end(0), end(0), end(1), end(3)];
+        let later = [release(0, 1), release(1, 1), Call::Tick, end(2), Call::Tick, end(3), Call::Tick];
+        // The row is (2, 4, 4, 2), and the server has one unit in four ticks.
+        let one_of_four = [0, 1, 1, 2, 4, 4, 2, 1, 1, 4];
+        assert_eq!(
+            trace(&one_of_four, &[&calls[..], &later].concat()),
+            [
+                [kind::STARTED, 0, 0, 0],
+                [kind::REFUSED, 17, 0, 0],
+                [kind::RELEASED, 0, 4, 0],
+                [kind::RELEASED, 1, 4, 0],
+                [kind::RELEASED, 2, 4, 0],
+                [kind::RAN, 0, 0, 0],
+                [kind::ENDED, 1, 0, 0],
+                [kind::REFUSED, 17, 0, 0],
+                [kind::ENDED, 0, 0, 0],
+                [kind::REFUSED, 17, 0, 0],
+                [kind::RELEASED, 3, 8, 0],
+                [kind::RELEASED, 4, 8, 0],
+                [kind::FINISHED, 2, 0, 0],
+                [kind::REFUSED, 17, 0, 0],
+                [kind::FINISHED, 3, 0, 0],
+                [kind::REFUSED, 17, 0, 0],
+                [kind::FINISHED, 4, 0, 0],
             ]
         );
     }

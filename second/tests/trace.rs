@@ -1,4 +1,4 @@
-//! Compares a run's single calls, release and tick, answer by answer.
+//! Compares a run's single calls, release, tick and end, answer by answer.
 
 mod support;
 
@@ -8,6 +8,7 @@ use second::table::{MOST_ODD_COST, MOST_ROWS, MOST_SERVERS};
 use second::trace::{kind, trace, Answer, Call};
 use std::collections::BTreeSet;
 use support::case::hex;
+use support::ends::{self, Calls};
 use support::random::Random;
 use support::tables::Table;
 use support::trace::{by_library, bytes_of};
@@ -28,20 +29,42 @@ const BAD_SERVERS: u64 = 40;
 /// One trace in so many has a first row whose c is above its d, or about as high.
 const HOPELESS: u64 = 40;
 
-/// Makes releases and ticks by turns of random length, so that places fill up and empty again.
-fn random_calls(table: &Table, random: &mut Random) -> Vec<Call> {
-    let mut calls = vec![];
+/// One trace in so many ends no job.
+const WITHOUT_ENDS: u64 = 3;
+
+/// One trace in so many releases and ends a job so often at one clock that all places would be taken, were they not
+/// freed.
+const ENDED_AT_ONE_CLOCK: u64 = 20;
+
+/// Makes releases, ticks and ends by turns of random length, so that places fill up and empty again.
+fn random_calls(table: &Table, spelled: &[u8], random: &mut Random) -> Vec<Call> {
+    let mut calls = Calls::on(spelled);
+    let turns = if random.one_in(WITHOUT_ENDS) { 2 } else { 5 };
     if random.one_in(FILLED) {
-        let jobs = scripts::near_the_last_place(random);
-        calls.extend((0..jobs).map(|_| good_release(table, random)));
-    }
-    for _ in 0..random.within(1, 12) {
-        let releases = random.one_in(2);
-        for _ in 0..random.pick(&[1, 3, 10, 40]) {
-            calls.push(if releases { random_release(table, random) } else { Call::Tick });
+        for _ in 0..scripts::near_the_last_place(random) {
+            calls.push(good_release(table, random));
         }
     }
-    calls
+    if turns > 2 && random.one_in(ENDED_AT_ONE_CLOCK) {
+        for _ in 0..MOST_PENDING as u64 + random.below(50) {
+            calls.push_release_and_end(good_release(table, random));
+        }
+        calls.push(good_release(table, random));
+    }
+    for _ in 0..random.within(1, 12) {
+        let turn = random.below(turns);
+        for _ in 0..random.pick(&[1, 3, 10, 40]) {
+            match turn {
+                0 => calls.push(random_release(table, random)),
+                1 => calls.push(Call::Tick),
+                2 => calls.push_end(random),
+                3 => calls.push_release_and_end(random_release(table, random)),
+                _ if random.one_in(2) => calls.push_end(random),
+                _ => calls.push(if random.one_in(2) { good_release(table, random) } else { Call::Tick }),
+            }
+        }
+    }
+    calls.made()
 }
 
 fn good_release(table: &Table, random: &mut Random) -> Call {
@@ -72,7 +95,7 @@ fn most_pending(answers: &[Answer]) -> usize {
     for answer in answers {
         match answer[0] {
             kind::RELEASED => pending += 1,
-            kind::FINISHED => pending -= 1,
+            kind::FINISHED | kind::ENDED => pending -= 1,
             _ => {}
         }
         most = most.max(pending);
@@ -87,7 +110,7 @@ fn taken_ticks(answers: &[Answer]) -> BTreeSet<(bool, bool)> {
     for answer in answers {
         match answer[0] {
             kind::RELEASED => pending += 1,
-            kind::FINISHED => pending -= 1,
+            kind::FINISHED | kind::ENDED => pending -= 1,
             kind::TAKEN => drop(met.insert((pending > 0, answer[3] > 0))),
             _ => {}
         }
@@ -113,10 +136,10 @@ fn odd_jobs(table: &Table, calls: &[Call], answers: &[Answer]) -> BTreeSet<OddJo
     let mut refused = vec![BTreeSet::new(); table.servers.len()];
     let mut clock = 0;
     for (call, answer) in calls.iter().zip(&answers[1..]) {
-        let Call::Release { row, cost } = *call else {
+        if *call == Call::Tick {
             clock += 1;
-            continue;
-        };
+        }
+        let Call::Release { row, cost } = *call else { continue };
         if row < table.rows.len() as u64 || row >= table.row_numbers() {
             continue;
         }
@@ -146,6 +169,7 @@ fn single_calls() {
     let mut started_rows = BTreeSet::new();
     let mut started_servers = BTreeSet::new();
     let mut odd = BTreeSet::new();
+    let mut ended = BTreeSet::new();
     let mut pending_jobs = BTreeSet::new();
     let mut taken = BTreeSet::new();
     let mut places_of_3 = BTreeSet::new();
@@ -169,7 +193,7 @@ fn single_calls() {
         if random.one_in(20) {
             table = damage::mutate(&table, &mut random);
         }
-        let calls = random_calls(&lent, &mut random);
+        let calls = random_calls(&lent, &table, &mut random);
         let expected = trace(&table, &calls);
         let (count, found) = by_library(&table, &calls, &mut random);
         assert!(
@@ -183,6 +207,7 @@ fn single_calls() {
             started_servers.insert(tables::server_count(&table).unwrap());
             if table == lent.spell() {
                 odd.extend(odd_jobs(&lent, &calls, &expected));
+                ended.extend(ends::met(&lent, &calls, &expected));
             }
         }
         if expected[0][..2] == [kind::REFUSED, Reason::ValueOutOfRange.number().into()] {
@@ -192,10 +217,10 @@ fn single_calls() {
         pending_jobs.insert(most_pending(&expected));
         met.extend(expected.iter().map(|answer| (answer[0], if answer[0] == kind::REFUSED { answer[1] } else { 0 })));
     }
-    for kind in [kind::STARTED, kind::RELEASED, kind::IDLE, kind::RAN, kind::FINISHED, kind::TAKEN] {
+    for kind in [kind::STARTED, kind::RELEASED, kind::IDLE, kind::RAN, kind::FINISHED, kind::TAKEN, kind::ENDED] {
         assert!(met.contains(&(kind, 0)), "no answer of kind {kind} was met");
     }
-    for number in [1, 2, 3, 4, 5, 6, 7, 8, 16] {
+    for number in [1, 2, 3, 4, 5, 6, 7, 8, 16, 17] {
         assert!(met.contains(&(kind::REFUSED, number)), "no refusal {number}");
     }
     for place in [0, 1, 2] {
@@ -208,6 +233,7 @@ fn single_calls() {
     let refused_between = [7, 8].map(OddJob::RefusedBetween);
     let wanted: BTreeSet<OddJob> = [OddJob::Released, OddJob::HighestCost].into_iter().chain(refused_between).collect();
     assert_eq!(odd, wanted, "odd jobs");
+    assert_eq!(ended, BTreeSet::from(ends::ALL), "jobs ended early");
     for servers in [0, 1, MOST_SERVERS - 1, MOST_SERVERS] {
         assert!(started_servers.contains(&servers), "no run was started on {servers} servers");
     }
@@ -216,5 +242,26 @@ fn single_calls() {
     }
     for pending in [MOST_PENDING - 1, MOST_PENDING] {
         assert!(pending_jobs.contains(&pending), "no trace had {pending} jobs pending at most");
+    }
+}
+
+/// Release and end, 300 times at clock 0, and then a release: all are accepted (11.108). The answers are written out here,
+/// so that both programs are held to them.
+#[test]
+fn release_and_end_300_times_at_clock_0() {
+    let mut random = Random::of(settings::number("JYRMEKKO_SEED", 1), 0);
+    for (rows, servers) in [(vec![[1, 1, 1, 1]], vec![]), (vec![], vec![[1, 1]])] {
+        let table = tables::spell_all([0, 1], &rows, &servers);
+        let mut calls = vec![];
+        let mut wanted: Vec<Answer> = vec![[kind::STARTED, 0, 0, 0]];
+        for serial in 0..300 {
+            calls.extend([Call::Release { row: 0, cost: 1 }, Call::End { serial }]);
+            wanted.extend([[kind::RELEASED, serial, serial + 1, 0], [kind::ENDED, 0, 0, 0]]);
+        }
+        calls.extend([Call::Release { row: 0, cost: 1 }, Call::Tick]);
+        wanted.extend([[kind::RELEASED, 300, 301, 0], [kind::FINISHED, 300, 0, 0]]);
+        assert_eq!(trace(&table, &calls), wanted);
+        let (count, found) = by_library(&table, &calls, &mut random);
+        assert_eq!((count as usize, found), (wanted.len(), bytes_of(wanted.iter().flatten().copied())));
     }
 }

@@ -13,6 +13,7 @@ pub struct Job {
     pub row: usize,
     pub release: u64,
     pub due: u64,
+    pub cost: u64,
     pub left: u64,
 }
 

@@ -55,7 +55,7 @@ pub fn replay(table: &[u8], script: &[u8], log: &mut [u8]) -> Result<(usize, u64
             return Err(Refused(8, start));
         }
         let due = sources[row].due_time(time, cost).ok_or(Refused(9, start))?;
-        run.pending.push(Job { serial, row, release: time, due, left: cost });
+        run.pending.push(Job { serial, row, release: time, due, cost, left: cost });
         serial += 1;
     }
     while !run.pending.is_empty() {

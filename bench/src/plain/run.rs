@@ -6,8 +6,10 @@ use super::table::{read_table, Timer};
 use super::Refused;
 
 const WORD: usize = 8;
-/// The first word of a call that is a release. A call with any other first word is a tick.
+/// The first word of a release.
 const RELEASE: u64 = 1;
+/// The first word of an end. A call with any other first word is a tick.
+const END: u64 = 3;
 
 struct Run {
     timer: Timer,
@@ -15,6 +17,7 @@ struct Run {
     clock: u64,
     pending: Vec<Job>,
     next: u64,
+    ended: u64,
 }
 
 /// Plays calls on a fresh run of a table. It writes the answers of the start and of each call, as many as there is room
@@ -29,11 +32,12 @@ pub fn trace(table: &[u8], calls: &[u8], answers: &mut [u8]) -> u32 {
         Err(Refused(number, place)) => (Timer { s: 0, p: 1 }, Vec::new(), [6, number.into(), place as u64, 0]),
     };
     put(start, answer);
-    let mut run = Run { timer, sources, clock: 0, pending: Vec::new(), next: 0 };
+    let mut run = Run { timer, sources, clock: 0, pending: Vec::new(), next: 0, ended: 0 };
     let mut shown = 1;
     for (call, answer) in calls.chunks_exact(3 * WORD).zip(room) {
         let said = match word(call, 0) {
             RELEASE => run.release(word(call, 1), word(call, 2)),
+            END => run.end(word(call, 1)),
             _ => run.tick(),
         };
         put(answer, said.unwrap_or_else(|number| [6, number, 0, 0]));
@@ -57,7 +61,7 @@ impl Run {
         }
         let due = self.sources[row].due_time(self.clock, cost).ok_or(9u64)?;
         let serial = self.next;
-        self.pending.push(Job { serial, row, release: self.clock, due, left: cost });
+        self.pending.push(Job { serial, row, release: self.clock, due, cost, left: cost });
         self.next += 1;
         Ok([2, serial, due, 0])
     }
@@ -83,6 +87,17 @@ impl Run {
             self.pending.remove(at);
         }
         Ok([if finished { 5 } else { 4 }, serial, 0, self.late()])
+    }
+
+    /// Returns the words of the answer, or the refusal's number.
+    fn end(&mut self, serial: u64) -> Result<[u64; 4], u64> {
+        let at = self.pending.iter().position(|job| job.serial == serial).ok_or(17u64)?;
+        if self.ended == LATEST {
+            return Err(18);
+        }
+        self.ended += 1;
+        let job = self.pending.remove(at);
+        Ok([8, job.cost - job.left, 0, 0])
     }
 
     /// Returns how many pending jobs became late as the clock got to where it is.

@@ -32,7 +32,7 @@ use Rattle.play.proofs.Lengths.{log-is-short}
 use Rattle.host.specs.Answer.{answerLength, answerBytes, wrong-size, said}
 use Rattle.host.specs.Buffers.{Filled}
 use Rattle.host.specs.HostLaws.{AnswerFilled, VerdictOfAnotherSize, ReplayOfAnotherSize, VerdictOfSixteen, ReplayOfSixteen}
-use Rattle.host.specs.HostLaws.{ReplayIs13, ReplayNever11Or25, TenTimesIsRoom, VerdictStatuses, VerdictIs13}
+use Rattle.host.specs.HostLaws.{ReplayIs13, ReplayNeverReturns, TenTimesIsRoom, VerdictStatuses, VerdictIs13}
 
 -- ---- what fills the answer buffer
 
@@ -114,13 +114,15 @@ replay-is-13 table script room size rows records = by-eq size answerLength
     ))
     (λ other. rw (ne-eqb size answerLength other) (λ is. other, λ o. refl))
 
-pub replay-never-11-or-25 : ReplayNever11Or25
-replay-never-11-or-25 table script room size rows records = by-eq size answerLength
+pub replay-never-returns : ReplayNeverReturns
+replay-never-returns table script room size rows records = by-eq size answerLength
     (λ same. rw (eq-eqb size answerLength same) (
       never-said table script room 11 rows records (omega arith) (λ e. omega arith) (λ e. omega arith) (λ e. omega arith) (λ e. omega arith) (λ e. omega arith),
+      never-said table script room 17 rows records (omega arith) (λ e. omega arith) (λ e. omega arith) (λ e. omega arith) (λ e. omega arith) (λ e. omega arith),
+      never-said table script room 18 rows records (omega arith) (λ e. omega arith) (λ e. omega arith) (λ e. omega arith) (λ e. omega arith) (λ e. omega arith),
       never-said table script room 25 rows records (omega arith) (λ e. omega arith) (λ e. omega arith) (λ e. omega arith) (λ e. omega arith) (λ e. omega arith),
     ))
-    (λ other. rw (ne-eqb size answerLength other) (λ e. omega arith, λ e. omega arith))
+    (λ other. rw (ne-eqb size answerLength other) (λ e. omega arith, λ e. omega arith, λ e. omega arith, λ e. omega arith))
 
 -- 12 means that the log is longer than its buffer, and no log is longer than ten times its script.
 pub ten-times-is-room : TenTimesIsRoom

@@ -43,10 +43,11 @@ ReplayOfSixteen = (table script log answer : List ℕ) (status : ℕ) (after lef
 abbrev pub ReplayIs13 : Type 0
 ReplayIs13 = (table script : List ℕ) (room size : ℕ) → Bytes table → Bytes script → (replayStatus table script room size ≡ 13) ↔ (size ≢ 16)
 
--- The replay never returns 11 or 25. (10.6)
-abbrev pub ReplayNever11Or25 : Type 0
-ReplayNever11Or25 = (table script : List ℕ) (room size : ℕ) → Bytes table → Bytes script
-    → (replayStatus table script room size ≢ 11) × (replayStatus table script room size ≢ 25)
+-- The replay never returns 11, 17, 18 or 25: a fresh run stays sound, scripts end no job, and no number of a log is too large. (10.6)
+abbrev pub ReplayNeverReturns : Type 0
+ReplayNeverReturns = (table script : List ℕ) (room size : ℕ) → Bytes table → Bytes script
+    → (replayStatus table script room size ≢ 11) × (replayStatus table script room size ≢ 17)
+    × (replayStatus table script room size ≢ 18) × (replayStatus table script room size ≢ 25)
 
 -- The replay never returns 12 where the log buffer is at least ten times as long as the script. (8.11)
 abbrev pub TenTimesIsRoom : Type 0

@@ -12,16 +12,19 @@ use lib.Dec.{ltb}
 use borrow.Author.Tests.{lt-ltb, le-ltb}
 use lib.ListN.{length, set, getD, length-append, length-take, length-set, length-replicate, List·getD-append}
 use lib.Seq.{append-snoc, split-at, getD-append-seam, getD-take, take-suc-set}
+use Rattle.kinds.proofs.Apart.{impossible}
 use Rattle.jobs.specs.declared.Job.{Job}
 use Rattle.jobs.specs.declared.Pending.{Pending}
+use Rattle.jobs.specs.declared.Choice.the-variants as choice
 use Rattle.jobs.specs.Places.{maxPlaces, noJob, jobsOf, used, without, put, takenOut}
 use Rattle.jobs.specs.Choice.{goesBefore, firstFrom}
 use Rattle.jobs.specs.Units.{lastUnit, worked, after}
 use Rattle.jobs.specs.PlaceLaws.{AfterAUnit, AfterKeepsForm, ChoiceIsFirst, EmptyIsWellFormed, FirstIsThere, JobAmongTheRest, ManyPlaces, NothingPending, PlaceHoldsJob, PutAddsOne, PutKeepsForm, TakenOutIsWithout, TakenOutKeepsForm, WithoutIsOneLess}
-use Rattle.jobs.specs.SerialLaws.{AfterKeepsSerials, DistinctMeans, PutKeepsSerials, RisingIsDistinct, TakenOutKeepsSerials}
+use Rattle.jobs.specs.SerialLaws.{AfterKeepsSerials, DistinctMeans, FoundMeans, NobodyFoundMeans, PutKeepsSerials, RisingIsDistinct, TakenOutKeepsSerials}
 use Rattle.jobs.specs.JobChanges.{NotAfter, IsFirst, WellFormed, KeepsSerials}
 use Rattle.jobs.proofs.Places.{length-without, nothing-taken-out, jobs-taken-out, count-taken-out, places-taken-out, jobs-set}
 use Rattle.jobs.proofs.Serials.{AnyTwo, Differ, distinct-to, distinct-from, rising-to, rising-from, rising-distinct, one-more, two-without, two-more, two-set}
+use Rattle.jobs.proofs.Serials.{by-place, one-first}
 
 -- ---- the choice
 
@@ -180,13 +183,25 @@ after-keeps-form p at w =
     either WellFormed (lastUnit (getD (p .places) at noJob)) _ _ (taken-out-keeps-form p at w)
     (record { all-places = simp length-set (w .all-places); in-places = omega (arith, length-take (p .count) (p .places), w .in-places) })
 
--- ---- what each change does to the serials
+-- ---- what the test of serials and the search for one mean
 
 pub distinct-means : DistinctMeans
 distinct-means js = (distinct-to js, distinct-from js)
 
 pub rising-is-distinct : RisingIsDistinct
 rising-is-distinct = rising-distinct
+
+pub found-means : FoundMeans
+found-means s at js = (
+  λ e. by-place s js (λ p w f. let same : p ≡ at = cc in rw same at w) (λ w f. impossible cc),
+  λ v. by-place s js (λ p w f. f ∙ ap choice.Place (one-first s js p at w v)) (λ w f. absurd (w at (v .0) (v .1))),
+)
+
+pub nobody-found-means : NobodyFoundMeans
+nobody-found-means s js =
+    (λ e. by-place s js (λ p w f. impossible cc) (λ w f. w), λ v. by-place s js (λ p w f. absurd (v p (w .0) (w .1))) (λ w f. f))
+
+-- ---- what each change does to the serials
 
 pub put-keeps-serials : PutKeepsSerials
 unfolding put

@@ -1,16 +1,20 @@
--- The tests of serials: one turn of the loops that make them, what they mean for any two jobs, and which changes of the list keep that.
+-- The tests of serials and the search for one: one turn of the loops that make them, what they mean for any two jobs, which changes of the list keep that, and
+-- what the search finds.
 use Prim.Native.Nat.{ℕ, zero, suc, _+_, _-_, _≤_, _<_, suc-le-suc}
-use mathlib.Core.Path.{_≡_, refl, sym}
+use mathlib.Core.Path.{_≡_, refl, sym, ap, _∙_}
 use mathlib.Core.List.{List, [], _∷_, _++_}
 use mathlib.Core.Bool.{Bool, true, false, not, and-eq-true-iff, Bool·not-not}
 use native.Mathlib.Nat.{not-suc-le-zero, le-of-suc-le-suc}
+use native.Mathlib.Numerals.{add-one}
+use native.Mathlib.Decide.{decLt, ℕ-discrete}
 use native.Mathlib.Omega.{arith}
 use lib.Dec.{ltb, eqb}
 use borrow.Author.Tests.{ltb-true, eqb-false, not-true, lt-ltb, le-ltb, eq-eqb, ne-eqb}
 use lib.ListN.{length, take, drop, set, getD, length-take, length-set, drop-of-length-le}
 use Rattle.jobs.specs.declared.Job.{Job}
+use Rattle.jobs.specs.declared.Choice.the-variants as choice
 use Rattle.jobs.specs.Places.{noJob, without}
-use Rattle.jobs.specs.Serials.{hasNot, distinctSerials, risingAbove, risingSerials}
+use Rattle.jobs.specs.Serials.{hasNot, distinctSerials, risingAbove, risingSerials, placeFrom, placeOf}
 use Rattle.jobs.specs.JobChanges.{serialAt}
 use Rattle.jobs.proofs.Places.{rest-cons}
 
@@ -56,6 +60,14 @@ module _ (n : ℕ) (l : List Job) (i : ℕ) where
       -- If the serial s does not stand at the place, the jobs after it decide.
       pub not-met : (serialAt l i ≡ s → ⊥) → hasNot s (drop i (take n l)) ≡ hasNot s (drop (i + 1) (take n l))
       not-met ne = rw (rest, ne-eqb (serialAt l i) s)
+
+      -- If the serial s stands at the place, the search ends there.
+      pub found-here : serialAt l i ≡ s → placeFrom i s (drop i (take n l)) ≡ choice.Place i
+      found-here e = rw (rest, eq-eqb (serialAt l i) s)
+
+      -- If the serial s does not stand at the place, the search goes on after it.
+      pub found-later : (serialAt l i ≡ s → ⊥) → placeFrom i s (drop i (take n l)) ≡ placeFrom (i + 1) s (drop (i + 1) (take n l))
+      found-later ne = rw (rest, ne-eqb (serialAt l i) s, add-one)
 
     -- `again` says whether the serial at the place stands at a later one. If it does, the serials are not distinct, and if not, the jobs after it decide.
     module _ (again : Bool) (e : again ≡ not (hasNot (serialAt l i) (drop (i + 1) (take n l)))) where
@@ -203,3 +215,44 @@ module _ (R : ℕ → ℕ → Type 0) where
 
   pub two-set : (js : List Job) (at : ℕ) (j : Job) → j .serial .0 ≡ serialAt js at → AnyTwo R js → AnyTwo R (set js at j)
   two-set js at j e t i k h l = rw (same-serials js at j e i, same-serials js at j e k) (t i k h (rw length-set at l))
+
+-- ---- what the search for a serial finds
+
+-- The job at the place `at` has the serial s, and no job in an earlier place does.
+abbrev pub FirstWith : (s : ℕ) → List Job → (at : ℕ) → Type 0
+FirstWith s js at = (at < length js) × (serialAt js at ≡ s) × ((i : ℕ) → i < at → serialAt js i ≡ s → ⊥)
+
+-- With one more job in front, which has another serial, the job found stands one place further on.
+first-with-cons : (s : ℕ) (j : Job) (js : List Job) (at : ℕ) → (j .serial .0 ≡ s → ⊥) → FirstWith s js at → FirstWith s (j ∷ js) (suc at)
+first-with-cons s j js at ne f = (suc-le-suc (f .0), f .1, earlier)
+  where
+    earlier : (i : ℕ) → i < suc at → serialAt (j ∷ js) i ≡ s → ⊥
+    earlier zero h = ne
+    earlier (suc i) h = f .2 i (le-of-suc-le-suc h)
+
+-- The search finds the first job that has the serial s, or no job has it and the search finds nobody. What follows in both cases holds.
+by-search : {G : Type 0} (k s : ℕ) (js : List Job) → ((at : ℕ) → FirstWith s js at → placeFrom k s js ≡ choice.Place (k + at) → G)
+    → (Each (λ t. t ≡ s → ⊥) js → placeFrom k s js ≡ choice.Nobody → G) → G
+by-search k s [] f g = g (each-of-none (λ t. t ≡ s → ⊥)) refl
+by-search k s (j ∷ js) f g = elim (ℕ-discrete (j .serial .0) s) [
+  | yes e ↦ f 0 (omega arith, e, λ i h. absurd (not-suc-le-zero h)) (rw (eq-eqb (j .serial .0) s e) (ap choice.Place (omega arith)))
+  | no ne ↦
+      let later = ne-eqb (j .serial .0) s ne in
+      by-search (suc k) s js (λ at w e. f (suc at) (first-with-cons s j js at ne w) (rw later (e ∙ ap choice.Place (omega arith))))
+      (λ w e. g (each-of-cons (λ t. t ≡ s → ⊥) j js ne w) (rw later e))
+]
+
+-- The same cases, for the search that begins at the first place.
+pub by-place : {G : Type 0} (s : ℕ) (js : List Job) → ((at : ℕ) → FirstWith s js at → placeOf s js ≡ choice.Place at → G)
+    → (Each (λ t. t ≡ s → ⊥) js → placeOf s js ≡ choice.Nobody → G) → G
+by-place s js f g = by-search 0 s js (λ at w e. f at w (e ∙ ap choice.Place (omega arith))) g
+
+-- There is only one first job that has the serial s.
+pub one-first : (s : ℕ) (js : List Job) (a b : ℕ) → FirstWith s js a → FirstWith s js b → a ≡ b
+one-first s js a b v w = elim (ℕ-discrete a b) [
+  | yes e ↦ e
+  | no ne ↦ elim (decLt a b) [
+    | yes h ↦ absurd (w .2 a h (v .1))
+    | no h ↦ absurd (v .2 b (omega arith) (w .1))
+  ]
+]

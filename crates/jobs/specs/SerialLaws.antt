@@ -7,9 +7,10 @@ use mathlib.Core.List.{List}
 use lib.ListN.{length, getD}
 use Rattle.jobs.specs.declared.Job.{Job}
 use Rattle.jobs.specs.declared.Pending.{Pending}
+use Rattle.jobs.specs.declared.Choice.the-variants as choice
 use Rattle.jobs.specs.Places.{noJob, jobsOf, used, put, takenOut}
 use Rattle.jobs.specs.Units.{after}
-use Rattle.jobs.specs.Serials.{distinctSerials, risingSerials}
+use Rattle.jobs.specs.Serials.{distinctSerials, risingSerials, placeOf}
 use Rattle.jobs.specs.JobChanges.{WellFormed, serialAt, KeepsSerials}
 
 -- ---- what is proved (proofs/Changes.antt; about late jobs in proofs/Late.antt; about what the calls say in proofs/Calls.antt)
@@ -18,6 +19,15 @@ use Rattle.jobs.specs.JobChanges.{WellFormed, serialAt, KeepsSerials}
 abbrev pub DistinctMeans : Type 0
 DistinctMeans = (js : List Job)
     → (distinctSerials js ≡ true) ↔ ((i k : ℕ) → i < k → k < length js → getD js i noJob .serial .0 ≡ getD js k noJob .serial .0 → ⊥)
+
+-- A place is found for a serial exactly where the job at that place has it and no job in an earlier place does. (6.27)
+abbrev pub FoundMeans : Type 0
+FoundMeans = (s at : ℕ) (js : List Job) → (placeOf s js ≡ choice.Place at)
+    ↔ ((at < length js) × (serialAt js at ≡ s) × ((i : ℕ) → i < at → serialAt js i ≡ s → ⊥))
+
+-- Nobody is found for a serial exactly where no job has it. (6.27)
+abbrev pub NobodyFoundMeans : Type 0
+NobodyFoundMeans = (s : ℕ) (js : List Job) → (placeOf s js ≡ choice.Nobody) ↔ ((i : ℕ) → i < length js → serialAt js i ≡ s → ⊥)
 
 -- ---- what each change does to the serials
 

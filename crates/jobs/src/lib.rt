@@ -22,7 +22,7 @@ ghost use Rattle.jobs.specs.Choice.{choiceOf};
 ghost use Rattle.jobs.specs.Units.{after, given};
 ghost use Rattle.jobs.specs.Late.{lateCount};
 ghost use Rattle.jobs.specs.OneLook.{lookOf};
-ghost use Rattle.jobs.specs.Serials.{distinctSerials};
+ghost use Rattle.jobs.specs.Serials.{placeOf, distinctSerials};
 ghost use Rattle.jobs.specs.Turns.{turned};
 
 // A pending job holds what its release settled, and its units left. (1.7, 6.1)
@@ -61,7 +61,7 @@ pub enum Turn {
     Ran(Ran),
 }
 
-// The choice is the place of the job that goes first, or nobody if no job is pending. (6.11)
+// The place of a pending job, or nobody: of the job that goes first, where one is pending, or of the job with a serial, where one has it. (6.11, 6.27)
 pub enum Choice {
     Place(usize),
     Nobody,
@@ -291,6 +291,22 @@ impl Pending {
             pending,
             answer: GiveAnswer::Ran(ran),
         }
+    }
+
+    // The place of the pending job that has a serial, or nobody. (6.27)
+    pub fn place_of(self, serial: Serial) -> Choice
+        ensures { λ r. ⌜ r ≡ placeOf (serial .0) (jobsOf self) ⌝ }
+    {
+        let count = in_use(self.count);
+        let mut i: usize = 0;
+        while i < count {
+            let job = self.places[i];
+            if job.serial.0 == serial.0 {
+                return Choice::Place(i);
+            }
+            i += 1;
+        }
+        Choice::Nobody
     }
 
     // `distinct` tests that no two jobs have the same serial. In a run that came from a fresh one the serials rise from place to place, and comparing

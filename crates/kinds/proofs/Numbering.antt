@@ -12,9 +12,9 @@ use Rattle.kinds.specs.Numbering.{refusalNumber, allRefusals, NumbersDif
 use Rattle.kinds.specs.Numbering.{Said, Says, RefusalsApart, PlainRefusalsApart}
 use Rattle.kinds.specs.Numbering as says
 
--- The refusals numbered 1 to 16, each at the place of its number. (No refusal has the number 0 or 15, so these two places are never looked at.)
+-- The refusals numbered 1 to 18, each at the place of its number. (No refusal has the number 0 or 15, so these two places are never looked at.)
 inOrder : List Refusal
-inOrder = refusal.Misspelled ∷ (take 14 allRefusals ++ (refusal.Misspelled ∷ refusal.HopelessRow ∷ []))
+inOrder = refusal.Misspelled ∷ (take 14 allRefusals ++ (refusal.Misspelled ∷ refusal.HopelessRow ∷ refusal.NotPending ∷ refusal.TooManyEnded ∷ []))
 
 -- The refusal with a given number.
 numbered : ℕ → Refusal
@@ -39,6 +39,8 @@ back refusal.NoRoom = refl
 back refusal.AnswerNot16Bytes = refl
 back refusal.ScriptMisspelled = refl
 back refusal.HopelessRow = refl
+back refusal.NotPending = refl
+back refusal.TooManyEnded = refl
 back refusal.NumberTooBig = refl
 
 pub numbers-differ : NumbersDiffer

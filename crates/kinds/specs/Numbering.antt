@@ -28,6 +28,8 @@ refusalNumber refusal.NoRoom = 12
 refusalNumber refusal.AnswerNot16Bytes = 13
 refusalNumber refusal.ScriptMisspelled = 14
 refusalNumber refusal.HopelessRow = 16
+refusalNumber refusal.NotPending = 17
+refusalNumber refusal.TooManyEnded = 18
 refusalNumber refusal.NumberTooBig = 25
 
 -- What an answer with a number says: its number and two more numbers, which are 0 where there is nothing to say. (9.5)
@@ -118,12 +120,14 @@ allRefusals =
     ∷ refusal.AnswerNot16Bytes
     ∷ refusal.ScriptMisspelled
     ∷ refusal.HopelessRow
+    ∷ refusal.NotPending
+    ∷ refusal.TooManyEnded
     ∷ refusal.NumberTooBig
     ∷ []
 
--- The numbers of the refusals, in the order of the rules' table, are 1 to 14, then 16 and then 25. (10.3)
+-- The numbers of the refusals, in the order of the rules' table, are 1 to 14, then 16 to 18 and then 25. (10.3)
 abbrev pub NumbersInOrder : Type 0
-NumbersInOrder = map refusalNumber allRefusals ≡ 1 ∷ 2 ∷ 3 ∷ 4 ∷ 5 ∷ 6 ∷ 7 ∷ 8 ∷ 9 ∷ 10 ∷ 11 ∷ 12 ∷ 13 ∷ 14 ∷ 16 ∷ 25 ∷ []
+NumbersInOrder = map refusalNumber allRefusals ≡ 1 ∷ 2 ∷ 3 ∷ 4 ∷ 5 ∷ 6 ∷ 7 ∷ 8 ∷ 9 ∷ 10 ∷ 11 ∷ 12 ∷ 13 ∷ 14 ∷ 16 ∷ 17 ∷ 18 ∷ 25 ∷ []
 
 -- A refusal at a place says its number, the place and 0. (9.5)
 abbrev pub RefusalSays : Type 0

@@ -52,6 +52,8 @@ pub enum Refusal {
     AnswerNot16Bytes,
     ScriptMisspelled,
     HopelessRow,
+    NotPending,
+    TooManyEnded,
     NumberTooBig,
 }
 
@@ -82,6 +84,8 @@ impl Refusal {
             Refusal::AnswerNot16Bytes => 13,
             Refusal::ScriptMisspelled => 14,
             Refusal::HopelessRow => 16,
+            Refusal::NotPending => 17,
+            Refusal::TooManyEnded => 18,
             Refusal::NumberTooBig => 25,
         }
     }

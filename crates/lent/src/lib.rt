@@ -1,11 +1,16 @@
-// Release and tick of a run that is lent by exclusive reference and changed in place. Answers and runs are those of the calls by value. (docs/RULES.md, 6.19.)
+// Release, tick and end of a run that is lent by exclusive reference and changed in place. Answers and runs are those of the calls by value. (docs/RULES.md,
+// 6.19.)
 use kinds::RowNumber;
+use kinds::Serial;
+use run::EndStep;
+use run::Ended;
 use run::ReleaseStep;
 use run::Released;
 use run::Run;
 use run::TickStep;
 use run::Ticked;
 ghost use mathlib.Core.Path.{_≡_};
+ghost use Rattle.run.specs.Ending.{ended};
 ghost use Rattle.run.specs.Release.{released};
 ghost use Rattle.run.specs.Ticking.{ticked};
 ghost use Rattle.lent.specs.Lent.{tickAnswerOf};
@@ -37,6 +42,16 @@ pub fn tick(run: &mut Run) -> TickAnswer
     }
 }
 
+// Ends the pending job that has a serial. The answer, and the run behind the reference afterwards, are those of the end by value, refusals included. (6.18,
+// 6.19, 6.27)
+pub fn end(run: &mut Run, serial: Serial) -> Ended
+    ensures { λ r. ⌜ (r ≡ ended (now (run .entry)) (serial .0) .answer) × (now (run .exit) ≡ ended (now (run .entry)) (serial .0) .run) ⌝ }
+{
+    let step = (*run).end(serial);
+    *run = step.run;
+    step.answer
+}
+
 // A release by value that goes through the release of a lent run: the run is lent, and handed back beside the answer. Its parameters are plain values, so that
 // code which calls it needs no proof by hand. (6.19)
 pub fn release_lent(run: Run, row: RowNumber, cost: u64) -> ReleaseStep
@@ -59,4 +74,14 @@ pub fn tick_lent(run: Run) -> TickStep
         answer: said.answer,
         late: said.late,
     }
+}
+
+// An end by value that goes through the end of a lent run: the run is lent, and handed back beside the answer. Its parameters are plain values, so that code
+// which calls it needs no proof by hand. (6.19)
+pub fn end_lent(run: Run, serial: Serial) -> EndStep
+    ensures { λ r. ⌜ r ≡ ended run (serial .0) ⌝ }
+{
+    let mut lent = run;
+    let answer = end(&mut lent, serial);
+    EndStep { run: lent, answer }
 }

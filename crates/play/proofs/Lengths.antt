@@ -1,6 +1,6 @@
 -- A log's numbers are small, and the log is at most ten times as long as its script. (docs/RULES.md, sections 8.8, 8.11 and 10.6.)
 use Prim.Native.Nat.{ℕ, _*_, _≤_}
-use mathlib.Core.Path.{_≡_, refl, ap}
+use mathlib.Core.Path.{_≡_, refl, ap, _∙_}
 use mathlib.Core.List.{List, [], _∷_, flatten}
 use native.Mathlib.Omega.{arith}
 use lib.ListN.{length, length-append}
@@ -9,6 +9,9 @@ use Rattle.numbers.proofs.Spellings.{spelling-length}
 use Rattle.table.proofs.Each.{Each, stands-in, each-none}
 use Rattle.jobs.specs.declared.Job.{Job}
 use Rattle.jobs.specs.Turns.{noFinish}
+use Rattle.run.specs.declared.Run.{Run}
+use Rattle.run.specs.Release.{released}
+use Rattle.run.proofs.Release.{each-release}
 use Rattle.log.specs.Log.{spelledFinish}
 use Rattle.log.specs.SpelledLogs.{spelledLog}
 use Rattle.log.proofs.Logs.{record-length}
@@ -18,27 +21,34 @@ use Rattle.script.proofs.Scripts.{script-is-read}
 use Rattle.play.specs.Play.{Progress}
 use Rattle.play.specs.LogRecords.{AskedFor, SmallNumbers}
 use Rattle.play.specs.PlayLaws.{LogHoldsSmallNumbers, LogIsShort}
-use Rattle.play.proofs.SingleTicks.{finished-small, each-behind}
+use Rattle.play.proofs.SingleTicks.{finished-small, tick-ended, each-behind}
 use Rattle.play.proofs.KeptThroughout.{Keeps, kept-through}
 use Rattle.play.proofs.WholePlays.{every-record-is-accepted, one-record-each}
 
 -- ---- its numbers
 
--- The numbers of all records so far are small.
-abbrev SmallSoFar : Progress → Type 0
-SmallSoFar p = Each SmallNumbers (p .so-far .finishes)
+-- A release ends no job, whether it is accepted or refused.
+release-ends-none : (run : Run) (row cost : ℕ) → released run row cost .run .ended ≡ run .ended
+release-ends-none run row cost = each-release run row cost (λ step. step .run .ended ≡ run .ended) (λ r. refl) (λ t passed given. refl)
 
--- A tick adds only a record with small numbers, and a release adds no record.
+-- The numbers of all records so far are small, and no job was ended early.
+abbrev SmallSoFar : Progress → Type 0
+SmallSoFar p = Each SmallNumbers (p .so-far .finishes) × (p .so-far .run .ended ≡ 0)
+
+-- A tick adds only a record with small numbers, a release adds no record, and neither ends a job.
 small-so-far : Keeps SmallSoFar
 small-so-far = record {
-  tick = λ p good in-time small. each-behind (p .so-far .finishes) _ small (finished-small (p .so-far .run) good in-time);
-  release = λ p row cost a good e small. small;
+  tick = λ p good in-time small. (
+    each-behind (p .so-far .finishes) _ (small .0) (finished-small (p .so-far .run) good in-time (small .1)),
+    tick-ended (p .so-far .run) good in-time ∙ small .1,
+  );
+  release = λ p row cost a good e small. (small .0, release-ends-none (p .so-far .run) row cost ∙ small .1);
 }
 
 pub log-holds-small-numbers : LogHoldsSmallNumbers
 log-holds-small-numbers t s p table script e i h =
-    let end = kept-through SmallSoFar small-so-far t s p table (each-none SmallNumbers) e in
-    end .kept _ (stands-in (p .so-far .finishes) i noFinish h)
+    let end = kept-through SmallSoFar small-so-far t s p table (each-none SmallNumbers, refl) e in
+    end .kept .0 _ (stands-in (p .so-far .finishes) i noFinish h)
 
 -- ---- its length
 

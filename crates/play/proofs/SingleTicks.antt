@@ -37,16 +37,6 @@ length-if : {A : Type 0} (test : Bool) (x : A) → length (cond test (x ∷ []) 
 length-if true x = refl
 length-if false x = refl
 
--- A record with small numbers has a spelling.
-small-in-range : (f : Finish) → SmallNumbers f → allInRange (valuesOf f) ≡ true
-small-in-range f small = rw (
-  le-leb (f .serial .0) maxNumber (omega arith),
-  le-leb (f .row .0) maxNumber (omega arith),
-  le-leb (f .release .0) maxNumber (omega arith),
-  le-leb (f .due .0) maxNumber (omega arith),
-  le-leb (f .finish .0) maxNumber (omega arith),
-)
-
 module _ (run : Run) (good : Good run) where
   -- `js` are the pending jobs, and `first` is the place of the job that goes first.
   abbrev js : List Job
@@ -86,9 +76,9 @@ module _ (run : Run) (good : Good run) where
         (omega (arith, counted run good, unit-takes (first-there some))))
         (λ none. rw (free, le-ltb 0 (run .pending .count) none, tick-idle run (good .0) in-time free (omega arith)) (omega arith)))
 
-    -- The numbers of a job that finishes are small.
-    finish-small : 1 ≤ run .pending .count → SmallNumbers (finishAt (run .clock .0 + 1) (firstJob (run .pending)))
-    finish-small some =
+    -- Where no job was ended early, the numbers of a job that finishes are small: its serial is below the sum of the clock and the number of pending jobs.
+    finish-small : run .ended ≡ 0 → 1 ≤ run .pending .count → SmallNumbers (finishAt (run .clock .0 + 1) (firstJob (run .pending)))
+    finish-small none some =
         let s = first-sound some in
         let known = facts run good in
         record {
@@ -99,18 +89,35 @@ module _ (run : Run) (good : Good run) where
           finish = omega arith;
         }
 
-    pub finished-small : Each SmallNumbers (finishedBy run)
-    finished-small f = by-test (isTaken run)
+    -- The numbers of a job that finishes have spellings, whether jobs were ended early or not.
+    finish-in-range : 1 ≤ run .pending .count → allInRange (valuesOf (finishAt (run .clock .0 + 1) (firstJob (run .pending)))) ≡ true
+    finish-in-range some =
+        let s = first-sound some in
+        let known = facts run good in
+        let j = firstJob (run .pending) in
+        rw (
+          le-leb (j .serial .0) maxNumber (omega (arith, known .serials, known .few-pending, known .few-ended)),
+          le-leb (j .row .0) maxNumber (omega (arith, known .few-rows, known .few-servers)),
+          le-leb (j .release .0) maxNumber (omega arith),
+          le-leb (j .due .0) maxNumber (omega (arith, s .due-in-time)),
+          le-leb (run .clock .0 + 1) maxNumber (omega arith),
+        )
+
+    -- What holds for the record of the job that goes first holds for every job that a tick finishes.
+    finished-each : (P : Finish → Type 0) → (1 ≤ run .pending .count → P (finishAt (run .clock .0 + 1) (firstJob (run .pending)))) → Each P (finishedBy run)
+    finished-each P its f = by-test (isTaken run)
         (λ taken. rw taken (λ m. absurd (List·Memᴰ·not-nil m)))
         (λ free. rw free (by-lt 0 (run .pending .count)
         (λ some. rw (lt-ltb 0 (run .pending .count) some) (by-test (lastUnit (firstJob (run .pending)))
-        (λ last. rw last (λ m. rw (List·Memᴰ·eq-of-singleton m) (finish-small some)))
+        (λ last. rw last (λ m. rw (List·Memᴰ·eq-of-singleton m) (its some)))
         (λ more. rw more (λ m. absurd (List·Memᴰ·not-nil m)))))
         (λ none. rw (le-ltb 0 (run .pending .count) none) (λ m. absurd (List·Memᴰ·not-nil m)))))
 
-    -- The numbers of a job that finishes have spellings.
+    pub finished-small : run .ended ≡ 0 → Each SmallNumbers (finishedBy run)
+    finished-small none = finished-each SmallNumbers (finish-small none)
+
     pub finished-in-range : EachInRange (finishedBy run)
-    finished-in-range f m = small-in-range f (finished-small f m)
+    finished-in-range = finished-each (λ f. allInRange (valuesOf f) ≡ true) finish-in-range
 
     -- A tick takes the clock up by one, and apart from that changes only the pending jobs.
     tick-touches : ticked run .run ≡ runWith run (run .clock .0 + 1) (ticked run .run .pending)
@@ -134,6 +141,9 @@ module _ (run : Run) (good : Good run) where
 
     tick-last : ticked run .run .last ≡ run .last
     tick-last = ap (λ (r : Run). r .last) tick-touches
+
+    pub tick-ended : ticked run .run .ended ≡ run .ended
+    tick-ended = ap (λ (r : Run). r .ended) tick-touches
 
 -- ---- many ticks
 

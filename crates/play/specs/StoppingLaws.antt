@@ -55,6 +55,6 @@ abbrev pub WholeMeans : Type 0
 WholeMeans = (t s : List ℕ) (q : Progress) → Bytes s
     → (played t s ≡ whole q) ↔ ((p : Progress) × ComesTo t s (length s) p × (leftAtLast p ≡ 0) × (q ≡ atLast p))
 
--- A play is stopped only by 1 to 10, by 14 and by 16. So 11, 13 and 25 never stop it, and neither does 12, which comes last of all. (8.12, 10.4, 10.6)
+-- A play is stopped only by 1 to 10, by 14 and by 16. So 11, 13, 17, 18 and 25 never stop it, and neither does 12, which comes last of all. (8.12, 10.4, 10.6)
 abbrev pub StoppedBy : Type 0
 StoppedBy = (t s : List ℕ) (r : RefusedAt) → Bytes t → Bytes s → played t s ≡ stopped r → CanStop (r .refusal)

@@ -6,3 +6,4 @@ use Rattle.probe.specs.LentRuns.{LentPlaysTheCall}
 pub lent-plays-the-call : LentPlaysTheCall
 lent-plays-the-call run (Call.release row cost) = refl
 lent-plays-the-call run Call.tick = refl
+lent-plays-the-call run (Call.end serial) = refl

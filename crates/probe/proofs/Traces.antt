@@ -49,6 +49,8 @@ event-is-four (Event.tick says.taken late) = refl
 event-is-four (Event.tick (ran serial false) late) = refl
 event-is-four (Event.tick (ran serial true) late) = refl
 event-is-four (Event.tick (says.TickSays.refused n place) late) = refl
+event-is-four (Event.end serial (says.EndingSays.ended-with units)) = refl
+event-is-four (Event.end serial (says.EndingSays.refused n place)) = refl
 
 -- The first four words of an answer are all of it, and they take the bytes of an answer.
 four-are-all : (ws : List ℕ) → length ws ≡ mostWords → (take mostWords ws ≡ ws) × (length (wordsBytes ws) ≡ traceAnswerLength)

@@ -1,4 +1,5 @@
--- What the probe's calls on a lent run answer, and the run afterwards. Runs and answers are those of start, release and tick by value. (docs/RULES.md, section 6.)
+-- What the probe's calls on a lent run answer, and the run afterwards. Runs and answers are those of start, release, tick and end by value. (docs/RULES.md,
+-- section 6.)
 use Prim.Native.Nat.{ℕ}
 use mathlib.Core.Path.{_≡_}
 use mathlib.Core.List.{List}
@@ -6,10 +7,11 @@ use Rattle.run.specs.declared.Run.{Run}
 use Rattle.run.specs.Runs.{started}
 use Rattle.run.specs.Release.{released}
 use Rattle.run.specs.Ticking.{ticked}
-use Rattle.run.specs.Answers.{startSays, releaseSays, tickSays}
+use Rattle.run.specs.Ending.{ended}
+use Rattle.run.specs.Answers.{startSays, releaseSays, tickSays, endSays}
 use Rattle.promise.specs.Traces.{Call, runAfter, eventOf}
 use Rattle.probe.specs.declared.LentStep.{LentStep}
-use Rattle.probe.specs.Traced.{startWords, releaseWords, tickWords, eventWords}
+use Rattle.probe.specs.Traced.{startWords, releaseWords, tickWords, endWords, eventWords}
 
 -- The run after a call, and the call's answer in four words.
 abbrev pub inWords : Run → (words : List ℕ) → LentStep
@@ -27,12 +29,17 @@ lentReleased run row cost = let step = released run row cost in inWords (step .r
 abbrev pub lentTicked : Run → LentStep
 lentTicked run = let step = ticked run in inWords (step .run) (tickWords (tickSays (step .answer)) (step .late))
 
+-- An end in a run: the next run and the answer are those of the end by value, refusals included. (6.19, 6.27)
+abbrev pub lentEnded : Run → (serial : ℕ) → LentStep
+lentEnded run serial = let step = ended run serial in inWords (step .run) (endWords (endSays (step .answer)))
+
 -- ---- what is proved (proofs/LentRuns.antt)
 
--- A call of a trace on a lent run: a release or a tick. (6.19)
+-- A call of a trace on a lent run: a release, a tick or an end. (6.19)
 abbrev pub lentPlayed : Run → Call → LentStep
 lentPlayed run (Call.release row cost) = lentReleased run row cost
 lentPlayed run Call.tick = lentTicked run
+lentPlayed run (Call.end serial) = lentEnded run serial
 
 -- The run that is left and the words that are answered are those of the same call in a trace. (6.19)
 abbrev pub LentPlaysTheCall : Type 0

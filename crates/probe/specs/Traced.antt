@@ -12,7 +12,7 @@ use Rattle.numbers.specs.declared.NumberRead.the-variants as number
 use Rattle.run.specs.declared.Run.{Run}
 use Rattle.run.specs.Runs.{started}
 use Rattle.run.specs.Answers.{startSays}
-use Rattle.run.specs.Answers.{ReleaseSays, accepted, TickSays, idle, ran, taken}
+use Rattle.run.specs.Answers.{ReleaseSays, accepted, TickSays, idle, ran, taken, EndingSays, ended-with}
 use Rattle.run.specs.Answers as says
 use Rattle.promise.specs.Traces.{Call, Event, runAfter, eventOf, trace}
 use Rattle.words.specs.Words.{wordLength, wordAt}
@@ -34,9 +34,10 @@ valueOr0 (number.Refused r) = 0
 abbrev pub wordOr0 : List ℕ → (at : ℕ) → ℕ
 wordOr0 s at = valueOr0 (wordAt s at)
 
--- The call that three words say. It is a release of a row with a cost where the first word is 1, and a tick where the first word is anything else.
+-- The call that three words say. It is a release of a row with a cost where the first word is 1, the end of the job with the serial in the second word where
+-- the first word is 3, and a tick where it is anything else.
 abbrev pub callOf : (kind row cost : ℕ) → Call
-callOf kind row cost = cond (eqb kind 1) (Call.release row cost) Call.tick
+callOf kind row cost = cond (eqb kind 1) (Call.release row cost) (cond (eqb kind 3) (Call.end row) Call.tick)
 
 -- The call at a place, from its three words one after another.
 abbrev pub callAt : List ℕ → (at : ℕ) → Call
@@ -81,10 +82,16 @@ tickWords (ran serial false) late = 4 ∷ serial ∷ 0 ∷ late ∷ []
 tickWords (ran serial true) late = 5 ∷ serial ∷ 0 ∷ late ∷ []
 tickWords (says.TickSays.refused n place) late = refusedWords n place
 
--- The words of a call's answer, be it a release or a tick.
+-- The words of an end's answer: 8 and the units that the job was given, or those of its refusal. (6.27, 6.30)
+abbrev pub endWords : EndingSays → List ℕ
+endWords (ended-with units) = 8 ∷ units ∷ 0 ∷ 0 ∷ []
+endWords (says.EndingSays.refused n place) = refusedWords n place
+
+-- The words of a call's answer, be it a release, a tick or an end.
 abbrev pub eventWords : Event → List ℕ
 eventWords (Event.release row cost a) = releaseWords a
 eventWords (Event.tick a late) = tickWords a late
+eventWords (Event.end serial a) = endWords a
 
 -- The run after a call, and the words of the call's answer.
 abbrev pub afterCall : Run → Call → Played

@@ -1,12 +1,14 @@
 // The probe, which is for comparisons only: calls by which another program can compare what the host's two calls don't reach. They are the number writer, the
-// chooser, a trace of calls on a run, and three calls on a run that is lent. Numbers are lent as words of eight bytes, lowest byte first.
+// chooser, a trace of calls on a run, and four calls on a run that is lent. Numbers are lent as words of eight bytes, lowest byte first.
 use jobs::Finished;
 use kinds::Refusal;
 use kinds::RowNumber;
+use kinds::Serial;
 use kinds::Tick;
 use lent::TickAnswer;
 use numbers::NumberRead;
 use numbers::Written;
+use run::Ended;
 use run::Released;
 use run::Run;
 use run::StartAnswer;
@@ -22,12 +24,12 @@ ghost use Rattle.numbers.specs.Answers.{writtenSays};
 ghost use Rattle.numbers.specs.Writing.{written, bufferAfter};
 ghost use Rattle.script.specs.Answers.{whichNumber};
 ghost use Rattle.words.specs.Words.{wordLength};
-ghost use Rattle.run.specs.Answers.{startSays, releaseSays, tickSays};
+ghost use Rattle.run.specs.Answers.{startSays, releaseSays, tickSays, endSays};
 ghost use Rattle.probe.specs.Words.{mostWords, wordsBytes};
 ghost use Rattle.probe.specs.Written.{inOneNumber};
 ghost use Rattle.probe.specs.Chosen.{copied, chosenAnswered};
-ghost use Rattle.probe.specs.Traced.{wordOr0, callOf, startWords, releaseWords, tickWords, afterCall, answersShown, traceWords, answersAfter};
-ghost use Rattle.probe.specs.LentRuns.{lentStarted, lentReleased, lentTicked};
+ghost use Rattle.probe.specs.Traced.{wordOr0, callOf, startWords, releaseWords, tickWords, endWords, afterCall, answersShown, traceWords, answersAfter};
+ghost use Rattle.probe.specs.LentRuns.{lentStarted, lentReleased, lentTicked, lentEnded};
 
 // The length of the chooser's answer buffer in bytes: two words.
 const CHOICE: usize = 2 * WORD;
@@ -41,8 +43,11 @@ const CALL: usize = 3 * WORD;
 // The length of one answer of a trace in bytes: four words.
 const ANSWER: usize = 4 * WORD;
 
-// The first word of a call that is a release. A call with any other first word is a tick.
+// The first word of a release. A call whose first word is neither this nor `END` is a tick.
 const RELEASE: u64 = 1;
+
+// The first word of an end.
+const END: u64 = 3;
 
 // The most answers that a trace writes: their number is returned in four bytes.
 const MOST: usize = 0xFFFF_FFFF;
@@ -204,7 +209,17 @@ fn tick_words(answer: Ticked, late: u64) -> [u64; 4]
     }
 }
 
-// Plays the call that three words say: a release of a row with a cost, or a tick.
+// The words of an end's answer: 8 with the units that the job was given, or 6 with the refusal's number. (6.27, 6.30)
+fn end_words(answer: Ended) -> [u64; 4]
+    ensures { λ r. ⌜ r ≡ endWords (endSays answer) ⌝ }
+{
+    match answer {
+        Ended::Units(units) => [8, units, 0, 0],
+        Ended::Refused(r) => [6, r.number() as u64, 0, 0],
+    }
+}
+
+// Plays the call that three words say: a release of a row with a cost, the end of the job with a serial, or a tick.
 fn play(run: Run, kind: u64, row: u64, cost: u64) -> Played
     ensures { λ r. ⌜ r ≡ afterCall run (callOf kind row cost) ⌝ }
 {
@@ -215,6 +230,15 @@ fn play(run: Run, kind: u64, row: u64, cost: u64) -> Played
         return Played {
             run: after,
             answer: release_words(said),
+        };
+    }
+    if kind == END {
+        let step = run.end(Serial(row));
+        let after = step.run;
+        let said = step.answer;
+        return Played {
+            run: after,
+            answer: end_words(said),
         };
     }
     let step = run.tick();
@@ -238,7 +262,7 @@ fn answers_shown(calls: usize, room: usize) -> usize
 }
 
 // Plays calls on a run that is started on a table. It writes the answer of the start and then the answer of each call, in four words each, and returns how many
-// answers were written. A call is three words: 1, the row number and the cost for a release. Any other first word is a tick.
+// answers were written. A call is three words: 1, the row number and the cost for a release; 3 and the serial for an end. Any other first word is a tick.
 #[no_mangle]
 pub extern "C" fn trace(table: &[u8], calls: &[u8], answers: &mut [u8]) -> u32
     ensures { λ r. ⌜ (r ≡ answersShown (length (now (calls .entry))) (length (now (answers .entry))))
@@ -270,7 +294,7 @@ pub extern "C" fn trace(table: &[u8], calls: &[u8], answers: &mut [u8]) -> u32
     shown as u32
 }
 
-// ---- a lent run: release and tick go through crate `lent`
+// ---- a lent run: release, tick and end go through crate `lent`
 
 // The answer of a call on a lent run: the four words that a trace writes.
 #[repr(C)]
@@ -318,6 +342,15 @@ fn tick_said(said: TickAnswer) -> FourWords
     }
 }
 
+// The answer of an end in words. (6.27, 6.30)
+fn end_said(answer: Ended) -> FourWords
+    ensures { λ r. ⌜ r ≡ record { words = endWords (endSays answer) } ⌝ }
+{
+    FourWords {
+        words: end_words(answer),
+    }
+}
+
 // Starts a run on a table, in the memory that is lent, whatever stood there before. It returns the start's answer in four words, as a trace writes it. (6.4)
 #[no_mangle]
 pub extern "C" fn lent_start(table: &[u8], run: &mut Run) -> FourWords
@@ -338,12 +371,22 @@ pub extern "C" fn lent_release(run: &mut Run, row: RowNumber, cost: u64) -> Four
     release_said(said)
 }
 
-// Lets one tick go by in the run that is lent. It returns the tick's answer in four words, as a trace writes it. The run afterwards is that of the tick by value,
-// refusals included. (6.10, 6.18, 6.19)
+// Lets one tick go by in the run that is lent. It returns the tick's answer in four words, as a trace writes it. The run afterwards is that of the tick by
+// value, refusals included. (6.10, 6.18, 6.19)
 #[no_mangle]
 pub extern "C" fn lent_tick(run: &mut Run) -> FourWords
     ensures { λ r. ⌜ (r ≡ lentTicked (now (run .entry)) .answer) × (now (run .exit) ≡ lentTicked (now (run .entry)) .run) ⌝ }
 {
     let said = lent::tick(run);
     tick_said(said)
+}
+
+// Ends the pending job that has a serial in the run that is lent. It returns the end's answer in four words, as a trace writes it. The run afterwards is that
+// of the end by value, refusals included. (6.18, 6.19, 6.27)
+#[no_mangle]
+pub extern "C" fn lent_end(run: &mut Run, serial: Serial) -> FourWords
+    ensures { λ r. ⌜ (r ≡ lentEnded (now (run .entry)) (serial .0) .answer) × (now (run .exit) ≡ lentEnded (now (run .entry)) (serial .0) .run) ⌝ }
+{
+    let said = lent::end(run, serial);
+    end_said(said)
 }

@@ -1,5 +1,6 @@
--- At the host: the proof. A replay makes the run's own calls, so the bridge holds all through it. On a feasible table every accepted job that is due has had
--- its cost. So no tick counts a late job. At 2^40 every job is due, so nothing is pending then, and the final ticks come to their end. (8.3, 8.7, 8.14)
+-- At the host: the proof. A replay makes the run's own calls, so the bridge holds all through it. On a feasible table every accepted job that is due was ended
+-- early or has had its cost. So no tick counts a late job. At 2^40 every job is due, so nothing is pending then, and the final ticks come to their end. (8.3,
+-- 8.7, 8.14)
 use Prim.Native.Nat.{ℕ, zero, suc, _+_, _-_, _≤_, _<_}
 use mathlib.Core.Path.{_≡_, refl, sym, subst, _∙_}
 use mathlib.Core.Bool.{Bool, true, false, cond}
@@ -12,10 +13,12 @@ use Rattle.kinds.specs.declared.Refusal.{Refusal}
 use Rattle.kinds.specs.declared.Refusal.the-variants.{NoSuchRow, CostOutOfRange, TimeTooLate, ScriptMisspelled}
 use Rattle.kinds.specs.declared.RefusedAt.{RefusedAt}
 use Rattle.kinds.specs.Numbering.{maxTime, refusalNumber}
+use Rattle.kinds.proofs.Apart.{impossible}
 use Rattle.kinds.proofs.Numbering.{no-answer}
 use Rattle.numbers.specs.declared.Number.{Number}
 use Rattle.numbers.specs.SpelledNumbers.{Bytes}
 use Rattle.theory.specs.Curves.{EveryLengthFits}
+use Rattle.theory.specs.Jobs.{Job}
 use Rattle.theory.proofs.Cases.{by-lt, by-eq, by-test}
 use Rattle.theory.proofs.Lists.{all-of-members, none-passes}
 use Rattle.table.specs.declared.Table.{Table}
@@ -60,14 +63,14 @@ use Rattle.play.proofs.WholePlays.{late-is-the-sum}
 use Rattle.host.specs.Answer.{VerdictAnswered, answerLength}
 use Rattle.host.specs.Answer as host
 use Rattle.host.proofs.Answering.{replay-of-another-size, replay-of-sixteen}
-use Rattle.promise.specs.Traces.{Call, Event, eventOf, clockOf, jobsOfTrace, unitsOf}
+use Rattle.promise.specs.Traces.{Call, Event, eventOf, clockOf, jobsOfTrace, unitsOf, wasEnded, unfinished}
 use Rattle.promise.specs.Choice.{lateAt}
 use Rattle.promise.specs.InTime.{SaidFeasible}
 use Rattle.promise.specs.AtHost.{NotLate, AtHost, AtHostCalls}
 use Rattle.promise.specs.Link.{jobOf}
 use Rattle.promise.proofs.RunAndTrace.{Bridge}
 use Rattle.promise.proofs.RunsFollow.{bridge-of-started, release-keeps-bridge, tick-keeps-bridge}
-use Rattle.promise.proofs.Units.{sound-facts, pending-is-owed}
+use Rattle.promise.proofs.Units.{sound-facts, pending-is-owed, pending-is-unfinished}
 use Rattle.promise.proofs.Ticks.{no-job-by-a-tick}
 use Rattle.promise.proofs.InTime.{feasible-fits, due-had-its-cost}
 use Rattle.promise.proofs.Choice.{late-of-the-trace}
@@ -75,7 +78,14 @@ use Rattle.promise.proofs.Choice.{late-of-the-trace}
 -- ---- at one point
 
 module _ {t : Table} (fits : EveryLengthFits (tableDemand t)) {run : Run} {es : List Event} (b : Bridge t run es) where
-  -- After a tick every accepted job that is due at the new clock has had its cost, so the tick counts no job as late.
+  -- An accepted job that is due is not unfinished: it was ended early, or it has had its cost.
+  due-is-over : (j : Job) → List·Memᴰ j (jobsOfTrace es) → j .due ≤ clockOf es → unfinished es j ≡ false
+  due-is-over j m due = by-test (wasEnded es j)
+      (λ gone. rw gone)
+      (λ stays. rw (stays, le-ltb (unitsOf (j .name) es) (j .cost) (omega (arith, due-had-its-cost b fits j m stays due))))
+
+module _ {t : Table} (fits : EveryLengthFits (tableDemand t)) {run : Run} {es : List Event} (b : Bridge t run es) where
+  -- After a tick every accepted job that is due at the new clock was ended early or has had its cost, so the tick counts no job as late.
   tick-counts-none : run .clock .0 < maxTime → ticked run .late ≡ 0
   tick-counts-none in-time =
       let next = tick-keeps-bridge b in
@@ -85,8 +95,9 @@ module _ {t : Table} (fits : EveryLengthFits (tableDemand t)) {run : Run} {es : 
       ∙ none-passes (lateAt (clockOf es + 1) after) (λ _. 1) (jobsOfTrace es)
       (all-of-members (jobsOfTrace es) (λ j m. by-eq (j .due) (clockOf es + 1)
       (λ e.
-      let had = due-had-its-cost next fits j (rw (no-job-by-a-tick (tickSays (ticked run .answer)) (ticked run .late) es) m) (omega arith) in
-      rw (eq-eqb (j .due) (clockOf es + 1) e, le-ltb (unitsOf (j .name) after) (j .cost) (omega arith)))
+      let over : unfinished after j ≡ false =
+      due-is-over fits next j (rw (no-job-by-a-tick (tickSays (ticked run .answer)) (ticked run .late) es) m) (omega arith) in
+      rw (eq-eqb (j .due) (clockOf es + 1) e, over))
       (λ e. rw (ne-eqb (j .due) (clockOf es + 1) e))))
 
   -- At 2^40 every job is due, so nothing is pending.
@@ -96,9 +107,11 @@ module _ {t : Table} (fits : EveryLengthFits (tableDemand t)) {run : Run} {es : 
       let js = jobsOf (run .pending) in
       let inside : 0 < length js = omega (arith, counted run (b .sound, b .whole)) in
       let j = getD js 0 noJob in
-      let owed = pending-is-owed b j (subst (λ l. List·Memᴰ j l) (sym (job-among-the-rest js 0 inside)) (List·Memᴰ·head refl)) in
+      let waits : List·Memᴰ j js = subst (λ l. List·Memᴰ j l) (sym (job-among-the-rest js 0 inside)) (List·Memᴰ·head refl) in
       let due : j .due .0 ≤ clockOf es = omega (arith, sound-facts b .jobs 0 inside .due-in-time, b .same-clock) in
-      absurd (omega (arith, due-had-its-cost b fits (jobOf j) (owed .was-accepted) due)))
+      let over : unfinished es (jobOf j) ≡ false = due-is-over fits b (jobOf j) (pending-is-owed b j waits .was-accepted) due in
+      let still : unfinished es (jobOf j) ≡ true = pending-is-unfinished b j waits in
+      impossible cc)
       (λ none. omega arith)
 
 -- ---- all through a replay

@@ -3,13 +3,13 @@
 -- jobs that are pending after the tick, which are the ones that are unfinished then. (6.5, 6.10, 6.11, 6.12, 6.14)
 use Prim.Native.Nat.{ℕ, suc, _+_, _%_, _≤_, _<_}
 use mathlib.Core.Path.{_≡_, refl, sym, ap, subst, _∙_}
-use mathlib.Core.Logic.{_↔_}
+use mathlib.Core.Logic.{_↔_, _⊎_, inl, inr, ⊎-elim}
 use mathlib.Core.Bool.{Bool, true, false, cond, _&&_, and-true}
 use mathlib.Core.List.{List, [], _∷_, List·Memᴰ, List·Memᴰ·head, List·Memᴰ·not-nil, Memᴰ·append-right}
 use native.Mathlib.Omega.{arith}
 use lib.Dec.{eqb}
 use lib.ListN.{length, getD, take}
-use borrow.Author.Tests.{ltb-true, le-leb, lt-leb, lt-ltb, ne-eqb}
+use borrow.Author.Tests.{le-leb, lt-leb, lt-ltb, ne-eqb}
 use Rattle.kinds.specs.Numbering.{maxTime}
 use Rattle.kinds.proofs.Apart.{impossible}
 use Rattle.theory.specs.Lists.{total, weightIf}
@@ -31,11 +31,12 @@ use Rattle.run.specs.Ticking.{isTaken, ticked}
 use Rattle.run.proofs.Ticking.{counted, taken-where, taken-means, idle-means}
 use Rattle.jobs.specs.Answers.{hasFinished}
 use Rattle.run.specs.Answers.{idle, ran, taken, tickSays}
-use Rattle.promise.specs.Traces.{Call, Event, eventOf, runAt, trace, clockOf, jobsOfTrace, unitsOf, unfinished}
+use Rattle.promise.specs.Traces.{Call, Event, eventOf, runAt, trace, clockOf, jobsOfTrace, unitsOf, wasEnded, unfinished}
 use Rattle.promise.specs.Choice.{TakenWhenTheTimerTakes, IdleWhenAllHaveTheirCost, SomeJobRan, RunsWhenFree}
 use Rattle.promise.specs.Choice.{GoesFirst, RanFirst, EarliestDueFirst, lateAt, LateCountIsTheLate}
 use Rattle.promise.specs.Link.{jobOf}
 use Rattle.promise.proofs.RunAndTrace.{Bridge}
+use Rattle.promise.proofs.Ended.{pending-not-ended}
 use Rattle.promise.proofs.RunsFollow.{bridge}
 use Rattle.promise.proofs.Units.{total-same, sound-facts, pending-is-owed, pending-is-unfinished, unfinished-is-pending}
 use Rattle.promise.proofs.Units.{finished-had-its-cost, unfinished-weigh-as-pending}
@@ -64,7 +65,7 @@ module _ {t : Table} {run : Run} {es : List Event} (b : Bridge t run es) where
   many = counted run (b .sound, b .whole)
 
   -- What holds at every place in use holds for every pending job.
-  each-pending : (P : PendingJob → Type 0) → ((i : ℕ) → i < length pending → P (getD pending i noJob)) → (p : PendingJob) → List·Memᴰ p pending → P p
+  pub each-pending : (P : PendingJob → Type 0) → ((i : ℕ) → i < length pending → P (getD pending i noJob)) → (p : PendingJob) → List·Memᴰ p pending → P p
   each-pending P f = each-taken P (run .pending .count) (run .pending .places) noJob
       (λ i h.
       let inside : i < used (run .pending) = omega (arith, many) in
@@ -76,11 +77,21 @@ module _ {t : Table} {run : Run} {es : List Event} (b : Bridge t run es) where
   no-jobs : run .pending .count ≡ 0 → pending ≡ []
   no-jobs = ap (λ n. take n (run .pending .places))
 
-  -- Where nothing is pending, every accepted job has had its cost.
-  pub none-pending : run .pending .count ≡ 0 → (j : Job) → List·Memᴰ j (jobsOfTrace es) → unitsOf (j .name) es ≡ j .cost
-  none-pending none j m = by-test (unfinished es j)
-      (λ h. let found = unfinished-is-pending b j m h in absurd (List·Memᴰ·not-nil (subst (λ l. List·Memᴰ (found .place) l) (no-jobs none) (found .pending))))
-      (finished-had-its-cost b j m)
+  -- Where nothing is pending, no accepted job is unfinished.
+  none-unfinished : run .pending .count ≡ 0 → (j : Job) → List·Memᴰ j (jobsOfTrace es) → unfinished es j ≡ true → ⊥
+  none-unfinished none j m h =
+      let found = unfinished-is-pending b j m h in
+      List·Memᴰ·not-nil (subst (λ l. List·Memᴰ (found .place) l) (no-jobs none) (found .pending))
+
+  -- The job was ended early, or it has had its cost.
+  abbrev HasLeft : Job → Type 0
+  HasLeft j = (wasEnded es j ≡ true) ⊎ (unitsOf (j .name) es ≡ j .cost)
+
+  -- Where nothing is pending, every accepted job was ended early or has had its cost.
+  pub none-pending : run .pending .count ≡ 0 → (j : Job) → List·Memᴰ j (jobsOfTrace es) → HasLeft j
+  none-pending none j m = by-test (wasEnded es j)
+      (λ gone. inl gone)
+      (λ stays. by-test (unfinished es j) (λ h. absurd (none-unfinished none j m h)) (λ h. inr (finished-had-its-cost b j m stays h)))
 
   -- ---- the job that goes first
 
@@ -132,10 +143,13 @@ module _ {t : Table} {run : Run} {es : List Event} (b : Bridge t run es) where
     first-ran : RanFirst es (first .serial .0) (hasFinished (ranOf first .finished))
     first-ran = record { job = jobOf first; its-serial = refl; first = first-goes-first; finishes = first-finishes }
 
-  -- Where every accepted job has had its cost, nothing is pending.
-  all-done : ((j : Job) → List·Memᴰ j (jobsOfTrace es) → unitsOf (j .name) es ≡ j .cost) → run .pending .count ≡ 0
+  -- Where every accepted job was ended early or has had its cost, nothing is pending.
+  all-done : ((j : Job) → List·Memᴰ j (jobsOfTrace es) → HasLeft j) → run .pending .count ≡ 0
   all-done done = by-lt 0 (run .pending .count)
-      (λ some. let owed = pending-is-owed b (first some) (first-pending some) in absurd (omega (arith, done (jobOf (first some)) (owed .was-accepted))))
+      (λ some.
+      let owed = pending-is-owed b (first some) (first-pending some) in
+      let stays = pending-not-ended b (first some) (first-pending some) in
+      ⊎-elim (λ gone. impossible cc) (λ had. absurd (omega arith)) (done (jobOf (first some)) (owed .was-accepted)))
       (λ none. omega arith)
 
   -- ---- the timer
@@ -168,9 +182,8 @@ module _ {t : Table} {run : Run} {es : List Event} (b : Bridge t run es) where
     taken-by-the-timer =
         rw (← b .same-clock, ← b .same-table) (λ said. taken-means run .0 said .2, λ k. taken-means run .1 (b .sound, here, k))
 
-    -- A tick is idle exactly when it is not taken and every accepted job has had its cost.
-    pub idle-when-done : (tickSays (ticked run .answer) ≡ idle)
-        ↔ ((¬ TakesNext) × ((j : Job) → List·Memᴰ j (jobsOfTrace es) → unitsOf (j .name) es ≡ j .cost))
+    -- A tick is idle exactly when it is not taken and every accepted job was ended early or has had its cost.
+    pub idle-when-done : (tickSays (ticked run .answer) ≡ idle) ↔ ((¬ TakesNext) × ((j : Job) → List·Memᴰ j (jobsOfTrace es) → HasLeft j))
     idle-when-done = (
       λ said. let known = idle-means run .0 said in (free-next .0 (known .2), none-pending (known .3)),
       λ k. idle-means run .1 (b .sound, here, free-next .1 (k .0), all-done (k .1)),
@@ -186,7 +199,7 @@ module _ {t : Table} {run : Run} {es : List Event} (b : Bridge t run es) where
         (λ h takes. (λ said. let e = said .2 in impossible cc, λ k. absurd (k .0 (takes-next .0 takes))))
         (λ h free none. (
           λ said. let e = said .2 in impossible cc,
-          λ k. let j = k .1 .0 in absurd (omega (arith, none-pending none j (k .1 .1), ltb-true (unitsOf (j .name) es) (j .cost) (k .1 .2))),
+          λ k. absurd (none-unfinished none (k .1 .0) (k .1 .1) (k .1 .2)),
         ))
         (λ h free some. (
           λ said.
@@ -249,7 +262,7 @@ late-of-the-trace {run = run} {es = es} b next =
 pub taken-when-the-timer-takes : TakenWhenTheTimerTakes
 taken-when-the-timer-takes bytes ok calls = taken-by-the-timer (bridge bytes ok calls)
 
--- A tick is idle exactly when it is not taken and every accepted job has had its cost.
+-- A tick is idle exactly when it is not taken and every accepted job has had its cost or was ended early.
 pub idle-when-all-have-their-cost : IdleWhenAllHaveTheirCost
 idle-when-all-have-their-cost bytes ok calls = idle-when-done (bridge bytes ok calls)
 

@@ -1,19 +1,23 @@
 -- An earlier point of a trace. At every time that the clock has passed, the trace was at a point where the clock was at that time. The ticks since then are the
--- newest, and the jobs that were released before that time had been accepted. So a job that is due had its cost before its due time. (6.26)
+-- newest, and the jobs that were released before that time had been accepted. No job had been ended that is not ended now. So a job that is due and was not
+-- ended had its cost before its due time. (6.26)
 use Prim.Native.Nat.{ℕ, suc, _-_, _≤_, _<_}
 use mathlib.Core.Path.{_≡_, refl, sym}
+use mathlib.Core.Bool.{true, false}
 use mathlib.Core.Option.{Option}
 use mathlib.Core.List.{List, [], _∷_, List·Memᴰ, List·Memᴰ·head, List·Memᴰ·tail}
 use native.Mathlib.Omega.{arith}
 use lib.ListN.{drop}
 use Rattle.theory.specs.Jobs.{Job}
-use Rattle.theory.proofs.Cases.{by-eq}
-use Rattle.run.specs.Answers.{accepted, TickSays, idle, ran, taken}
+use Rattle.kinds.proofs.Apart.{impossible}
+use Rattle.theory.proofs.Cases.{by-eq, by-test}
+use Rattle.run.specs.Answers.{accepted, TickSays, idle, ran, taken, ended-with}
 use Rattle.run.specs.Answers as says
-use Rattle.promise.specs.Traces.{Call, Event, runAt, eventOf, trace, told, clockOf, jobsOfTrace, ticksOf}
+use Rattle.promise.specs.Traces.{Call, Event, EndedJob, runAt, eventOf, trace, told, clockOf, jobsOfTrace, ticksOf, endedIn, wasEnded}
 use Rattle.promise.specs.InTime.{InTimeBeforeDue}
 use Rattle.promise.proofs.Ticks.{no-job-by-a-tick}
-use Rattle.promise.proofs.InTime.{in-time, due-times-come}
+use Rattle.promise.proofs.Ended.{among-means, is-among}
+use Rattle.promise.proofs.InTime.{in-time, ended-stays, due-times-come}
 
 -- The time was reached before the event e, and e changes neither the ticks up to that time nor the jobs that were released before it.
 record OneBack (time : ℕ) (e : Event) (es : List Event) : Type 0 where
@@ -44,19 +48,22 @@ module _ (time : ℕ) (es : List Event) where
   one-back (Event.tick (ran serial finished) late) h = past-a-tick (ran serial finished) late _ refl refl h
   one-back (Event.tick taken late) h = past-a-tick taken late _ refl refl h
   one-back (Event.tick (says.TickSays.refused n place) late) h = record { reached = omega arith; same-ticks = refl; same-jobs = λ j m early. m }
+  one-back (Event.end serial (ended-with units)) h = record { reached = omega arith; same-ticks = refl; same-jobs = λ j m early. m }
+  one-back (Event.end serial (says.EndingSays.refused n place)) h = record { reached = omega arith; same-ticks = refl; same-jobs = λ j m early. m }
 
--- This is the point of a trace at which the clock was at a time.
+-- This is the point of a trace at which the clock was at a time. The jobs that had been ended by then are still among the ended ones.
 record PointAt (time : ℕ) (bytes : List ℕ) (calls : List Call) : Type 0 where
   before : List Call
   clock-there : clockOf (trace bytes before) ≡ time
   ticks-there : ticksOf (trace bytes before) ≡ drop (clockOf (trace bytes calls) - time) (ticksOf (trace bytes calls))
   jobs-there : (j : Job) → List·Memᴰ j (jobsOfTrace (trace bytes calls)) → j .release < time → List·Memᴰ j (jobsOfTrace (trace bytes before))
+  ended-there : (e : EndedJob) → List·Memᴰ e (endedIn (trace bytes before)) → List·Memᴰ e (endedIn (trace bytes calls))
 
 -- Where the clock is at the time now, the point is the present one.
 the-last : (time : ℕ) (bytes : List ℕ) (calls : List Call) → time ≡ clockOf (trace bytes calls) → PointAt time bytes calls
 the-last time bytes calls e =
     let none : clockOf (trace bytes calls) - time ≡ 0 = omega arith in
-    record { before = calls; clock-there = sym e; ticks-there = rw none; jobs-there = λ j m early. m }
+    record { before = calls; clock-there = sym e; ticks-there = rw none; jobs-there = λ j m early. m; ended-there = λ e m. m }
 
 -- Before any call the clock is at 0.
 clock-at-first : (bytes : List ℕ) → clockOf (trace bytes []) ≡ 0
@@ -77,11 +84,23 @@ point-at time bytes (c ∷ calls) h = by-eq time (clockOf (trace bytes (c ∷ ca
       clock-there = point .clock-there;
       ticks-there = rw (back .same-ticks) (point .ticks-there);
       jobs-there = λ j m early. point .jobs-there j (back .same-jobs j m early) early;
+      ended-there = λ e m. ended-stays (eventOf (runAt bytes calls) c) (trace bytes calls) e (point .ended-there e m);
     })
 
--- A job that is due had its cost before its due time.
+-- A job that was not ended by now had not been ended at an earlier point.
+not-ended-there : (time : ℕ) (bytes : List ℕ) (calls : List Call) (j : Job) (point : PointAt time bytes calls) → wasEnded (trace bytes calls) j ≡ false
+    → wasEnded (trace bytes (point .before)) j ≡ false
+not-ended-there time bytes calls j point stays = by-test (wasEnded (trace bytes (point .before)) j)
+    (λ gone.
+    let found = among-means (j .name) (endedIn (trace bytes (point .before))) gone in
+    let now : wasEnded (trace bytes calls) j ≡ true = is-among (j .name) (point .ended-there (found .0) (found .1)) (found .2) in
+    impossible cc)
+    (λ h. h)
+
+-- A job that is due had its cost before its due time, if it was not ended early.
 pub in-time-before-due : InTimeBeforeDue
-in-time-before-due bytes ok said calls j m due =
+in-time-before-due bytes ok said calls j m stays due =
     let point = point-at (j .due) bytes calls due in
+    let so = not-ended-there (j .due) bytes calls j point stays in
     let there = point .jobs-there j m (omega (arith, due-times-come bytes ok calls j m .0)) in
-    rw (← point .ticks-there) (in-time bytes ok said (point .before) j there (omega (arith, point .clock-there)))
+    rw (← point .ticks-there) (in-time bytes ok said (point .before) j there so (omega (arith, point .clock-there)))

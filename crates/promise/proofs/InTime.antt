@@ -1,15 +1,18 @@
 -- In time: the proof. On a feasible table every length fits. In no window do the accepted jobs ask for more than the demand of the rows and servers, source by
 -- source, and in no window does the timer take more ticks than it does in a window of that length that begins at zero. The ticks so far are a trace of the
--- theory in which the earliest due job goes first and no free tick idles while a job waits. So the theory's theorem applies. Beside it stand the clock, which
--- comes to every due time, and the due times, which are all at 2^40 or before. (5.3, 5.4, 6.26)
+-- theory in which the earliest due job goes first and no free tick idles while a job waits. So the theory's theorem applies: a job that is due has had
+-- its cost, or left early and so was ended. An ended job has had what the end answered, at every later point too. Beside these stand the clock, which comes to
+-- every due time, and the due times, which are all at 2^40 or before. (5.3, 5.4, 6.26, 6.27, 6.29)
 use Prim.Native.Nat.{ℕ, suc, _+_, _≤_, _<_, min}
-use mathlib.Core.Path.{_≡_, refl}
+use mathlib.Core.Path.{_≡_, refl, sym, _∙_}
 use mathlib.Core.Logic.{⊎-elim}
-use mathlib.Core.List.{List, [], _∷_, List·Memᴰ, List·Memᴰ·not-nil}
+use mathlib.Core.Bool.{true, false}
+use mathlib.Core.List.{List, [], _∷_, _++_, List·Memᴰ, List·Memᴰ·tail}
 use native.Mathlib.Omega.{arith}
 use lib.ListN.{length, getD}
 use lib.Seq.{take-length}
 use Rattle.kinds.specs.Numbering.{maxTime}
+use Rattle.kinds.proofs.Apart.{impossible}
 use Rattle.kinds.proofs.Numbering.{never-an-answer}
 use Rattle.numbers.specs.SpelledNumbers.{Bytes}
 use Rattle.theory.specs.Lists.{All}
@@ -40,16 +43,20 @@ use Rattle.verdict.proofs.Sums.{first-all}
 use Rattle.run.specs.declared.Run.{Run}
 use Rattle.run.specs.Runs.{rowAt, serverAt}
 use Rattle.run.proofs.Release.{each-release, given-in-time}
-use Rattle.run.specs.Answers.{releaseSays, tickSays}
-use Rattle.promise.specs.Traces.{Call, Event, runAt, eventOf, trace, told, clockOf, jobsOfTrace, ticksOf, unitsOf}
-use Rattle.promise.specs.Link.{takenOn}
+use Rattle.run.specs.Answers.{releaseSays, tickSays, ended-with}
+use Rattle.run.specs.Answers as says
+use Rattle.promise.specs.Traces.{Call, Event, EndedJob, runAt, eventOf, trace, told, clockOf, jobsOfTrace, ticksOf, unitsOf, endedIn, wasEnded}
+use Rattle.promise.specs.Link.{takenOn, leftEarly}
 use Rattle.promise.specs.Sources.{Source, sourcesOf, sourceAt, sourceDemand}
-use Rattle.promise.specs.InTime.{SaidFeasible, InTime, NeverMore, OneJobASerial, ticksIn, ClockCountsTicks, DueTimesCome}
+use Rattle.promise.specs.InTime.{SaidFeasible, InTime, EndedHadWhatWasSaid, EndedNeverGetsAnother, NeverMore, OneJobASerial, ticksIn}
+use Rattle.promise.specs.InTime.{ClockCountsTicks, DueTimesCome}
 use Rattle.promise.proofs.Sources.{sources-are-numbered, demand-over-sources}
 use Rattle.promise.proofs.RunAndTrace.{Bridge}
+use Rattle.promise.proofs.Ended.{among-means, is-among, ended-is-known, left-early-was-ended}
 use Rattle.promise.proofs.RunsFollow.{bridge}
 use Rattle.promise.proofs.Units.{sound-facts, never-more-units}
-use Rattle.promise.proofs.Ticks.{no-job-by-a-tick, no-tick-by-a-release, each-tick}
+use Rattle.promise.proofs.Ticks.{no-job-by-a-tick, no-tick-by-a-release, no-end-by-a-tick, no-end-by-a-release}
+use Rattle.promise.proofs.Ticks.{no-job-by-an-end, no-tick-by-an-end, each-tick}
 use Rattle.promise.proofs.Share.{own-member, server-good, no-demand-at-zero, source-share}
 
 -- ---- a feasible table
@@ -107,18 +114,19 @@ module _ {t : Table} {run : Run} {es : List Event} (b : Bridge t run es) where
 
   -- ---- in time
 
-  -- Where every length fits, an accepted job that is due has had its cost.
-  pub due-had-its-cost : EveryLengthFits (tableDemand t) → (j : Job) → List·Memᴰ j (jobsOfTrace es) → j .due ≤ clockOf es → unitsOf (j .name) es ≡ j .cost
-  due-had-its-cost fits j m due =
+  -- Where every length fits, an accepted job that is due has had its cost, if it was not ended early.
+  pub due-had-its-cost : EveryLengthFits (tableDemand t) → (j : Job) → List·Memᴰ j (jobsOfTrace es) → wasEnded es j ≡ false → j .due ≤ clockOf es
+      → unitsOf (j .name) es ≡ j .cost
+  due-had-its-cost fits j m stays due =
       let f = b .follows in
       let demand = sumOver sourceDemand (sourcesOf t) in
       let all = in-time-by-the-theory (f .events) (f .earliest-due) (f .never-idle) (b .distinct) demand (timerTakes (t .s) (t .p))
       demand-bounds taken-at-most none-at-zero (λ L some. rw (← demand-over-sources t L) (fits L some)) in
-      by-end (all-at (λ (i : Job). i .due ≤ clockOf es → ServedOrEnded i (ticksOf es) []) all m due)
+      by-end (all-at (λ (i : Job). i .due ≤ clockOf es → ServedOrEnded i (ticksOf es) (leftEarly es)) all m due)
     where
-      by-end : ServedOrEnded j (ticksOf es) [] → unitsOf (j .name) es ≡ j .cost
+      by-end : ServedOrEnded j (ticksOf es) (leftEarly es) → unitsOf (j .name) es ≡ j .cost
       by-end (served e) = e
-      by-end (ended u) = absurd (List·Memᴰ·not-nil (u .among))
+      by-end (ended u) = let gone : wasEnded es j ≡ true = left-early-was-ended b j (u .left) (u .among) in impossible cc
 
 -- ---- the clock
 
@@ -149,6 +157,7 @@ dues-in-time bytes (Call.release row cost ∷ calls) =
     (λ r. before)
     (λ due passed given. (given-in-time run row cost due given, before))
 dues-in-time bytes (Call.tick ∷ calls) = rw no-job-by-a-tick (dues-in-time bytes calls)
+dues-in-time bytes (Call.end serial ∷ calls) = rw no-job-by-an-end (dues-in-time bytes calls)
 
 -- A job of a server that costs something is due after its release.
 odd-due-later : (a b : ℕ) → 1 ≤ a → 1 ≤ b → (js : List Job) → ByServer a b js → All (λ j. 1 ≤ j .cost → suc (j .release) ≤ j .due) js
@@ -176,9 +185,39 @@ due-after-release {t = t} {es = es} b j m =
 
 -- ---- the promises
 
--- Once the clock is at an accepted job's due time or past it, the job has had its cost.
+-- Once the clock is at an accepted job's due time or past it, the job has had its cost, if it was not ended early.
 pub in-time : InTime
 in-time bytes ok said calls = due-had-its-cost (bridge bytes ok calls) (feasible-fits bytes said)
+
+-- Each job that was ended early has had exactly what the end answered.
+pub ended-had-what-was-said : EndedHadWhatWasSaid
+ended-had-what-was-said bytes ok calls = ended-is-known (bridge bytes ok calls)
+
+-- One more event leaves every ended job among the ended ones.
+pub ended-stays : (e : Event) (es : List Event) (d : EndedJob) → List·Memᴰ d (endedIn es) → List·Memᴰ d (endedIn (e ∷ es))
+unfolding told
+ended-stays (Event.release row cost a) es d m = rw no-end-by-a-release m
+ended-stays (Event.tick a late) es d m = rw no-end-by-a-tick m
+ended-stays (Event.end serial (ended-with units)) es d m = List·Memᴰ·tail m
+ended-stays (Event.end serial (says.EndingSays.refused number place)) es d m = m
+
+-- Later calls leave every ended job among the ended ones.
+ended-stays-so : (bytes : List ℕ) (calls later : List Call) (d : EndedJob) → List·Memᴰ d (endedIn (trace bytes calls))
+    → List·Memᴰ d (endedIn (trace bytes (later ++ calls)))
+unfolding trace
+ended-stays-so bytes calls [] d m = m
+ended-stays-so bytes calls (c ∷ later) d m =
+    ended-stays (eventOf (runAt bytes (later ++ calls)) c) (trace bytes (later ++ calls)) d (ended-stays-so bytes calls later d m)
+
+-- A job that was ended early never gets another unit: before the later calls and after them it has had what the end answered.
+pub ended-never-gets-another : EndedNeverGetsAnother
+ended-never-gets-another bytes ok calls later j m gone =
+    let found = among-means (j .name) (endedIn (trace bytes calls)) gone in
+    let d = found .0 in
+    let still = ended-stays-so bytes calls later d (found .1) in
+    let had = ended-had-what-was-said bytes ok calls d (found .1) .had-these in
+    let has = ended-had-what-was-said bytes ok (later ++ calls) d still .had-these in
+    (rw (← found .2) (has ∙ sym had), is-among (j .name) still (found .2))
 
 -- No job ever has more units than its cost.
 pub never-more : NeverMore
@@ -194,6 +233,7 @@ unfolding trace ticksIn told
 clock-counts bytes ok [] = refl
 clock-counts bytes ok (Call.release row cost ∷ calls) = rw no-tick-by-a-release (clock-counts bytes ok calls)
 clock-counts bytes ok (Call.tick ∷ calls) = omega (arith, clock-after-a-tick (bridge bytes ok calls), clock-counts bytes ok calls)
+clock-counts bytes ok (Call.end serial ∷ calls) = rw no-tick-by-an-end (clock-counts bytes ok calls)
 
 -- The run's own clock is the clock that the answers tell.
 pub clock-counts-ticks : ClockCountsTicks

@@ -1,6 +1,7 @@
 -- The promises at work: the proofs.
 use Prim.Native.Nat.{ℕ, _≤_}
 use mathlib.Core.Path.{_≡_, refl}
+use mathlib.Core.Bool.{false}
 use mathlib.Core.List.{List, flatten, List·Memᴰ, List·Memᴰ·head, List·Memᴰ·tail}
 use native.Mathlib.Omega.{arith}
 use borrow.Author.Tests.{leb-true}
@@ -26,16 +27,18 @@ use Rattle.jobs.specs.Choice.{goesBefore}
 use Rattle.run.specs.Sound.{soundOf, jobFits, jobSound}
 use Rattle.run.specs.Release.{released}
 use Rattle.run.specs.Ticking.{ticked}
+use Rattle.run.specs.Ending.{ended}
 use Rattle.verdict.specs.declared.Verdict.the-variants.{Feasible, Overloaded}
 use Rattle.verdict.specs.Demand.{tableDemand, tableGrowth, largestOf}
 use Rattle.verdict.specs.Verdict.{Judged}
-use Rattle.promise.specs.Traces.{Call, Event, runAt, trace, told, clockOf, jobsOfTrace, unitsOf}
+use Rattle.promise.specs.Traces.{Call, Event, runAt, trace, told, clockOf, jobsOfTrace, unitsOf, wasEnded}
 use Rattle.promise.specs.NoOrder.{firstJobs, keptAfter, unitsBy}
 use Rattle.promise.specs.Examples.{v3, v4, t6, s4}
 use Rattle.promise.specs.Instances.{calls, answers, AnswersAreThese, job, ThreeJobs, AllThreeInTime, ShareIsReached}
 use Rattle.promise.specs.Instances.{NamedByV4, NobodyServesV4, SomebodyServesV4Later, NamedByT6, NobodyServesT6, SomebodyServesT6Later}
 use Rattle.promise.specs.Instances.{r2, timedCalls, TimedAnswers, TimedInTime, LateInATakenTick}
 use Rattle.promise.specs.Instances.{OddAnswers, OddShareIsReached, NamedByS4, NobodyServesS4, NamedPastTheLimit, NamedNoneOfZero}
+use Rattle.promise.specs.Instances.{EndingAnswers}
 use Rattle.promise.proofs.InTime.{in-time}
 use Rattle.promise.proofs.NoOrder.{no-order}
 use Rattle.promise.proofs.Examples.{are-bytes, feasible-by-look, judged-so, v3-is-feasible, v4-is-overloaded, t6-is-overloaded, s4-is-overloaded}
@@ -50,11 +53,12 @@ pub three-jobs : ThreeJobs
 unfolding told
 three-jobs = (refl, refl)
 
--- *In time*, where the answers are known: on a feasible table, a job that was accepted and is due by the clock has had its cost.
+-- *In time*, where the answers are known: on a feasible table, a job that was accepted, was not ended and is due by the clock has had its
+-- cost.
 had-its-cost : (bytes : List ℕ) → Bytes bytes → Judged bytes Feasible → (calls : List Call) (es : List Event) → trace bytes calls ≡ es
-    → (j : Job) → List·Memᴰ j (jobsOfTrace es) → j .due ≤ clockOf es → unitsOf (j .name) (trace bytes calls) ≡ j .cost
-had-its-cost bytes fine feasible calls es same j accepted due =
-    in-time bytes fine (record { answer = Feasible; judged = feasible; feasible = refl }) calls j (rw same accepted) (rw same due)
+    → (j : Job) → List·Memᴰ j (jobsOfTrace es) → wasEnded es j ≡ false → j .due ≤ clockOf es → unitsOf (j .name) (trace bytes calls) ≡ j .cost
+had-its-cost bytes fine feasible calls es same j accepted stays due =
+    in-time bytes fine (record { answer = Feasible; judged = feasible; feasible = refl }) calls j (rw same accepted) (rw same stays) (rw same due)
 
 -- The table V3 is made of bytes.
 v3-in-bytes : Bytes v3
@@ -66,9 +70,9 @@ pub all-three-in-time : AllThreeInTime
 unfolding told
 all-three-in-time =
     let had-it = had-its-cost v3 v3-in-bytes v3-is-feasible calls answers answers-are-these in (
-      had-it (job 0 0 0 4 2) (List·Memᴰ·tail (List·Memᴰ·tail (List·Memᴰ·head refl))) (omega arith),
-      had-it (job 1 1 0 6 3) (List·Memᴰ·tail (List·Memᴰ·head refl)) (omega arith),
-      had-it (job 2 0 4 8 2) (List·Memᴰ·head refl) (omega arith),
+      had-it (job 0 0 0 4 2) (List·Memᴰ·tail (List·Memᴰ·tail (List·Memᴰ·head refl))) refl (omega arith),
+      had-it (job 1 1 0 6 3) (List·Memᴰ·tail (List·Memᴰ·head refl)) refl (omega arith),
+      had-it (job 2 0 4 8 2) (List·Memᴰ·head refl) refl (omega arith),
     )
 
 -- What row 0 consumes is worked out from the answers.
@@ -139,8 +143,8 @@ pub timed-in-time : TimedInTime
 unfolding told
 timed-in-time =
     let had-it = had-its-cost r2 (are-bytes r2 refl) r2-is-feasible timedCalls _ timed-answers in (
-      had-it (job 0 0 0 6 2) (List·Memᴰ·tail (List·Memᴰ·head refl)) (omega arith),
-      had-it (job 1 1 0 8 3) (List·Memᴰ·head refl) (omega arith),
+      had-it (job 0 0 0 6 2) (List·Memᴰ·tail (List·Memᴰ·head refl)) refl (omega arith),
+      had-it (job 1 1 0 8 3) (List·Memᴰ·head refl) refl (omega arith),
     )
 
 pub late-in-a-taken-tick : LateInATakenTick
@@ -189,3 +193,11 @@ unfolding
     firstJobs keptAfter inTurn rowJobs dueOf keptWith dueTime serverDemand serverDue ticksFor readRows servers.readServers leastCommonMultiple firstMultiple
     reading.spelt flatten
 named-none-of-zero = refl
+
+-- ---- with an end
+
+pub ending-answers : EndingAnswers
+unfolding
+    runAt trace released ticked ended soundOf jobFits jobSound put takenOut after lateCount goesBefore dueOf keptWith keptSound dueTime readRows
+    servers.readServers leastCommonMultiple firstMultiple reading.spelt spelling.groupsOf flatten
+ending-answers = refl

@@ -1,5 +1,6 @@
 pub mod RunAndTrace
 pub mod Waiting
+pub mod Ended
 pub mod Histories
 pub mod RunsFollow
 pub mod Units

@@ -1,49 +1,62 @@
--- Refused exactly when: the proof. Each test of a release and of a tick looks at the run, and the trace tells the same. The table is the one that the run was
--- started on. As many jobs are pending as are unfinished. The next serial is the number of accepted jobs. The due time over what the run keeps of due times is
--- the one by the rules over all accepted jobs of the row or server. (6.8, 6.16, 6.18)
+-- Refused exactly when: the proof. Each test of a release, of a tick and of an end looks at the run, and the trace tells the same. The table is the one that
+-- the run was started on. As many jobs are pending as are unfinished. The next serial is the number of accepted jobs. The due time over what the run keeps of
+-- due times is the one by the rules over all accepted jobs of the row or server. A pending job has a serial exactly where the accepted job with that serial is
+-- unfinished, and its units given are those that the ticks gave. The run counts as many ended jobs as the trace. (6.8, 6.16, 6.18, 6.27, 6.30)
 use Prim.Native.Nat.{ℕ, _+_, _-_, _≤_, _<_}
-use mathlib.Core.Path.{_≡_, refl, ap, _∙_}
+use mathlib.Core.Path.{_≡_, refl, ap, subst, _∙_}
 use mathlib.Core.Logic.{_↔_}
-use mathlib.Core.Bool.{true, cond}
-use mathlib.Core.List.{List, [], _∷_}
+use mathlib.Core.Bool.{Bool, true, not, cond, _&&_}
+use mathlib.Core.List.{List, [], _∷_, List·Memᴰ}
 use native.Mathlib.Omega.{arith}
 use lib.Dec.{leb, ltb}
-use lib.ListN.{length}
-use borrow.Author.Tests.{lt-ltb, le-ltb}
+use lib.ListN.{length, getD}
+use borrow.Author.Tests.{ltb-true, lt-ltb, le-ltb}
 use Rattle.kinds.specs.declared.Refusal.the-variants.{NoSuchRow, CostOutOfRange}
 use Rattle.kinds.specs.Numbering.{maxTime}
 use Rattle.kinds.proofs.Apart.{impossible}
 use Rattle.theory.specs.Lists.{total}
+use Rattle.theory.specs.Jobs.{Job}
 use Rattle.theory.specs.DueTimes.{dues}
 use Rattle.theory.specs.Sources.{own}
 use Rattle.theory.proofs.Cases.{by-lt, by-test}
+use Rattle.theory.proofs.Lists.{all-at}
 use Rattle.table.specs.declared.Table.{Table}
 use Rattle.table.specs.declared.CostAnswer.the-variants as cost-answer
 use Rattle.table.specs.Costs.{costLimits, limitOf, costAnswer}
 use Rattle.table.specs.Limits.{maxC}
 use Rattle.table.specs.Rows.{fromOneTo, rowInRange}
 use Rattle.table.specs.Servers.{serverInRange}
-use Rattle.table.proofs.Ranges.{in-range-of}
+use Rattle.table.proofs.Ranges.{both-true, in-range-of}
 use Rattle.table.proofs.ReadingServers.{server-in-range-means}
 use Rattle.due.specs.Kept.{dueOf, notTooLate}
 use Rattle.due.specs.OddJobs.{oddDueOf}
 use Rattle.due.proofs.NewestKept.{due-is-the-papers}
-use Rattle.jobs.specs.Places.{maxPlaces, jobsOf}
+use Rattle.jobs.specs.declared.Job.{Job as PendingJob}
+use Rattle.jobs.specs.Places.{maxPlaces, noJob, jobsOf, used}
+use Rattle.jobs.proofs.Changes.{nobody-found-means}
 use Rattle.run.specs.declared.Run.{Run}
 use Rattle.run.specs.declared.TickStep.{TickStep}
 use Rattle.run.specs.Runs.{rowInUse, rowAt, serverAt, costLimit, keptOf}
 use Rattle.run.specs.Sound.{soundOf, Whole}
 use Rattle.run.specs.Release.{dueNext, released}
 use Rattle.run.specs.Ticking.{ticked}
+use Rattle.run.specs.Ending.{unitsGiven, ended}
 use Rattle.run.proofs.Release.{bounded, each-release, one-test-means}
 use Rattle.run.proofs.Ticking.{counted, tick-too-late}
-use Rattle.run.specs.Answers.{accepted, releaseSays, tickSays}
+use Rattle.run.proofs.Ending.{each-end, found-there}
+use Rattle.run.specs.Answers.{accepted, releaseSays, tickSays, ended-with, endSays}
 use Rattle.run.specs.Answers as says
-use Rattle.promise.specs.Traces.{Call, Event, runAfter, eventOf, runAt, Told, told, clockOf, jobsOfTrace, unfinishedIn}
-use Rattle.promise.specs.Refusals.{nextDue, releaseAnswer, ReleasesByTheTrace, TicksByTheTrace, PlacesAreEnough, Refused, RefusedChangesNothing}
+use Rattle.promise.specs.Traces.{Call, Event, runAfter, eventOf, runAt, Told, told, clockOf, jobsOfTrace, jobOfSerial, unitsOf}
+use Rattle.promise.specs.Traces.{endedIn, wasEnded, unfinished, unfinishedIn}
+use Rattle.promise.specs.Link.{jobOf}
+use Rattle.promise.specs.Refusals.{nextDue, releaseAnswer, ReleasesByTheTrace, TicksByTheTrace, endAnswer, EndsByTheTrace, PlacesAreEnough}
+use Rattle.promise.specs.Refusals.{Refused, RefusedChangesNothing}
 use Rattle.promise.proofs.RunAndTrace.{Bridge}
+use Rattle.promise.proofs.Waiting.{member-at}
+use Rattle.promise.proofs.Ended.{found-has-it, finds-the-job}
 use Rattle.promise.proofs.RunsFollow.{bridge}
-use Rattle.promise.proofs.Units.{sound-facts, unfinished-weigh-as-pending}
+use Rattle.promise.proofs.Units.{Owed, sound-facts, pending-is-owed, pending-is-unfinished, unfinished-is-pending, unfinished-weigh-as-pending}
+use Rattle.promise.proofs.Choice.{each-pending}
 use Rattle.promise.proofs.Ticks.{each-tick}
 use Rattle.promise.proofs.InTime.{clock-after-a-tick}
 
@@ -140,6 +153,67 @@ module _ {t : Table} {run : Run} {es : List Event} (b : Bridge t run es) where
       (λ h free none. (λ e. impossible cc, λ k. absurd (omega arith)))
       (λ h free some. (λ e. impossible cc, λ k. absurd (omega arith)))
 
+  -- ---- what an end looks at
+
+  module _ (serial : ℕ) where
+    -- `isOpen` is the first test of an end, by the trace: the serial was given out, and its job is unfinished.
+    abbrev isOpen : Bool
+    isOpen = ltb serial (length (jobsOfTrace es)) && unfinished es (jobOfSerial serial (jobsOfTrace es))
+
+    -- Where the test passes, a pending job has the serial.
+    open-is-pending : isOpen ≡ true → (p : PendingJob) × List·Memᴰ p (jobsOf (run .pending)) × (p .serial .0 ≡ serial)
+    open-is-pending h =
+        let j = jobOfSerial serial (jobsOfTrace es) in
+        let test = both-true (ltb serial (length (jobsOfTrace es))) (unfinished es j) h .1 in
+        let less = both-true (not (wasEnded es j)) (ltb (unitsOf (j .name) es) (j .cost)) test .1 in
+        let found = found-has-it serial (jobsOfTrace es) (omega (arith, ltb-true (unitsOf (j .name) es) (j .cost) less)) in
+        let waits = unfinished-is-pending b j (found .1) test in
+        (waits .place, waits .pending, ap (λ (i : Job). i .name) (waits .its-own) ∙ found .0)
+
+    -- In this module the pending job at a place has the serial.
+    module _ (at : ℕ) (inside : at < used (run .pending)) (its : getD (jobsOf (run .pending)) at noJob .serial .0 ≡ serial) where
+      -- `there` is the job at the place.
+      abbrev there : PendingJob
+      there = getD (jobsOf (run .pending)) at noJob
+
+      -- The job at the place is pending.
+      is-there : List·Memᴰ there (jobsOf (run .pending))
+      is-there = member-at noJob (jobsOf (run .pending)) at inside
+
+      -- The job was accepted and is owed units.
+      owed : Owed es there
+      owed = pending-is-owed b there is-there
+
+      -- The test passes.
+      pending-is-open : isOpen ≡ true
+      pending-is-open =
+          let same : jobOfSerial serial (jobsOfTrace es) ≡ jobOf there =
+          subst (λ s. jobOfSerial s (jobsOfTrace es) ≡ jobOf there) its (finds-the-job (b .distinct) (owed .was-accepted)) in
+          let below = all-at (λ (j : Job). j .name < length (jobsOfTrace es)) (b .names-below) (owed .was-accepted) in
+          let unfinished-still : unfinished es (jobOfSerial serial (jobsOfTrace es)) ≡ true = rw same (pending-is-unfinished b there is-there) in
+          rw (lt-ltb serial (length (jobsOfTrace es)) (omega arith), unfinished-still)
+
+      -- The units that the job was given are those that the ticks have given to the serial.
+      given-by-the-ticks : unitsGiven there ≡ unitsOf serial es
+      given-by-the-ticks = rw (← its) (omega (arith, owed .had-the-rest))
+
+    -- An end is answered as the trace says.
+    pub end-by-the-trace : endSays (ended run serial .answer) ≡ endAnswer es serial
+    end-by-the-trace = each-end run serial (λ step. endSays (step .answer) ≡ endAnswer es serial)
+        (λ unsound. let sound = b .sound in impossible cc)
+        (λ s nobody. by-test isOpen
+        (λ passes.
+        let waits = open-is-pending passes in
+        absurd (each-pending b (λ p. p .serial .0 ≡ serial → ⊥) (nobody-found-means serial (jobsOf (run .pending)) .0 nobody) (waits .0) (waits .1) (waits .2)))
+        (λ shut. rw shut))
+        (λ s at e many.
+        let found = found-there run serial at e in
+        rw (pending-is-open at (found .0) (found .1), le-ltb (length (endedIn es)) maxTime (omega (arith, b .same-ended))))
+        (λ s at e few.
+        let found = found-there run serial at e in
+        rw (pending-is-open at (found .0) (found .1), lt-ltb (length (endedIn es)) maxTime (omega (arith, b .same-ended)))
+        (ap ended-with (given-by-the-ticks at (found .0) (found .1))))
+
   -- A tick before the clock 2^40 is not refused, since it takes the clock up.
   pub tick-not-refused : run .clock .0 < maxTime → ¬ Refused (eventOf run Call.tick)
   unfolding told
@@ -155,6 +229,12 @@ module _ {t : Table} {run : Run} {es : List Event} (b : Bridge t run es) where
   refused-leaves-the-run Call.tick = by-lt (run .clock .0) maxTime
       (λ in-time refused. absurd (tick-not-refused in-time refused))
       (λ last refused. ap (λ (step : TickStep). step .run) (tick-too-late run (b .sound) last))
+  refused-leaves-the-run (Call.end serial) =
+      each-end run serial (λ step. Refused (Event.end serial (endSays (step .answer))) → step .run ≡ run)
+      (λ unsound refused. refl)
+      (λ s nobody refused. refl)
+      (λ s at e many refused. refl)
+      (λ s at e few refused. absurd (omega (arith, ap (λ (u : Told). length (u .ended)) (refused (told [])))))
 
 -- ---- the promises
 
@@ -165,6 +245,10 @@ releases-by-the-trace bytes ok calls = release-by-the-trace (bridge bytes ok cal
 -- A tick is refused exactly when 2^40 ticks have gone by.
 pub ticks-by-the-trace : TicksByTheTrace
 ticks-by-the-trace bytes ok calls = tick-by-the-trace (bridge bytes ok calls)
+
+-- Every end is answered as the trace says.
+pub ends-by-the-trace : EndsByTheTrace
+ends-by-the-trace bytes ok calls = end-by-the-trace (bridge bytes ok calls)
 
 -- There are never more unfinished jobs than places.
 pub places-are-enough : PlacesAreEnough

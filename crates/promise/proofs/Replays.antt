@@ -1,5 +1,5 @@
 -- A replay is a trace: the proof. Each tick and each release of a replay is one more call of the trace, and the call's answer tells what it adds to the
--- replay. (8.2, 8.3)
+-- replay. A replay has no ends. (8.2, 8.3)
 use Prim.Native.Nat.{ℕ, zero, suc, _+_, _-_, _≤_, _<_}
 use mathlib.Core.Path.{_≡_, refl, sym, ap, subst, _∙_}
 use mathlib.Core.Logic.{_≢_}
@@ -39,14 +39,14 @@ use Rattle.play.specs.Play.{Progress, begun, tickedTo, whole, finalTicks, playe
 use Rattle.play.proofs.SingleTicks.{tick-clock}
 use Rattle.records.proofs.ReadRecords.{passed-is-read}
 use Rattle.play.proofs.KeptThroughout.{releaseMore, Went, by-record, came-to-the-end, was-started}
-use Rattle.promise.specs.Traces.{Call, Event, runAt, eventOf, trace, Told, told, jobsOfTrace, lateIn, finishesIn, jobOfSerial}
+use Rattle.promise.specs.Traces.{Call, Event, runAt, eventOf, trace, Told, told, jobsOfTrace, lateIn, finishesIn, endedIn, jobOfSerial}
 use Rattle.promise.specs.Link.{jobOf}
 use Rattle.promise.specs.Refusals.{Refused}
 use Rattle.promise.specs.Replays.{moreTicks, callsAfter, callsOf, ReplaysAreTraces}
 use Rattle.promise.proofs.RunAndTrace.{Bridge}
 use Rattle.promise.proofs.RunsFollow.{bridge}
 use Rattle.promise.proofs.Units.{pending-is-owed}
-use Rattle.promise.proofs.Ticks.{no-job-by-a-tick, each-tick}
+use Rattle.promise.proofs.Ticks.{no-job-by-a-tick, no-end-by-a-tick, no-end-by-a-release, each-tick}
 use Rattle.promise.proofs.Choice.{first, first-stands, first-pending}
 use Rattle.promise.proofs.Refusals.{pending-count, tick-not-refused}
 
@@ -110,6 +110,40 @@ module _ {t : Table} {run : Run} {es : List Event} (b : Bridge t run es) (row co
   -- An accepted release is not refused.
   release-not-refused : ¬ Refused (eventOf run (Call.release row cost))
   release-not-refused = rw e (λ refused. absurd (omega (arith, ap (λ (u : Told). length (u .jobs)) (refused (told [])))))
+
+-- ---- no job is ended
+
+-- Before any call no job was ended.
+none-ended-at-first : (t : List ℕ) → endedIn (trace t []) ≡ []
+unfolding trace told
+none-ended-at-first t = refl
+
+-- A tick ends no job.
+tick-ends-none : (t : List ℕ) (calls : List Call) → endedIn (trace t calls) ≡ [] → endedIn (trace t (Call.tick ∷ calls)) ≡ []
+unfolding trace
+tick-ends-none t calls none = rw no-end-by-a-tick none
+
+-- A release ends no job.
+release-ends-none : (t : List ℕ) (calls : List Call) (row cost : ℕ) → endedIn (trace t calls) ≡ [] → endedIn (trace t (Call.release row cost ∷ calls)) ≡ []
+unfolding trace
+release-ends-none t calls row cost none = rw no-end-by-a-release none
+
+-- Any number of ticks end no job.
+ticks-end-none : (t : List ℕ) (n : ℕ) (calls : List Call) → endedIn (trace t calls) ≡ [] → endedIn (trace t (moreTicks n calls)) ≡ []
+unfolding moreTicks
+ticks-end-none t zero calls none = none
+ticks-end-none t (suc n) calls none = ticks-end-none t n (Call.tick ∷ calls) (tick-ends-none t calls none)
+
+-- The calls of a script's records end no job.
+records-end-none : (t : List ℕ) (calls : List Call) (rs : List Record) → endedIn (trace t calls) ≡ [] → endedIn (trace t (callsAfter calls rs)) ≡ []
+unfolding callsAfter
+records-end-none t calls [] none = none
+records-end-none t calls (r ∷ rs) none =
+    records-end-none t _ rs (release-ends-none t _ (r .row .0) (r .cost) (ticks-end-none t (r .gap) calls none))
+
+-- A replay ends no job.
+pub replay-ends-none : (t : List ℕ) (rs : List Record) (final : ℕ) → endedIn (trace t (callsOf rs final)) ≡ []
+replay-ends-none t rs final = ticks-end-none t final (callsAfter [] rs) (records-end-none t [] rs (none-ended-at-first t))
 
 -- ---- a replay on its way
 

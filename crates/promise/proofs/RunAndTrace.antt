@@ -1,6 +1,6 @@
--- The bridge from a run to its trace. At every point of a trace the run follows the theory (specs/Link.antt), and has the trace's clock and next serial. For
--- each row it keeps the newest due times of all the row's accepted jobs, and for each server the newest one. From this the promises follow by the theory's
--- theorems.
+-- The bridge from a run to its trace. At every point of a trace the run follows the theory (specs/Link.antt), and has the trace's clock, next serial and number
+-- of ended jobs. For each row it keeps the newest due times of all the row's accepted jobs, and for each server the newest one. From this the promises follow
+-- by the theory's theorems.
 use Prim.Native.Nat.{ℕ, _+_, _≤_, _<_}
 use mathlib.Core.Path.{_≡_}
 use mathlib.Core.Bool.{true}
@@ -17,7 +17,7 @@ use Rattle.run.specs.declared.Run.{Run}
 use Rattle.run.specs.Runs.{rowAt, serverAt}
 use Rattle.run.specs.Sound.{soundOf, Whole}
 use Rattle.run.specs.History.{KeepsHistory}
-use Rattle.promise.specs.Traces.{Event, clockOf, jobsOfTrace}
+use Rattle.promise.specs.Traces.{Event, clockOf, jobsOfTrace, endedIn}
 use Rattle.promise.specs.Link.{Follows}
 
 -- These things hold at every point of a trace.
@@ -28,6 +28,7 @@ pub record Bridge (t : Table) (run : Run) (es : List Event) : Type 0 where
   pub sound : soundOf run ≡ true
   pub same-clock : run .clock .0 ≡ clockOf es
   pub next-serial : run .next .0 ≡ length (jobsOfTrace es)
+  pub same-ended : run .ended ≡ length (endedIn es)
   pub distinct : DistinctNames (jobsOfTrace es)
   pub names-below : All (λ j. j .name < length (jobsOfTrace es)) (jobsOfTrace es)
   pub rows-in-use : All (λ j. j .source < t .count + t .serving) (jobsOfTrace es)

@@ -1,47 +1,53 @@
--- The bridge holds at every point of every trace: at the fresh run that is started on a table's bytes, and after each release and each tick, refused ones
--- included. (6.25)
-use Prim.Native.Nat.{ℕ, _+_, _≤_, _<_}
-use mathlib.Core.Path.{_≡_, refl, ap}
+-- The bridge holds at every point of every trace: at the fresh run that is started on a table's bytes, and after each release, each tick and each end,
+-- refused ones included. (6.25)
+use Prim.Native.Nat.{ℕ, _+_, _-_, _≤_, _<_}
+use mathlib.Core.Path.{_≡_, refl, ap, subst}
 use mathlib.Core.Bool.{true, false}
-use mathlib.Core.List.{List, [], _∷_}
+use mathlib.Core.List.{List, [], _∷_, Memᴰ·map}
 use native.Mathlib.Omega.{arith}
+use lib.ListN.{getD}
 use borrow.Author.Tests.{lt-ltb, le-ltb}
 use Rattle.kinds.specs.declared.Tick.{Tick}
 use Rattle.kinds.specs.Numbering.{maxTime, refusalNumber}
 use Rattle.numbers.specs.SpelledNumbers.{Bytes}
 use Rattle.theory.specs.Jobs.{Job}
-use Rattle.theory.specs.Trace.{begin, ServesEarliestDue, NeverIdlesInVain}
+use Rattle.theory.specs.Trace.{begin, Accounted, ServesEarliestDue, NeverIdlesInVain}
 use Rattle.theory.specs.DueTimes.{dues, Next, ByRule}
 use Rattle.theory.specs.Servers.{serverDue, lastDue, ByServer}
 use Rattle.theory.specs.Sources.{own}
-use Rattle.theory.proofs.Lists.{all-imply}
-use Rattle.theory.proofs.Trace.{released-by-the-clock}
+use Rattle.theory.proofs.Lists.{all-at, all-imply, all-of-members}
+use Rattle.theory.proofs.Trace.{released-by-the-clock, waiting-are-accounted}
 use Rattle.table.specs.declared.Table.{Table}
 use Rattle.table.specs.Tables.{InRange, tableRead}
 use Rattle.table.proofs.SpelledTables.{in-range-means}
+use Rattle.jobs.specs.declared.Job.{Job as PendingJob}
 use Rattle.jobs.specs.declared.Pending.{Pending}
-use Rattle.jobs.specs.Places.{jobsOf}
+use Rattle.jobs.specs.Places.{noJob, jobsOf, used}
 use Rattle.jobs.specs.Choice.{firstPlace}
 use Rattle.jobs.specs.Turns.{oneTick}
 use Rattle.jobs.specs.JobChanges.{IsFirst, WellFormed}
-use Rattle.jobs.proofs.Changes.{choice-is-first, place-holds-job, put-adds-one, after-a-unit}
+use Rattle.jobs.proofs.Changes.{choice-is-first, place-holds-job, put-adds-one, after-a-unit, taken-out-is-without}
 use Rattle.run.specs.declared.Run.{Run}
 use Rattle.run.specs.declared.Accepted.{Accepted}
 use Rattle.run.specs.declared.Released.the-variants as answer
 use Rattle.run.specs.Runs.{rowAt, serverAt, started}
 use Rattle.run.specs.Release.{newJob, withJob, released}
 use Rattle.run.specs.Ticking.{runWith, isTaken, takenTick, idleTick, busyTick, ticked}
+use Rattle.run.specs.Ending.{unitsGiven, withEnded, ended}
 use Rattle.run.specs.History.{GaveDue}
 use Rattle.run.proofs.Fresh.{started-is-sound}
 use Rattle.run.proofs.Release.{Passed, each-release, release-keeps-sound, fresh-has-no-history, due-by-whole-history}
 use Rattle.run.proofs.Ticking.{Good, facts, counted, taken-keeps, idle-keeps, busy-keeps}
-use Rattle.run.specs.Answers.{accepted, releaseSays, TickSays, idle, taken, tickSays}
+use Rattle.run.proofs.Ending.{each-end, found-there, end-keeps-sound}
+use Rattle.run.specs.Answers.{accepted, releaseSays, TickSays, idle, taken, tickSays, ended-with, endSays}
 use Rattle.run.specs.Answers as says
-use Rattle.promise.specs.Traces.{Call, Event, runAt, trace, told, clockOf, jobsOfTrace}
-use Rattle.promise.specs.Link.{Follows, RunsFollowTheTheory}
+use Rattle.promise.specs.Traces.{Call, Event, runAt, trace, told, clockOf, jobsOfTrace, ticksOf, jobOfSerial, endedIn}
+use Rattle.promise.specs.Link.{jobOf, waitingOf, leftEarly, Follows, RunsFollowTheTheory}
 use Rattle.promise.proofs.RunAndTrace.{Bridge}
-use Rattle.promise.proofs.Waiting.{follows-refused-release, follows-refused-tick, follows-accepted, follows-taken, follows-idle, follows-ran}
-use Rattle.promise.proofs.Ticks.{no-job-by-a-tick, each-tick}
+use Rattle.promise.proofs.Waiting.{member-at, follows-refused-release, follows-refused-tick, follows-refused-end}
+use Rattle.promise.proofs.Waiting.{follows-accepted, follows-taken, follows-idle, follows-ran, follows-ended}
+use Rattle.promise.proofs.Ended.{finds-the-job, ended-below, leavers-stay}
+use Rattle.promise.proofs.Ticks.{no-job-by-a-tick, no-end-by-a-tick, each-tick}
 use Rattle.promise.proofs.Histories.{duesOf, dues-with, latest-by, by-rule-with, by-server-with}
 
 module _ {t : Table} {run : Run} {es : List Event} (b : Bridge t run es) where
@@ -61,6 +67,7 @@ module _ {t : Table} {run : Run} {es : List Event} (b : Bridge t run es) where
     sound = b .sound;
     same-clock = b .same-clock;
     next-serial = b .next-serial;
+    same-ended = b .same-ended;
     distinct = b .distinct;
     names-below = b .names-below;
     rows-in-use = b .rows-in-use;
@@ -87,9 +94,11 @@ module _ {t : Table} {run : Run} {es : List Event} (b : Bridge t run es) where
 
     -- The accepted job waits behind all others.
     job-waits : Follows next longer
+    unfolding told
     job-waits =
         let form : WellFormed (run .pending) = record { all-places = b .whole .all-places; in-places = facts run good .few-pending } in
         follows-accepted (b .follows) row cost due (p .some-cost) (b .same-clock) (put-adds-one (run .pending) (newJob run row cost due) form (p .room))
+        (leavers-stay b job (b .next-serial) (endedIn es) (all-of-members (endedIn es) (ended-below b)))
 
     -- In this part, the due time was given by the rule over all accepted jobs of the row number.
     module _ (gave : GaveDue run (duesOf (jobsOfTrace es)) row cost (due .0) next) where
@@ -119,6 +128,7 @@ module _ {t : Table} {run : Run} {es : List Event} (b : Bridge t run es) where
       sound = still .0;
       same-clock = b .same-clock;
       next-serial = omega (arith, b .next-serial);
+      same-ended = b .same-ended;
       distinct = (all-imply (λ i h q. omega (arith, b .next-serial)) (jobsOfTrace es) (b .names-below), b .distinct);
       names-below = (omega (arith, b .next-serial), all-imply (λ i h. omega arith) (jobsOfTrace es) (b .names-below));
       rows-in-use = (rw (b .same-table) at (p .in-use), b .rows-in-use);
@@ -150,13 +160,14 @@ module _ {t : Table} {run : Run} {es : List Event} (b : Bridge t run es) where
   -- A tick keeps the bridge, since it accepts no job and leaves the kept and last due times alone.
   tick-keeps : (clock : ℕ) (p : Pending) (a : TickSays) (late : ℕ) → Good (runWith run clock p) → clock ≡ clockOf (Event.tick a late ∷ es)
       → Follows (runWith run clock p) (Event.tick a late ∷ es) → Bridge t (runWith run clock p) (Event.tick a late ∷ es)
-  tick-keeps clock p a late still same-clock follows = let no-job = no-job-by-a-tick a late es in record {
+  tick-keeps clock p a late still same-clock follows = let no-job = no-job-by-a-tick a late es in let no-end = no-end-by-a-tick a late es in record {
     table-in-range = b .table-in-range;
     same-table = b .same-table;
     whole = still .1;
     sound = still .0;
     same-clock = same-clock;
     next-serial = rw no-job (b .next-serial);
+    same-ended = rw no-end (b .same-ended);
     distinct = rw no-job (b .distinct);
     names-below = rw no-job (b .names-below);
     rows-in-use = rw no-job (b .rows-in-use);
@@ -209,6 +220,81 @@ module _ {t : Table} {run : Run} {es : List Event} (b : Bridge t run es) where
       idle-tick-keeps
       busy-tick-keeps
 
+  -- ---- an end
+
+  -- A refused end keeps the bridge, since it changes nothing.
+  refused-end-keeps : (serial number place : ℕ) → Bridge t run (Event.end serial (says.EndingSays.refused number place) ∷ es)
+  unfolding told
+  refused-end-keeps serial number place = record {
+    table-in-range = b .table-in-range;
+    same-table = b .same-table;
+    whole = b .whole;
+    sound = b .sound;
+    same-clock = b .same-clock;
+    next-serial = b .next-serial;
+    same-ended = b .same-ended;
+    distinct = b .distinct;
+    names-below = b .names-below;
+    rows-in-use = b .rows-in-use;
+    some-cost = b .some-cost;
+    follows = follows-refused-end (b .follows) serial number place;
+    keeps-history = b .keeps-history;
+    by-rule = b .by-rule;
+    by-server = b .by-server;
+  }
+
+  -- In this module the pending job at a place, which has the serial, is ended.
+  module _ (serial at : ℕ) (inside : at < used (run .pending)) (its : getD (jobsOf (run .pending)) at noJob .serial .0 ≡ serial) where
+    -- `gone` is the job that is ended.
+    abbrev gone : PendingJob
+    gone = getD (jobsOf (run .pending)) at noJob
+
+    -- The end answers the units that the job was given.
+    abbrev with-end : List Event
+    with-end = Event.end serial (ended-with (unitsGiven gone)) ∷ es
+
+    -- By the answer the job that is ended left early, with the units that it had left.
+    leaves-with-the-rest : leftEarly with-end ≡ waitingOf gone ∷ leftEarly es
+    unfolding told
+    leaves-with-the-rest =
+        let owed = all-at (Accounted (jobsOfTrace es) (ticksOf es)) (waiting-are-accounted (b .follows .events) (b .distinct))
+        (Memᴰ·map waitingOf (member-at noJob (jobsOf (run .pending)) at inside)) in
+        let same : jobOfSerial serial (jobsOfTrace es) ≡ jobOf gone =
+        subst (λ s. jobOfSerial s (jobsOfTrace es) ≡ jobOf gone) its (finds-the-job (b .distinct) (owed .was-accepted)) in
+        let rest : gone .cost - unitsGiven gone ≡ gone .left = omega (arith, owed .had-the-rest) in
+        rw (same, rest)
+
+    -- The bridge holds after an end that is done.
+    done-end-keeps : Good (withEnded run at) → Bridge t (withEnded run at) with-end
+    unfolding told
+    done-end-keeps still = record {
+      table-in-range = b .table-in-range;
+      same-table = b .same-table;
+      whole = still .1;
+      sound = still .0;
+      same-clock = b .same-clock;
+      next-serial = b .next-serial;
+      same-ended = omega (arith, b .same-ended);
+      distinct = b .distinct;
+      names-below = b .names-below;
+      rows-in-use = b .rows-in-use;
+      some-cost = b .some-cost;
+      follows = follows-ended (b .follows) serial (unitsGiven gone) at inside (taken-out-is-without (run .pending) at) leaves-with-the-rest;
+      keeps-history = record { newest = b .keeps-history .newest; last = b .keeps-history .last };
+      by-rule = b .by-rule;
+      by-server = b .by-server;
+    }
+
+  -- The bridge holds after an end, whatever its answer is.
+  pub end-keeps-bridge : (serial : ℕ) → Bridge t (ended run serial .run) (Event.end serial (endSays (ended run serial .answer)) ∷ es)
+  end-keeps-bridge serial =
+      each-end run serial (λ step. Good (step .run) → Bridge t (step .run) (Event.end serial (endSays (step .answer)) ∷ es))
+      (λ unsound still. refused-end-keeps serial _ _)
+      (λ s nobody still. refused-end-keeps serial _ _)
+      (λ s at e many still. refused-end-keeps serial _ _)
+      (λ s at e few still. let there = found-there run serial at e in done-end-keeps serial at (there .0) (there .1) still)
+      (end-keeps-sound run serial (b .whole) (b .sound))
+
 -- ---- every point of every trace
 
 -- The table of a sound run is in range.
@@ -239,6 +325,7 @@ bridge-of-started bytes fine =
       sound = still .0;
       same-clock = refl;
       next-serial = refl;
+      same-ended = refl;
       distinct = tt;
       names-below = tt;
       rows-in-use = tt;
@@ -255,6 +342,7 @@ unfolding runAt trace
 bridge bytes fine [] = bridge-of-started bytes fine
 bridge bytes fine (Call.release row cost ∷ calls) = release-keeps-bridge (bridge bytes fine calls) row cost
 bridge bytes fine (Call.tick ∷ calls) = tick-keeps-bridge (bridge bytes fine calls)
+bridge bytes fine (Call.end serial ∷ calls) = end-keeps-bridge (bridge bytes fine calls) serial
 
 -- After any calls the run follows the theory.
 pub runs-follow-the-theory : RunsFollowTheTheory

@@ -2,10 +2,13 @@
 -- the log was written from the trace's finished jobs. (6.26, 8.8, 9.5)
 use Prim.Native.Nat.{ℕ, _-_}
 use mathlib.Core.Path.{_≡_, refl, sym, ap, subst, _∙_}
+use mathlib.Core.Logic.{⊎-elim}
+use mathlib.Core.Bool.{false}
 use mathlib.Core.List.{List, [], _∷_, _++_, map, reverse, List·Memᴰ}
 use native.Mathlib.Omega.{arith}
 use lib.Dec.{leb, eqb}
 use lib.ListN.{length, drop, length-map, length-reverse}
+use Rattle.kinds.proofs.Apart.{impossible}
 use Rattle.kinds.proofs.Numbering.{no-answer}
 use Rattle.numbers.specs.SpelledNumbers.{Bytes}
 use Rattle.theory.specs.Jobs.{Job}
@@ -22,7 +25,7 @@ use Rattle.play.specs.LogRecords.{AskedFor}
 use Rattle.play.proofs.WholePlays.{every-record-is-accepted}
 use Rattle.host.specs.Answer.{answerLength}
 use Rattle.host.proofs.Answering.{replay-of-another-size, replay-of-sixteen}
-use Rattle.promise.specs.Traces.{Call, trace, clockOf, jobsOfTrace, unfinishedIn}
+use Rattle.promise.specs.Traces.{Call, trace, clockOf, jobsOfTrace, endedIn, wasEnded, unfinishedIn}
 use Rattle.promise.specs.Link.{jobOf}
 use Rattle.promise.specs.InTime.{SaidFeasible, unitsOfTraceBefore}
 use Rattle.promise.specs.Replays.{callsOf, IsTheTrace, ServedInTime, ServedInTimeAtHostCalls}
@@ -32,19 +35,22 @@ use Rattle.promise.proofs.Refusals.{pending-count}
 use Rattle.promise.proofs.Share.{share}
 use Rattle.promise.proofs.Earlier.{in-time-before-due}
 use Rattle.promise.proofs.AtHost.{call-said-feasible}
-use Rattle.promise.proofs.Replays.{replays-are-traces}
+use Rattle.promise.proofs.Replays.{replay-ends-none, replays-are-traces}
 
 -- ---- the jobs of a trace that ends with none unfinished
 
--- Where no accepted job is unfinished, each had its cost before its due time, whether or not the clock has come there.
+-- Where no accepted job is unfinished and none was ended early, each had its cost before its due time, whether or not the clock has come there.
 had-before-due : (bytes : List ℕ) → Bytes bytes → SaidFeasible bytes → (calls : List Call) → unfinishedIn (trace bytes calls) ≡ 0
+    → endedIn (trace bytes calls) ≡ []
     → (j : Job) → List·Memᴰ j (jobsOfTrace (trace bytes calls)) → unitsOfTraceBefore (j .due) (j .name) (trace bytes calls) ≡ j .cost
-had-before-due bytes fine said calls none j m = by-lt (clockOf (trace bytes calls)) (j .due)
+had-before-due bytes fine said calls none none-ended j m =
+    let stays : wasEnded (trace bytes calls) j ≡ false = rw none-ended in
+    by-lt (clockOf (trace bytes calls)) (j .due)
     (λ early.
     let b = bridge bytes fine calls in
     let no-more : clockOf (trace bytes calls) - j .due ≡ 0 = omega arith in
-    rw no-more (none-pending b (pending-count b ∙ none) j m))
-    (λ due. in-time-before-due bytes fine said calls j m due)
+    rw no-more (⊎-elim (λ gone. impossible cc) (λ had. had) (none-pending b (pending-count b ∙ none) j m)))
+    (λ due. in-time-before-due bytes fine said calls j m stays due)
 
 -- The jobs that some records ask for are as many as the records.
 as-many-as-asked : (time : ℕ) (rs : List Record) (js : List PendingJob) → AskedFor time rs js → length js ≡ length rs
@@ -103,7 +109,7 @@ module _ (table script : List ℕ) (fine : Bytes table) (fine′ : Bytes script)
           as-many-as-asked 0 (asked .0) (p .accepted) (asked .2),
           ap length same-records,
         );
-        had-in-time = had-before-due table fine said calls (is .none-unfinished);
+        had-in-time = had-before-due table fine said calls (is .none-unfinished) (replay-ends-none table (is .records) (is .final));
         share = share table fine calls;
         its-log = subst (λ fs. logLeft table script log ≡ spelledLog fs ++ drop (length (spelledLog fs)) log) (is .same-finishes) (log-left end);
       }

@@ -1,5 +1,6 @@
 -- A tick of a sound run has four answers. It is refused with 10 at the clock 2^40. Else it is taken where the timer takes it. Where it is free, it is idle with
--- nothing pending, and with something pending it ran the job that goes first. (6.5, 6.12, 6.16)
+-- nothing pending, and with something pending it ran the job that goes first. Before this the page shows that a tick neither accepts nor ends a job, that a
+-- release ends none and leaves the clock, and that an end accepts none and leaves the clock. (6.5, 6.12, 6.16, 6.28)
 use Prim.Native.Nat.{ℕ, _≤_, _<_}
 use mathlib.Core.Path.{_≡_, refl}
 use mathlib.Core.Bool.{true, false}
@@ -12,10 +13,10 @@ use Rattle.run.specs.declared.Run.{Run}
 use Rattle.run.specs.declared.TickStep.{TickStep}
 use Rattle.run.specs.Sound.{soundOf}
 use Rattle.run.specs.Ticking.{refusedTick, isTaken, takenTick, idleTick, busyTick, ticked}
-use Rattle.run.specs.Answers.{ReleaseSays, accepted, TickSays, idle, ran, taken}
+use Rattle.run.specs.Answers.{ReleaseSays, accepted, TickSays, idle, ran, taken, EndingSays, ended-with}
 use Rattle.run.specs.Answers as says
 use Rattle.run.proofs.Ticking.{tick-too-late, tick-taken, tick-idle, tick-busy}
-use Rattle.promise.specs.Traces.{Event, told, clockOf, jobsOfTrace}
+use Rattle.promise.specs.Traces.{Event, told, clockOf, jobsOfTrace, endedIn}
 
 -- A tick tells about no job, whatever its answer is.
 pub no-job-by-a-tick : (a : TickSays) (late : ℕ) (es : List Event) → jobsOfTrace (Event.tick a late ∷ es) ≡ jobsOfTrace es
@@ -30,6 +31,32 @@ pub no-tick-by-a-release : (row cost : ℕ) (a : ReleaseSays) (es : List Event) 
 unfolding told
 no-tick-by-a-release row cost (accepted serial due) es = refl
 no-tick-by-a-release row cost (says.ReleaseSays.refused number place) es = refl
+
+-- A tick tells about no end, whatever its answer is.
+pub no-end-by-a-tick : (a : TickSays) (late : ℕ) (es : List Event) → endedIn (Event.tick a late ∷ es) ≡ endedIn es
+unfolding told
+no-end-by-a-tick idle late es = refl
+no-end-by-a-tick (ran serial fin) late es = refl
+no-end-by-a-tick taken late es = refl
+no-end-by-a-tick (says.TickSays.refused number place) late es = refl
+
+-- A release tells about no end, whatever its answer is.
+pub no-end-by-a-release : (row cost : ℕ) (a : ReleaseSays) (es : List Event) → endedIn (Event.release row cost a ∷ es) ≡ endedIn es
+unfolding told
+no-end-by-a-release row cost (accepted serial due) es = refl
+no-end-by-a-release row cost (says.ReleaseSays.refused number place) es = refl
+
+-- An end tells about no job, whatever its answer is.
+pub no-job-by-an-end : (serial : ℕ) (a : EndingSays) (es : List Event) → jobsOfTrace (Event.end serial a ∷ es) ≡ jobsOfTrace es
+unfolding told
+no-job-by-an-end serial (ended-with units) es = refl
+no-job-by-an-end serial (says.EndingSays.refused number place) es = refl
+
+-- An end tells about no tick, whatever its answer is.
+pub no-tick-by-an-end : (serial : ℕ) (a : EndingSays) (es : List Event) → clockOf (Event.end serial a ∷ es) ≡ clockOf es
+unfolding told
+no-tick-by-an-end serial (ended-with units) es = refl
+no-tick-by-an-end serial (says.EndingSays.refused number place) es = refl
 
 -- What holds for each of the four answers, where it is given, holds for the tick.
 pub each-tick : (run : Run) → soundOf run ≡ true → (P : TickStep → Type 0)

@@ -1,12 +1,12 @@
--- Units. An accepted job that has had fewer units than its cost is a pending one, and conversely. So a sum over the unfinished accepted jobs is the same sum
--- over the pending ones. (1.7)
+-- Units. An accepted job that has had fewer units than its cost and was not ended early is a pending one, and conversely. So a sum over the unfinished accepted
+-- jobs is the same sum over the pending ones. (1.7, 6.29)
 use Prim.Native.Nat.{ℕ, _+_, _≤_}
 use mathlib.Core.Path.{_≡_, refl, sym, ap, subst, _∙_}
 use mathlib.Core.Logic.{_≢_}
 use mathlib.Core.Bool.{Bool, true, false, not}
-use mathlib.Core.List.{List, [], _∷_, List·Memᴰ, List·Memᴰ·not-nil, Memᴰ·map, Memᴰ·of-map}
+use mathlib.Core.List.{List, [], _∷_, List·Memᴰ, Memᴰ·map, Memᴰ·of-map}
 use native.Mathlib.Omega.{arith}
-use lib.Dec.{eqb}
+use lib.Dec.{eqb, ltb}
 use borrow.Author.Tests.{ltb-true, ltb-false, lt-ltb, eq-eqb, ne-eqb, eqb-false, not-true}
 use Rattle.kinds.proofs.Apart.{impossible}
 use Rattle.theory.specs.Lists.{All, total, weightIf}
@@ -25,9 +25,10 @@ use Rattle.jobs.proofs.Changes.{distinct-means}
 use Rattle.run.specs.declared.Run.{Run}
 use Rattle.run.specs.Sound.{Sound}
 use Rattle.run.proofs.Ticking.{facts}
-use Rattle.promise.specs.Traces.{Event, jobsOfTrace, ticksOf, unitsOf, unfinished}
-use Rattle.promise.specs.Link.{jobOf, waitingOf, waitingIn}
+use Rattle.promise.specs.Traces.{Event, jobsOfTrace, ticksOf, unitsOf, wasEnded, unfinished}
+use Rattle.promise.specs.Link.{jobOf, waitingOf, waitingIn, leftEarly}
 use Rattle.promise.proofs.RunAndTrace.{Bridge}
+use Rattle.promise.proofs.Ended.{left-early-was-ended, pending-not-ended}
 
 -- ---- sums
 
@@ -97,22 +98,29 @@ module _ {t : Table} {run : Run} {es : List Event} (b : Bridge t run es) where
 
   -- A pending job is unfinished.
   pub pending-is-unfinished : (p : PendingJob) → List·Memᴰ p (jobsOf (run .pending)) → unfinished es (jobOf p) ≡ true
-  pending-is-unfinished p m = let o = pending-is-owed p m in lt-ltb (unitsOf (p .serial .0) es) (p .cost) (omega arith)
+  pending-is-unfinished p m = let o = pending-is-owed p m in rw (pending-not-ended b p m) (lt-ltb (unitsOf (p .serial .0) es) (p .cost) (omega arith))
 
   -- An unfinished accepted job is pending.
   pub unfinished-is-pending : (j : Job) → List·Memᴰ j (jobsOfTrace es) → unfinished es j ≡ true → IsPending run j
   unfinished-is-pending j m h = by-fate (all-at _ (every-job-has-its-fate (b .follows .events) (b .distinct)) m)
     where
-      by-fate : Fate j (waitingIn run) (ticksOf es) [] → IsPending run j
+      -- The job was not ended, and has had fewer units than its cost.
+      parts : (not (wasEnded es j) ≡ true) × (ltb (unitsOf (j .name) es) (j .cost) ≡ true)
+      parts = both-true (not (wasEnded es j)) (ltb (unitsOf (j .name) es) (j .cost)) h
+
+      by-fate : Fate j (waitingIn run) (ticksOf es) (leftEarly es) → IsPending run j
       by-fate (waits u) =
           let found = Memᴰ·of-map waitingOf (jobsOf (run .pending)) (u .among) in
           record { place = found .0; pending = found .1; its-own = ap (λ (w : Waiting). w .job) (found .2) }
-      by-fate (over (served e)) = absurd (omega (arith, e, ltb-true (unitsOf (j .name) es) (j .cost) h))
-      by-fate (over (ended u)) = absurd (List·Memᴰ·not-nil (u .among))
+      by-fate (over (served e)) = absurd (omega (arith, e, ltb-true (unitsOf (j .name) es) (j .cost) (parts .1)))
+      by-fate (over (ended u)) =
+          let gone : wasEnded es j ≡ true = left-early-was-ended b j (u .left) (u .among) in
+          let stays : wasEnded es j ≡ false = not-true (wasEnded es j) (parts .0) in
+          impossible cc
 
-  -- An accepted job that is not unfinished has had exactly its cost.
-  pub finished-had-its-cost : (j : Job) → List·Memᴰ j (jobsOfTrace es) → unfinished es j ≡ false → unitsOf (j .name) es ≡ j .cost
-  finished-had-its-cost j m h = omega (arith, never-more-units j m, ltb-false (unitsOf (j .name) es) (j .cost) h)
+  -- An accepted job that is not unfinished and was not ended has had exactly its cost.
+  pub finished-had-its-cost : (j : Job) → List·Memᴰ j (jobsOfTrace es) → wasEnded es j ≡ false → unfinished es j ≡ false → unitsOf (j .name) es ≡ j .cost
+  finished-had-its-cost j m stays h = omega (arith, never-more-units j m, ltb-false (unitsOf (j .name) es) (j .cost) (rw stays at h))
 
   -- ---- sums over the unfinished
 

@@ -1,9 +1,11 @@
 -- Waiting jobs: the pending jobs in the theory's terms, and the theory's trace one event longer. A job that is put in comes last. A job that gets a unit leaves
--- its place, or goes back to it with one unit less to get. In a taken tick every job stays where it is. (6.5, 6.7, 6.10, 6.13)
+-- its place, or goes back to it with one unit less to get. In a taken tick every job stays where it is. A job that is ended leaves its place and stands among
+-- the jobs that left early. (6.5, 6.7, 6.10, 6.13, 6.27)
 use Prim.Native.Nat.{ℕ, zero, suc, _-_, _≤_, _<_, suc-le-suc}
-use mathlib.Core.Path.{_≡_, refl}
+use mathlib.Core.Path.{_≡_, refl, sym, subst}
 use mathlib.Core.Bool.{Bool, true, false}
-use mathlib.Core.List.{List, [], _∷_, _++_, map, map-append}
+use mathlib.Core.Option.{Option}
+use mathlib.Core.List.{List, [], _∷_, _++_, map, map-append, List·Memᴰ, List·Memᴰ·head, List·Memᴰ·tail}
 use native.Mathlib.Nat.{not-suc-le-zero, le-of-suc-le-suc}
 use native.Mathlib.Omega.{arith}
 use native.Mathlib.Decide.{decLe}
@@ -12,7 +14,7 @@ use borrow.Author.Tests.{le-leb, lt-leb}
 use Rattle.kinds.specs.declared.Tick.{Tick}
 use Rattle.theory.specs.Lists.{All, Insert, here, there}
 use Rattle.theory.specs.Jobs.{Job}
-use Rattle.theory.specs.Trace.{Waiting, Onward, done, on, accept, lost, serve, ServesEarliestDue, NeverIdlesInVain}
+use Rattle.theory.specs.Trace.{Waiting, Onward, done, on, Trace, accept, lost, serve, leave, ServesEarliestDue, NeverIdlesInVain}
 use Rattle.theory.specs.Trace as theory
 use Rattle.jobs.specs.declared.Job.{Job as PendingJob}
 use Rattle.jobs.specs.declared.Pending.{Pending}
@@ -22,10 +24,11 @@ use Rattle.jobs.specs.JobChanges.{IsFirst, unitAt}
 use Rattle.run.specs.declared.Run.{Run}
 use Rattle.run.specs.Release.{newJob, withJob}
 use Rattle.run.specs.Ticking.{runWith}
-use Rattle.run.specs.Answers.{accepted, idle, ran, taken}
+use Rattle.run.specs.Ending.{withEnded}
+use Rattle.run.specs.Answers.{accepted, idle, ran, taken, ended-with}
 use Rattle.run.specs.Answers as says
 use Rattle.promise.specs.Traces.{Event, told, clockOf}
-use Rattle.promise.specs.Link.{waitingOf, waitingIn, takenOn, Follows}
+use Rattle.promise.specs.Link.{waitingOf, waitingIn, takenOn, leftEarly, Follows}
 
 -- ---- an element and its place
 
@@ -40,6 +43,12 @@ module _ {A : Type 0} where
   insert-at d [] i h = absurd (not-suc-le-zero h)
   insert-at d (a ∷ l) zero h = here
   insert-at d (a ∷ l) (suc i) h = there (insert-at d l i (le-of-suc-le-suc h))
+
+  -- The element at a place stands in the list.
+  pub member-at : (d : A) (l : List A) (i : ℕ) → i < length l → List·Memᴰ (getD l i d) l
+  member-at d [] i h = absurd (not-suc-le-zero h)
+  member-at d (a ∷ l) zero h = List·Memᴰ·head refl
+  member-at d (a ∷ l) (suc i) h = List·Memᴰ·tail (member-at d l i (le-of-suc-le-suc h))
 
   -- An element that replaces the one at a place is put into the list without that one.
   insert-set : (a : A) (l : List A) (i : ℕ) → i < length l → Insert a (without l i) (set l i a)
@@ -104,6 +113,13 @@ module _ (js : List PendingJob) (at : ℕ) where
 
 -- ---- the theory's trace, one event longer
 
+-- A trace that follows the rules of choice is one with any list of leavers that is equal to its own.
+same-leavers : {takes : ℕ → Bool} {t : ℕ} {waiting : List Waiting} {jobs : List Job} {ticks : List (Option ℕ)} {l m : List Waiting}
+    → l ≡ m → (r : Trace takes t waiting jobs ticks l) → ServesEarliestDue r → NeverIdlesInVain r
+    → (q : Trace takes t waiting jobs ticks m) × ServesEarliestDue q × NeverIdlesInVain q
+same-leavers {takes = takes} {t = t} {waiting = waiting} {jobs = jobs} {ticks = ticks} same r earliest busy =
+    subst (λ k. (q : Trace takes t waiting jobs ticks k) × ServesEarliestDue q × NeverIdlesInVain q) same (r, earliest, busy)
+
 module _ {run : Run} {es : List Event} (f : Follows run es) where
   -- A refused release is no event of the theory's trace.
   pub follows-refused-release : (row cost number place : ℕ) → Follows run (Event.release row cost (says.ReleaseSays.refused number place) ∷ es)
@@ -115,16 +131,36 @@ module _ {run : Run} {es : List Event} (f : Follows run es) where
   unfolding told
   follows-refused-tick number place late = record { events = f .events; earliest-due = f .earliest-due; never-idle = f .never-idle }
 
-  -- An accepted job is put behind the pending jobs, released at the clock, with all of its cost left.
+  -- A refused end is no event of the theory's trace.
+  pub follows-refused-end : (serial number place : ℕ) → Follows run (Event.end serial (says.EndingSays.refused number place) ∷ es)
+  unfolding told
+  follows-refused-end serial number place = record { events = f .events; earliest-due = f .earliest-due; never-idle = f .never-idle }
+
+  -- The job at a place that is ended waits no more. It stands in front of the jobs that left early before it.
+  pub follows-ended : (serial units at : ℕ) → at < length (jobsOf (run .pending))
+      → jobsOf (withEnded run at .pending) ≡ without (jobsOf (run .pending)) at
+      → leftEarly (Event.end serial (ended-with units) ∷ es) ≡ waitingOf (getD (jobsOf (run .pending)) at noJob) ∷ leftEarly es
+      → Follows (withEnded run at) (Event.end serial (ended-with units) ∷ es)
+  unfolding told ServesEarliestDue NeverIdlesInVain
+  follows-ended serial units at inside others leavers =
+      let js = jobsOf (run .pending) in
+      let gone : Insert (waitingOf (getD js at noJob)) (waitingIn (withEnded run at)) (waitingIn run) =
+      rw others (insert-map waitingOf (insert-at noJob js at inside)) in
+      let longer = same-leavers (sym leavers) (leave (f .events) (waitingOf (getD js at noJob)) gone) (f .earliest-due) (f .never-idle) in
+      record { events = longer .0; earliest-due = longer .1; never-idle = longer .2 }
+
+  -- An accepted job is put behind the pending jobs, released at the clock, with all of its cost left. The jobs that left early are those that had left before.
   pub follows-accepted : (row cost : ℕ) (due : Tick) → 1 ≤ cost → run .clock .0 ≡ clockOf es
       → jobsOf (withJob run row cost due .pending) ≡ jobsOf (run .pending) ++ (newJob run row cost due ∷ [])
+      → leftEarly (Event.release row cost (accepted (run .next .0) (due .0)) ∷ es) ≡ leftEarly es
       → Follows (withJob run row cost due) (Event.release row cost (accepted (run .next .0) (due .0)) ∷ es)
   unfolding told ServesEarliestDue NeverIdlesInVain
-  follows-accepted row cost due some-cost clock jobs =
+  follows-accepted row cost due some-cost clock jobs leavers =
       let job : Job = record { name = run .next .0; source = row; release = clockOf es; due = due .0; cost = cost } in
       let put : Insert (record { job = job; left = cost }) (waitingIn run) (waitingIn (withJob run row cost due)) =
       rw (jobs, ← clock) (waits-last (jobsOf (run .pending)) (newJob run row cost due)) in
-      record { events = accept (f .events) job refl some-cost put; earliest-due = f .earliest-due; never-idle = f .never-idle }
+      let longer = same-leavers (sym leavers) (accept (f .events) job refl some-cost put) (f .earliest-due) (f .never-idle) in
+      record { events = longer .0; earliest-due = longer .1; never-idle = longer .2 }
 
   module _ (clock late : ℕ) where
     -- A tick that the timer takes is lost, and what waits waits on.

@@ -30,10 +30,12 @@ use Rattle.verdict.proofs.RowsAlone.{judged-by-rows-alone}
 use Rattle.run.specs.declared.Run.{Run}
 use Rattle.run.specs.Sound.{soundOf}
 use Rattle.run.specs.Ticking.{refusedTick, isTaken, takenTick, idleTick, busyTick, ticked}
+use Rattle.run.specs.Ending.{ended}
 use Rattle.run.proofs.Release.{each-release}
 use Rattle.run.proofs.Ticking.{taken-means, tick-without-timer}
+use Rattle.run.proofs.Ending.{each-end}
 use Rattle.promise.specs.Traces.{Call, runAt, trace, clockOf, jobsOfTrace, ticksOf}
-use Rattle.promise.specs.Link.{waitingIn, takenOn}
+use Rattle.promise.specs.Link.{waitingIn, takenOn, leftEarly}
 use Rattle.promise.specs.NoOrder.{namedJobs, Serves}
 use Rattle.promise.specs.Replays.{callsOf}
 use Rattle.promise.specs.WithoutATimer.{SaysRowsAlone, SpelledAsBefore, FeasibleByRowsAlone, OverloadedByRowsAlone, FeasibleIsThePapers}
@@ -105,6 +107,12 @@ tick-keeps-table run = by-tests (soundOf run) (ltb (run .clock .0) maxTime) (isT
     by-tests true true false true = refl
     by-tests true true false false = refl
 
+-- An end leaves the table as it is.
+end-keeps-table : (run : Run) (serial : ℕ) → ended run serial .run .table ≡ run .table
+end-keeps-table run serial =
+    each-end run serial (λ step. step .run .table ≡ run .table) (λ unsound. refl) (λ sound nobody. refl) (λ sound at found many. refl)
+    (λ sound at found few. refl)
+
 -- After any calls on any bytes, the run has the table that was read.
 same-table : (bytes : List ℕ) (calls : List Call) → runAt bytes calls .table ≡ tableRead bytes .table
 unfolding runAt
@@ -113,6 +121,7 @@ same-table bytes (Call.release row cost ∷ calls) =
     each-release (runAt bytes calls) row cost (λ step. step .run .table ≡ tableRead bytes .table) (λ r. same-table bytes calls)
     (λ t p given. same-table bytes calls)
 same-table bytes (Call.tick ∷ calls) = tick-keeps-table (runAt bytes calls) ∙ same-table bytes calls
+same-table bytes (Call.end serial ∷ calls) = end-keeps-table (runAt bytes calls) serial ∙ same-table bytes calls
 
 module _ {bytes : List ℕ} {rows : List Row} (says : SaysRowsAlone bytes rows) (calls : List Call) where
   -- After any calls, the s of the run's timer is 0.
@@ -135,7 +144,7 @@ traces-have-all-ticks-free bytes fine rows says calls =
     let es = trace bytes calls in
     let follows = runs-follow-the-theory bytes fine calls in
     let free = subst
-    (λ taken. (events : Trace taken (clockOf es) (waitingIn (runAt bytes calls)) (jobsOfTrace es) (ticksOf es) []) × ServesEarliestDue events
+    (λ taken. (events : Trace taken (clockOf es) (waitingIn (runAt bytes calls)) (jobsOfTrace es) (ticksOf es) (leftEarly es)) × ServesEarliestDue events
     × NeverIdlesInVain events)
     (still-none-taken says calls)
     (follows .events, follows .earliest-due, follows .never-idle) in

@@ -37,6 +37,7 @@ use Rattle.verdict.specs.Verdict.{RightFor, Judged}
 use Rattle.verdict.specs.RowsAlone.{demandOfRowsAndTimer}
 use Rattle.verdict.proofs.RowsAlone.{judged-without-servers}
 use Rattle.run.proofs.Release.{each-release, last-by-row}
+use Rattle.run.proofs.Ending.{each-end}
 use Rattle.run.proofs.WithoutServers.{release-without-servers}
 use Rattle.promise.specs.Traces.{Call, runAt}
 use Rattle.promise.specs.Sources.{Source, sourcesOf}
@@ -92,6 +93,11 @@ no-last-due-time-moves bytes fine s p rows says (Call.tick ∷ calls) =
     let run = runAt bytes calls in
     each-tick run (bridge bytes fine calls .sound) (λ step. step .run .last ≡ run .last) (λ late. refl) (λ in-time takes. refl)
     (λ in-time free none. refl) (λ in-time free some. refl)
+    ∙ no-last-due-time-moves bytes fine s p rows says calls
+no-last-due-time-moves bytes fine s p rows says (Call.end serial ∷ calls) =
+    let run = runAt bytes calls in
+    each-end run serial (λ step. step .run .last ≡ run .last) (λ unsound. refl) (λ sound nobody. refl) (λ sound at found many. refl)
+    (λ sound at found few. refl)
     ∙ no-last-due-time-moves bytes fine s p rows says calls
 
 -- ---- what a length names

@@ -4,7 +4,7 @@
 -- of any bytes. (1.19, 6.5, 6.10, 6.11, 6.12, 6.14)
 use Prim.Native.Nat.{ℕ, suc, _+_, _%_, _≤_, _<_}
 use mathlib.Core.Path.{_≡_}
-use mathlib.Core.Logic.{_↔_}
+use mathlib.Core.Logic.{_↔_, _⊎_}
 use mathlib.Core.Bool.{Bool, true, _&&_}
 use mathlib.Core.List.{List, _∷_, List·Memᴰ}
 use lib.Dec.{eqb}
@@ -15,7 +15,7 @@ use Rattle.theory.specs.Jobs.{Job}
 use Rattle.table.specs.Tables.{tableRead}
 use Rattle.run.specs.Ticking.{ticked}
 use Rattle.run.specs.Answers.{TickSays, idle, ran, taken, tickSays}
-use Rattle.promise.specs.Traces.{Call, Event, runAt, trace, clockOf, jobsOfTrace, unitsOf, unfinished}
+use Rattle.promise.specs.Traces.{Call, Event, runAt, trace, clockOf, jobsOfTrace, unitsOf, wasEnded, unfinished}
 
 -- `nextTick` is the answer of a tick that follows some calls. (6.12)
 abbrev pub nextTick : (bytes : List ℕ) → List Call → TickSays
@@ -34,12 +34,12 @@ abbrev pub TakenWhenTheTimerTakes : Type 0
 TakenWhenTheTimerTakes = (bytes : List ℕ) → Bytes bytes → (calls : List Call) → clockOf (trace bytes calls) < maxTime
     → (nextTick bytes calls ≡ taken) ↔ NextIsTaken bytes calls
 
--- Before the clock is at 2^40, a tick is idle exactly when it is not taken and every accepted job has had its stated cost. (6.12)
+-- Before the clock is at 2^40, a tick is idle exactly when it is not taken and every accepted job has had its stated cost or was ended early. (6.12, 6.29)
 abbrev pub IdleWhenAllHaveTheirCost : Type 0
 IdleWhenAllHaveTheirCost = (bytes : List ℕ) → Bytes bytes → (calls : List Call) → clockOf (trace bytes calls) < maxTime
     → (nextTick bytes calls ≡ idle)
     ↔ ((¬ NextIsTaken bytes calls)
-    × ((j : Job) → List·Memᴰ j (jobsOfTrace (trace bytes calls)) → unitsOf (j .name) (trace bytes calls) ≡ j .cost))
+    × ((j : Job) → List·Memᴰ j (jobsOfTrace (trace bytes calls)) → (wasEnded (trace bytes calls) j ≡ true) ⊎ (unitsOf (j .name) (trace bytes calls) ≡ j .cost)))
 
 -- A tick answers that a job ran: which one, and whether it finished. (6.12)
 abbrev pub SomeJobRan : TickSays → Type 0

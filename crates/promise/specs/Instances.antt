@@ -1,7 +1,7 @@
 -- The promises at work. The first instance is a feasible table of two rows, with a trace of releases, refusals and ticks to which *In time* and *Share*
 -- apply. The second is an overloaded table, with the jobs that its witness names. The third is a feasible table with a timer, the fourth a table on which a
--- job becomes late in a taken tick, the fifth a feasible table with a server, and the last two are what a witness names of servers. This page promises
--- nothing new: it shows that the promises are not empty.
+-- job becomes late in a taken tick, the fifth a feasible table with a server, the next two are what a witness names of servers, and the last is a job that is
+-- ended early. This page promises nothing new: it shows that the promises are not empty.
 use Prim.Native.Nat.{ℕ, zero, suc, _+_}
 use mathlib.Core.Path.{_≡_}
 use mathlib.Core.Bool.{true, false}
@@ -9,7 +9,7 @@ use mathlib.Core.Option.{Option, none, some}
 use mathlib.Core.List.{List, [], _∷_, map}
 use Rattle.theory.specs.Jobs.{Job}
 use Rattle.table.specs.Tables.{tableRead}
-use Rattle.run.specs.Answers.{accepted, idle, ran, taken}
+use Rattle.run.specs.Answers.{accepted, idle, ran, taken, ended-with}
 use Rattle.run.specs.Answers as says
 use Rattle.promise.specs.Traces.{Call, Event, trace, clockOf, jobsOfTrace, unitsOf}
 use Rattle.promise.specs.Share.{costsIn, consumedIn}
@@ -191,3 +191,20 @@ NamedPastTheLimit = namedJobs (tableRead longOddJobs .table) 5000 ≡ job 0 0 0 
 -- A length of 4,000 names an odd job of the first server alone: neither the row nor the second server has any demand in it. (5.17)
 abbrev pub NamedNoneOfZero : Type 0
 NamedNoneOfZero = namedJobs (tableRead longOddJobs .table) 4000 ≡ job 0 1 0 4000 4000 ∷ []
+
+-- ---- with an end
+
+-- The calls on V3, newest first, are a release of each row, a tick, an end of job 0, an end with a serial that was never given out, one more end of job 0, and
+-- a tick.
+abbrev pub endingCalls : List Call
+endingCalls = Call.tick ∷ Call.end 0 ∷ Call.end 9 ∷ Call.end 0 ∷ Call.tick ∷ Call.release 1 3 ∷ Call.release 0 2 ∷ []
+
+-- Job 0 has had one of its two units when it is ended, and the end answers this 1. The other two ends are refused with 17, and the last tick goes to job 1.
+-- (6.27, 6.30)
+abbrev pub EndingAnswers : Type 0
+EndingAnswers = trace v3 endingCalls
+    ≡ Event.tick (ran 1 false) 0
+    ∷ Event.end 0 (says.EndingSays.refused 17 0) ∷ Event.end 9 (says.EndingSays.refused 17 0) ∷ Event.end 0 (ended-with 1)
+    ∷ Event.tick (ran 0 false) 0
+    ∷ Event.release 1 3 (accepted 1 6) ∷ Event.release 0 2 (accepted 0 4)
+    ∷ []

@@ -1,10 +1,12 @@
--- Refused exactly when. This page says what each release and each tick is answered, in terms of the table and of the answers before it. A release gets 6 or 7
--- by the table. It gets 8 where as many accepted jobs are unfinished as there are places, and 9 where the due time by the rules over the accepted jobs
--- of the row or server is above 2^40. A tick gets 10 after 2^40 ticks. No call gets 11. A refused call changes nothing. (1.18, 6.8, 6.16, 6.18, 6.25)
+-- Refused exactly when. This page says what each release, each tick and each end is answered, in terms of the table and of the answers before it. A release
+-- gets 6 or 7 by the table. It gets 8 where as many accepted jobs are unfinished as there are places, and 9 where the due time by the rules over the accepted
+-- jobs of the row or server is above 2^40. A tick gets 10 after 2^40 ticks. An end gets 17 where no unfinished job has the serial: it was never given out, or
+-- its job has had its cost or was ended early. An end of an unfinished job gets 18 after 2^40 ends. No call gets 11. A refused call changes nothing. (1.18,
+-- 6.8, 6.16, 6.18, 6.25, 6.30)
 use Prim.Native.Nat.{ℕ, _≤_}
 use mathlib.Core.Path.{_≡_}
 use mathlib.Core.Logic.{_↔_}
-use mathlib.Core.Bool.{cond}
+use mathlib.Core.Bool.{cond, _&&_}
 use mathlib.Core.List.{List, _∷_}
 use lib.Dec.{leb, ltb}
 use lib.ListN.{length}
@@ -18,9 +20,11 @@ use Rattle.table.specs.Tables.{tableRead}
 use Rattle.jobs.specs.Places.{maxPlaces}
 use Rattle.run.specs.Runs.{rowInUse, costLimit}
 use Rattle.run.specs.Release.{released}
-use Rattle.run.specs.Answers.{ReleaseSays, accepted, releaseSays}
+use Rattle.run.specs.Ending.{ended}
+use Rattle.run.specs.Answers.{ReleaseSays, accepted, releaseSays, EndingSays, ended-with, endSays}
 use Rattle.run.specs.Answers as says
-use Rattle.promise.specs.Traces.{Call, Event, runAt, eventOf, trace, Told, tell, clockOf, jobsOfTrace, unfinishedIn}
+use Rattle.promise.specs.Traces.{Call, Event, runAt, eventOf, trace, Told, tell, clockOf, jobsOfTrace, jobOfSerial, unitsOf}
+use Rattle.promise.specs.Traces.{endedIn, unfinished, unfinishedIn}
 use Rattle.promise.specs.Choice.{nextTick}
 use Rattle.promise.specs.Sources.{sourceAt, sourceDue}
 
@@ -49,6 +53,19 @@ ReleasesByTheTrace = (bytes : List ℕ) → Bytes bytes → (calls : List Call) 
 abbrev pub TicksByTheTrace : Type 0
 TicksByTheTrace = (bytes : List ℕ) → Bytes bytes → (calls : List Call) (number place : ℕ)
     → (nextTick bytes calls ≡ says.TickSays.refused number place) ↔ ((number ≡ 10) × (place ≡ 0) × (clockOf (trace bytes calls) ≡ maxTime))
+
+-- `endAnswer` makes the tests of an end in their order: 17 where no accepted job with that serial is unfinished, then 18 where 2^40 jobs were ended. Otherwise
+-- it answers the units that the ticks have given to the serial. (6.27, 6.30)
+abbrev pub endAnswer : List Event → (serial : ℕ) → EndingSays
+endAnswer es serial =
+    cond (ltb serial (length (jobsOfTrace es)) && unfinished es (jobOfSerial serial (jobsOfTrace es)))
+    (cond (ltb (length (endedIn es)) maxTime) (ended-with (unitsOf serial es)) (says.EndingSays.refused 18 0))
+    (says.EndingSays.refused 17 0)
+
+-- After any calls, an end is answered as `endAnswer` says. (6.27, 6.30)
+abbrev pub EndsByTheTrace : Type 0
+EndsByTheTrace = (bytes : List ℕ) → Bytes bytes → (calls : List Call) (serial : ℕ)
+    → endSays (ended (runAt bytes calls) serial .answer) ≡ endAnswer (trace bytes calls) serial
 
 -- There are never more unfinished jobs than places. (6.1, 6.2)
 abbrev pub PlacesAreEnough : Type 0

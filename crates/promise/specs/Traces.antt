@@ -1,8 +1,9 @@
--- Traces. A trace is what a list of calls was answered. The calls are any releases and ticks in any order, refused ones included, on the run that `start` makes
--- of a table's bytes. Each call is played by the definition that its contract cites, `released` or `ticked`. The promises speak of the clock, the accepted
--- jobs, the units that a job was given, the late counts and the finished jobs. One fold reads all of these from the answers alone. (6.4, 6.6, 6.10)
+-- Traces. A trace is what a list of calls was answered. The calls are any releases, ticks and ends in any order, refused ones included, on the run that `start`
+-- makes of a table's bytes. Each call is played by the definition that its contract cites, `released`, `ticked` or `ended`. The promises speak of the clock,
+-- the accepted jobs, the units that a job was given, the late counts, the finished jobs and the jobs that were ended early. One fold reads all of these from
+-- the answers alone. (6.4, 6.6, 6.10, 6.27)
 use Prim.Native.Nat.{ℕ, suc, _+_}
-use mathlib.Core.Bool.{Bool, cond}
+use mathlib.Core.Bool.{Bool, true, false, not, cond, _&&_}
 use mathlib.Core.Option.{Option, none, some}
 use mathlib.Core.List.{List, [], _∷_, _++_}
 use lib.Dec.{eqb, ltb}
@@ -14,30 +15,34 @@ use Rattle.run.specs.declared.Run.{Run}
 use Rattle.run.specs.Runs.{started}
 use Rattle.run.specs.Release.{released}
 use Rattle.run.specs.Ticking.{ticked}
-use Rattle.run.specs.Answers.{ReleaseSays, accepted, releaseSays, TickSays, idle, ran, taken, tickSays}
+use Rattle.run.specs.Ending.{ended}
+use Rattle.run.specs.Answers.{ReleaseSays, accepted, releaseSays, TickSays, idle, ran, taken, tickSays, EndingSays, ended-with, endSays}
 use Rattle.run.specs.Answers as says
 
 -- ---- calls and their answers
 
--- A call is a release of a row at a stated cost, or a tick. (1.3, 1.4)
+-- A call is a release of a row at a stated cost, a tick, or the end of the job with a serial. (1.3, 1.4, 6.27)
 pub data Call : Type 0 where
   release : (row cost : ℕ) → Call
   tick : Call
+  end : (serial : ℕ) → Call
 
 -- An event is a call with its answer. A tick's late count stands beside its answer. (6.12, 6.14)
 pub data Event : Type 0 where
   release : (row cost : ℕ) → ReleaseSays → Event
   tick : TickSays → (late : ℕ) → Event
+  end : (serial : ℕ) → EndingSays → Event
 
 -- A call results in the run after it and in its event. A new kind of call would be one more clause of `called`.
 pub record Called : Type 0 where
   pub run : Run
   pub event : Event
 
--- A release is played by `released` and a tick by `ticked`. (6.6, 6.10)
+-- A release is played by `released`, a tick by `ticked` and an end by `ended`. (6.6, 6.10, 6.27)
 abbrev pub called : Run → Call → Called
 called run (Call.release row cost) = let step = released run row cost in record { run = step .run; event = Event.release row cost (releaseSays (step .answer)) }
 called run Call.tick = let step = ticked run in record { run = step .run; event = Event.tick (tickSays (step .answer)) (step .late) }
+called run (Call.end serial) = let step = ended run serial in record { run = step .run; event = Event.end serial (endSays (step .answer)) }
 
 -- `runAfter` is the run after one call.
 abbrev pub runAfter : Run → Call → Run
@@ -60,14 +65,20 @@ trace bytes (c ∷ earlier) = eventOf (runAt bytes earlier) c ∷ trace bytes ea
 
 -- ---- what the answers tell
 
--- The answers tell the clock; the accepted jobs and who had each tick, both newest first; the sum of the late counts; and the finished jobs in the order of
--- finishing.
+-- A job that was ended early: its serial, and the units that the end answered. (6.27)
+pub record EndedJob : Type 0 where
+  pub serial : ℕ
+  pub units : ℕ
+
+-- The answers tell the clock; the accepted jobs and who had each tick, both newest first; the sum of the late counts; the finished jobs in the order of
+-- finishing; and the jobs that were ended early, newest first.
 pub record Told : Type 0 where
   pub clock : ℕ
   pub jobs : List Job
   pub ticks : List (Option ℕ)
   pub late : ℕ
   pub finishes : List Finish
+  pub ended : List EndedJob
 
 -- `jobOfSerial` finds the accepted job with a serial. Where no job has it, this is a job of zeros. (1.5)
 abbrev pub jobOfSerial : (serial : ℕ) → List Job → Job
@@ -93,6 +104,7 @@ withReleased row cost serial due t = record {
   ticks = t .ticks;
   late = t .late;
   finishes = t .finishes;
+  ended = t .ended;
 }
 
 -- A tick went by, and the clock is one higher. The job with this serial had the unit, or nobody had it, as in an idle and in a taken tick. So many jobs became
@@ -104,6 +116,18 @@ withTick who late finished t = record {
   ticks = who ∷ t .ticks;
   late = t .late + late;
   finishes = t .finishes ++ finished;
+  ended = t .ended;
+}
+
+-- The job with this serial was ended, and had been given so many units. (6.27)
+abbrev pub withEndOf : (serial units : ℕ) → Told → Told
+withEndOf serial units t = record {
+  clock = t .clock;
+  jobs = t .jobs;
+  ticks = t .ticks;
+  late = t .late;
+  finishes = t .finishes;
+  ended = record { serial = serial; units = units } ∷ t .ended;
 }
 
 -- The job with this serial is listed as finished at the new clock where the tick answered that it finished. (6.13)
@@ -118,10 +142,12 @@ tell (Event.tick idle late) t = withTick none late [] t
 tell (Event.tick (ran serial finished) late) t = withTick (some serial) late (finishedNow finished serial t) t
 tell (Event.tick taken late) t = withTick none late [] t
 tell (Event.tick (says.TickSays.refused n place) late) t = t
+tell (Event.end serial (ended-with units)) t = withEndOf serial units t
+tell (Event.end serial (says.EndingSays.refused n place)) t = t
 
 -- `told` is what all events of a trace tell. The events are listed newest first.
 unfoldable pub told : List Event → Told
-told [] = record { clock = 0; jobs = []; ticks = []; late = 0; finishes = [] }
+told [] = record { clock = 0; jobs = []; ticks = []; late = 0; finishes = []; ended = [] }
 told (e ∷ es) = tell e (told es)
 
 -- The clock is the number of ticks that were not refused. (1.3)
@@ -148,9 +174,22 @@ finishesIn es = told es .finishes
 abbrev pub unitsOf : (serial : ℕ) → List Event → ℕ
 unitsOf s es = units s (ticksOf es)
 
--- A job is unfinished while it has had fewer units than its stated cost. (1.7)
+-- `endedIn` lists the jobs of a trace that were ended early, newest first. (6.27)
+abbrev pub endedIn : List Event → List EndedJob
+endedIn es = told es .ended
+
+-- `isAmong` tests whether a serial is that of one of these ended jobs.
+abbrev pub isAmong : (serial : ℕ) → List EndedJob → Bool
+isAmong s [] = false
+isAmong s (e ∷ es) = cond (eqb (e .serial) s) true (isAmong s es)
+
+-- A job was ended early where an end with its serial was answered with units. (6.27)
+abbrev pub wasEnded : List Event → Job → Bool
+wasEnded es j = isAmong (j .name) (endedIn es)
+
+-- A job is unfinished while it has had fewer units than its stated cost and was not ended early. (1.7, 6.29)
 abbrev pub unfinished : List Event → Job → Bool
-unfinished es j = ltb (unitsOf (j .name) es) (j .cost)
+unfinished es j = not (wasEnded es j) && ltb (unitsOf (j .name) es) (j .cost)
 
 -- `unfinishedIn` is the number of accepted jobs that are unfinished.
 abbrev pub unfinishedIn : List Event → ℕ

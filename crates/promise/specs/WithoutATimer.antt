@@ -26,7 +26,7 @@ use Rattle.run.specs.Ticking.{refusedTick, freeTick, ticked}
 use Rattle.run.specs.Answers.{taken}
 use Rattle.play.specs.LogRecords.{OfWhole}
 use Rattle.promise.specs.Traces.{Call, runAt, trace, clockOf, jobsOfTrace, ticksOf}
-use Rattle.promise.specs.Link.{waitingIn}
+use Rattle.promise.specs.Link.{waitingIn, leftEarly}
 use Rattle.promise.specs.Choice.{nextTick}
 use Rattle.promise.specs.Paper.{paperSum}
 use Rattle.promise.specs.NoOrder.{namedJobs, Serves}
@@ -71,9 +71,11 @@ abbrev pub EveryTickIsFree : Type 0
 EveryTickIsFree = (bytes : List ℕ) → Bytes bytes → (rows : List Row) → SaysRowsAlone bytes rows → (calls : List Call)
     → let run = runAt bytes calls in ticked run ≡ cond (ltb (run .clock .0) maxTime) (freeTick run) (refusedTick run TimeTooLate)
 
--- After these calls the answers are a trace of the theory in which every tick is free. (6.5, 6.11, 6.12)
+-- After these calls the answers are a trace of the theory in which every tick is free, and the jobs that leave before they have had their cost are those that
+-- were ended early. (6.5, 6.11, 6.12, 6.27)
 pub record FollowsWithAllFree (bytes : List ℕ) (calls : List Call) : Type 0 where
-  pub events : Trace noneTaken (clockOf (trace bytes calls)) (waitingIn (runAt bytes calls)) (jobsOfTrace (trace bytes calls)) (ticksOf (trace bytes calls)) []
+  pub events : Trace noneTaken (clockOf (trace bytes calls)) (waitingIn (runAt bytes calls)) (jobsOfTrace (trace bytes calls)) (ticksOf (trace bytes calls))
+      (leftEarly (trace bytes calls))
   pub earliest-due : ServesEarliestDue events
   pub never-idle : NeverIdlesInVain events
 

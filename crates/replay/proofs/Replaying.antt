@@ -153,8 +153,17 @@ stands-in-bounds {s} w =
     record {
       few-pending = omega (arith, w .counts, known .few-pending);
       within = w .logs .within;
-      few-late =
-          omega (arith, w .counts, w .logs .late, late-are-few (s .finishes), way .all-there, known .serials, known .clock-in-time, known .few-pending);
+      few-late = omega (
+        arith,
+        w .counts,
+        w .logs .late,
+        late-are-few (s .finishes),
+        way .all-there,
+        known .serials,
+        known .clock-in-time,
+        known .few-pending,
+        known .few-ended,
+      );
     }
 
 module _ {s : List ℕ} {t : Table} {log₀ : List ℕ} {l : Lists} {g : Going} {at : ℕ} (w : Plays s t log₀ l g at) where
@@ -257,7 +266,14 @@ module _ {s : List ℕ} {t : Table} {log₀ : List ℕ} {l : Lists} {g : Going} 
         record {
           in-bounds = plays-in-bounds;
           in-time = omega (arith, asks, passed .row-fits .gap-fits .in-time);
-          few-serials = omega (arith, ap (λ (x : Serial). x .0) (w .stands .same-next), known .serials, known .clock-in-time, known .few-pending);
+          few-serials = omega (
+            arith,
+            ap (λ (x : Serial). x .0) (w .stands .same-next),
+            known .serials,
+            known .clock-in-time,
+            known .few-pending,
+            known .few-ended,
+          );
         }
 
     -- A record that passes its tests ends after its start, and within the script.

@@ -1,4 +1,4 @@
--- No answer of start, release or tick is numbered 0, different answers say different things, and each answer says what the laws state.
+-- No answer of start, release, tick or end is numbered 0, different answers say different things, and each answer says what the laws state.
 use Prim.Native.Nat.{ℕ, _≤_}
 use mathlib.Core.Path.{_≡_, refl, sym, ap, ap₂}
 use Rattle.kinds.specs.Numbering.{refusalNumber, NeverNumberedZero, SaysApart}
@@ -11,7 +11,9 @@ use Rattle.run.specs.declared.Released.{Released}
 use Rattle.run.specs.declared.Released.the-variants as release
 use Rattle.run.specs.declared.Ticked.{Ticked}
 use Rattle.run.specs.declared.Ticked.the-variants as tick
-use Rattle.run.specs.Answers.{startSays, ReleaseSays, releaseSays, TickSays, tickSays, RunsNeverZero, RunsSaidApart}
+use Rattle.run.specs.declared.Ended.{Ended}
+use Rattle.run.specs.declared.Ended.the-variants as end
+use Rattle.run.specs.Answers.{startSays, ReleaseSays, releaseSays, TickSays, tickSays, EndingSays, endSays, RunsNeverZero, RunsSaidApart}
 use Rattle.run.specs.Answers as says
 
 start-never-zero : NeverNumberedZero startSays
@@ -28,8 +30,12 @@ tick-never-zero (tick.Ran r) number place e = impossible cc
 tick-never-zero tick.Taken number place e = impossible cc
 tick-never-zero (tick.Refused r) number place e = let its : refusalNumber r ≡ number = cc in rw (sym its) (never-zero r)
 
+end-never-zero : (a : Ended) (number place : ℕ) → endSays a ≡ EndingSays.refused number place → 1 ≤ number
+end-never-zero (end.Units n) number place e = impossible cc
+end-never-zero (end.Refused r) number place e = let its : refusalNumber r ≡ number = cc in rw (sym its) (never-zero r)
+
 pub runs-never-zero : RunsNeverZero
-runs-never-zero = (start-never-zero, release-never-zero, tick-never-zero)
+runs-never-zero = (start-never-zero, release-never-zero, tick-never-zero, end-never-zero)
 
 start-apart : SaysApart startSays
 start-apart start.Ready start.Ready e = refl
@@ -66,8 +72,14 @@ tick-apart tick.Taken (tick.Ran r) e = impossible cc
 tick-apart tick.Taken (tick.Refused r) e = impossible cc
 tick-apart tick.Taken tick.Taken e = refl
 
+end-apart : (a b : Ended) → endSays a ≡ endSays b → a ≡ b
+end-apart (end.Units m) (end.Units n) e = let units : m ≡ n = cc in ap end.Units units
+end-apart (end.Units m) (end.Refused r) e = impossible cc
+end-apart (end.Refused q) (end.Units n) e = impossible cc
+end-apart (end.Refused q) (end.Refused r) e = ap end.Refused (numbers-differ q r cc)
+
 pub runs-said-apart : RunsSaidApart
-runs-said-apart = (start-apart, release-apart, tick-apart)
+runs-said-apart = (start-apart, release-apart, tick-apart, end-apart)
 
 -- ---- what each answer says
 
@@ -97,3 +109,9 @@ ran-tick-says serial = refl
 
 pub tick-refused-says : says.TickRefusedSays
 tick-refused-says r = refl
+
+pub ending-done-says : says.EndingDoneSays
+ending-done-says units = refl
+
+pub ending-refused-says : says.EndingRefusedSays
+ending-refused-says r = refl

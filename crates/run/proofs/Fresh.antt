@@ -36,6 +36,7 @@ module _ (t : Table) (in-range : InRange t) where
     few-servers = in-range .few-servers;
     clock-in-time = omega arith;
     few-pending = omega arith;
+    few-ended = omega arith;
     rows = λ i h. in-range-means (rowAt t i) .0 (in-range .rows-in-range i h);
     c-within-d = in-range .c-within-d;
     kept = λ i h.

@@ -43,7 +43,7 @@ use Rattle.jobs.proofs.Changes.{put-adds-one, put-keeps-form, put-keeps-serials
 use Rattle.run.specs.declared.Run.{Run}
 use Rattle.run.specs.declared.ReleaseStep.{ReleaseStep}
 use Rattle.run.specs.Runs.{rowAt, serverAt, costLimit, keptOf, lastOf}
-use Rattle.run.specs.Sound.{serialBound, allows, soundOf, SoundJob, Sound, Whole}
+use Rattle.run.specs.Sound.{maxEnded, serialBound, allows, soundOf, SoundJob, Sound, Whole}
 use Rattle.run.specs.Release.{refusedRelease, newJob, keptByRelease, lastByRelease, withJob, atDue, dueNext, released}
 use Rattle.run.specs.Answers.{ReleaseSays, accepted, releaseSays}
 use Rattle.run.specs.History.{KeepsHistory, withDue, dueByHistory, GaveDue}
@@ -58,6 +58,7 @@ pub record Bounded (run : Run) : Type 0 where
   pub few-servers : run .table .serving ≤ maxServers
   pub clock-in-time : run .clock .0 ≤ maxTime
   pub few-pending : run .pending .count ≤ maxPlaces
+  pub few-ended : run .ended ≤ maxEnded
   pub serials : run .next .0 ≤ serialBound run
 
 pub bounded : (run : Run) → soundOf run ≡ true → Bounded run
@@ -65,7 +66,8 @@ unfolding soundOf
 bounded run e =
     let serials = both-true _ _ e in
     let rows = both-true _ _ (both-true _ _ (both-true _ _ (both-true _ _ (serials .0) .0) .0) .0) in
-    let places = both-true _ _ (rows .0) in
+    let ended = both-true _ _ (rows .0) in
+    let places = both-true _ _ (ended .0) in
     let clock = both-true _ _ (places .0) in
     let serving = both-true _ _ (clock .0) in
     record {
@@ -73,6 +75,7 @@ bounded run e =
       few-servers = leb-true _ _ (serving .1);
       clock-in-time = leb-true _ _ (clock .1);
       few-pending = leb-true _ _ (places .1);
+      few-ended = leb-true _ _ (ended .1);
       serials = leb-true _ _ (serials .1);
     }
 
@@ -367,6 +370,7 @@ module _ {run : Run} {row cost : ℕ} (t : Tick) (whole : Whole run) (p : Passed
     few-servers = sound-before .few-servers;
     clock-in-time = sound-before .clock-in-time;
     few-pending = put-keeps-form (run .pending) job well-formed .in-places;
+    few-ended = sound-before .few-ended;
     rows = sound-before .rows;
     c-within-d = sound-before .c-within-d;
     kept = kept-after;

@@ -44,7 +44,8 @@ use Rattle.jobs.proofs.Places.{rest-cons}
 use Rattle.jobs.proofs.Changes.{distinct-means}
 use Rattle.run.specs.declared.Run.{Run}
 use Rattle.run.specs.Runs.{rowAt, costLimit, keptOf}
-use Rattle.run.specs.Sound.{jobFits, allows, jobSound, jobsSound, rowsSound, serversSound, serialBound, soundOf, SoundJob, Sound, Whole, SoundMeans}
+use Rattle.run.specs.Sound.{jobFits, allows, jobSound, jobsSound, rowsSound, serversSound, maxEnded, serialBound, soundOf}
+use Rattle.run.specs.Sound.{SoundJob, Sound, Whole, SoundMeans}
 
 -- ---- what the tests of jobs and rows mean
 
@@ -223,6 +224,10 @@ module _ (run : Run) where
   unfolding soundOf
   too-many-pending h = simp (lt-leb (run .pending .count) maxPlaces h, and-false)
 
+  pub too-many-ended : maxEnded < run .ended → false ≡ soundOf run
+  unfolding soundOf
+  too-many-ended h = simp (lt-leb (run .ended) maxEnded h, and-false)
+
   pub rows-unsound : rowsSound (rowsOf (run .table)) (run .kept) ≡ false → false ≡ soundOf run
   unfolding soundOf
   rows-unsound h = simp (h, and-false)
@@ -236,7 +241,7 @@ module _ (run : Run) where
   jobs-unsound h =
       let js = jobsOf (run .pending) in
       let rows = timerInRange (run .table .s) (run .table .p) && leb (run .table .count) maxRows && leb (run .table .serving) maxServers in
-      let counts = rows && leb (run .clock .0) maxTime && leb (run .pending .count) maxPlaces in
+      let counts = rows && leb (run .clock .0) maxTime && leb (run .pending .count) maxPlaces && leb (run .ended) maxEnded in
       one-of-two-fails (counts && rowsSound (rowsOf (run .table)) (run .kept) && serversSound (serversOf (run .table)) (run .last))
       (jobsSound (costLimits (run .table)) (run .clock .0) (run .next .0) js) (distinctSerials js) (leb (run .next .0) (serialBound run)) h
 
@@ -258,6 +263,7 @@ pub record AllBefore (run : Run) : Type 0 where
   pub few-servers : run .table .serving ≤ maxServers
   pub clock-in-time : run .clock .0 ≤ maxTime
   pub few-pending : run .pending .count ≤ maxPlaces
+  pub few-ended : run .ended ≤ maxEnded
   pub rows : rowsSound (rowsOf (run .table)) (run .kept) ≡ true
   pub servers : serversSound (serversOf (run .table)) (run .last) ≡ true
   pub jobs : JobsTested run ≡ true
@@ -274,6 +280,7 @@ bound-settles run a =
       le-leb (run .table .serving) maxServers (a .few-servers),
       le-leb (run .clock .0) maxTime (a .clock-in-time),
       le-leb (run .pending .count) maxPlaces (a .few-pending),
+      le-leb (run .ended) maxEnded (a .few-ended),
       a .rows,
       a .servers,
       jobs .0,
@@ -344,7 +351,8 @@ module _ (run : Run) (whole : Whole run) where
       let jobs = both-true _ _ (apart .0) in
       let servers = both-true _ _ (jobs .0) in
       let rows = both-true _ _ (servers .0) in
-      let places = both-true _ _ (rows .0) in
+      let ended = both-true _ _ (rows .0) in
+      let places = both-true _ _ (ended .0) in
       let clock = both-true _ _ (places .0) in
       let serving = both-true _ _ (clock .0) in
       let timed = both-true _ _ (serving .0) in
@@ -356,6 +364,7 @@ module _ (run : Run) (whole : Whole run) where
         few-servers = few-serving;
         clock-in-time = leb-true _ _ (clock .1);
         few-pending = leb-true _ _ (places .1);
+        few-ended = leb-true _ _ (ended .1);
         rows = λ i h. acceptable-means (rowAt table i) .0 (each-numbered few (rows .1) i h .0) .within-limits;
         c-within-d = λ i h. acceptable-means (rowAt table i) .0 (each-numbered few (rows .1) i h .0) .c-within-d;
         kept = λ i h. kept-means (keptOf run i) (rowAt table i) .0 (each-numbered few (rows .1) i h .1);
@@ -380,6 +389,7 @@ module _ (run : Run) (whole : Whole run) where
         few-servers = s .few-servers;
         clock-in-time = s .clock-in-time;
         few-pending = s .few-pending;
+        few-ended = s .few-ended;
         rows = all-numbered (s .few-rows) row;
         servers = all-serving (s .few-servers) (s .servers) (s .last);
         jobs =

@@ -67,7 +67,7 @@ module _ (run : Run) where
 
 -- Let P imply Q, and let each of some jobs have P. Then each job has Q after one was taken out, and also after one was replaced by a job that has Q.
 module _ (P Q : Job → Type 0) (on : (j : Job) → P j → Q j) where
-  each-without : (js : List Job) (at : ℕ) → ((i : ℕ) → i < length js → P (getD js i noJob))
+  pub each-without : (js : List Job) (at : ℕ) → ((i : ℕ) → i < length js → P (getD js i noJob))
       → (i : ℕ) → i < length (without js at) → Q (getD (without js at) i noJob)
   each-without [] at f i h = absurd (not-suc-le-zero h)
   each-without (j ∷ js) zero f i h = on _ (f (suc i) (suc-le-suc h))
@@ -98,7 +98,7 @@ module _ (run : Run) (good : Good run) where
   counted = length-take-le (run .pending .count) (run .pending .places) (omega (arith, facts .few-pending, good .1 .all-places))
 
   -- The pending jobs are well formed.
-  formed : WellFormed (run .pending)
+  pub formed : WellFormed (run .pending)
   formed = record { all-places = good .1 .all-places; in-places = facts .few-pending }
 
   -- The job is sound at the run's clock.
@@ -152,6 +152,7 @@ module _ (run : Run) (good : Good run) where
           few-servers = facts .few-servers;
           clock-in-time = omega arith;
           few-pending = l .form .in-places;
+          few-ended = facts .few-ended;
           rows = facts .rows;
           c-within-d = facts .c-within-d;
           kept = facts .kept;
@@ -227,7 +228,7 @@ pub taken-where : (run : Run) → (isTaken run ≡ true) ↔ (run .clock .0 % ru
 taken-where run = (ltb-true _ _, lt-ltb _ _)
 
 -- A property of the five cases of a tick is a property of every tick.
-by-answer : (P : TickStep → Type 0) (run : Run)
+pub by-answer : (P : TickStep → Type 0) (run : Run)
     → (soundOf run ≡ false → P (refusedTick run RunNotSound))
     → (maxTime ≤ run .clock .0 → P (refusedTick run TimeTooLate))
     → (soundOf run ≡ true → run .clock .0 < maxTime → isTaken run ≡ true → P (takenTick run))

@@ -1,4 +1,4 @@
--- What the answers of start, release and tick say: each case with its number and values. (docs/RULES.md, sections 6 and 10.)
+-- What the answers of start, release, tick and end say: each case with its number and values. (docs/RULES.md, sections 6 and 10.)
 use Prim.Native.Nat.{ℕ, _≤_}
 use mathlib.Core.Path.{_≡_}
 use mathlib.Core.Bool.{Bool, true, false}
@@ -13,6 +13,8 @@ use Rattle.run.specs.declared.Released.{Released}
 use Rattle.run.specs.declared.Released.the-variants as release
 use Rattle.run.specs.declared.Ticked.{Ticked}
 use Rattle.run.specs.declared.Ticked.the-variants as tick
+use Rattle.run.specs.declared.Ended.{Ended}
+use Rattle.run.specs.declared.Ended.the-variants as end
 
 -- What the answer of a start says: no value where the run is ready, and otherwise the table's refusal with its place. (1.17, 6.4)
 abbrev pub startSays : StartAnswer → Says
@@ -44,21 +46,33 @@ tickSays (tick.Ran r) = ran (r .serial .0) (hasFinished (r .finished))
 tickSays tick.Taken = taken
 tickSays (tick.Refused r) = refused (refusalNumber r) 0
 
+-- What an end can say: the units that the job was given so far, or a refusal's number and place. (1.17, 6.27, 6.30)
+pub data EndingSays : Type 0 where
+  ended-with : (units : ℕ) → EndingSays
+  refused : (number place : ℕ) → EndingSays
+
+-- What each answer of an end says. Its refusals name no place, so the place is 0. (1.17, 10.2)
+abbrev pub endSays : Ended → EndingSays
+endSays (end.Units n) = ended-with n
+endSays (end.Refused r) = refused (refusalNumber r) 0
+
 -- ---- what is proved (proofs/Answers.antt)
 
--- No answer of start, release or tick is numbered 0. (1.16)
+-- No answer of start, release, tick or end is numbered 0. (1.16)
 abbrev pub RunsNeverZero : Type 0
 RunsNeverZero =
     NeverNumberedZero startSays
     × ((a : Released) (number place : ℕ) → releaseSays a ≡ ReleaseSays.refused number place → 1 ≤ number)
     × ((a : Ticked) (number place : ℕ) → tickSays a ≡ TickSays.refused number place → 1 ≤ number)
+    × ((a : Ended) (number place : ℕ) → endSays a ≡ EndingSays.refused number place → 1 ≤ number)
 
--- Different answers of a start say different things, and so do different answers of a release and of a tick.
+-- Different answers of a start say different things, and so do different answers of a release, of a tick and of an end.
 abbrev pub RunsSaidApart : Type 0
 RunsSaidApart =
     SaysApart startSays
     × ((a b : Released) → releaseSays a ≡ releaseSays b → a ≡ b)
     × ((a b : Ticked) → tickSays a ≡ tickSays b → a ≡ b)
+    × ((a b : Ended) → endSays a ≡ endSays b → a ≡ b)
 
 -- A start that is ready has no value to say. (6.4)
 abbrev pub StartReadySays : Type 0
@@ -97,3 +111,11 @@ RanTickSays = (serial : ℕ) → tickSays (tick.Ran (ranAs serial finished.No)) 
 -- A refused tick says the refusal's number, at place 0. (6.16, 10.2)
 abbrev pub TickRefusedSays : Type 0
 TickRefusedSays = (r : Refusal) → tickSays (tick.Refused r) ≡ TickSays.refused (refusalNumber r) 0
+
+-- An end that is done says the units that the job was given. (6.27)
+abbrev pub EndingDoneSays : Type 0
+EndingDoneSays = (units : ℕ) → endSays (end.Units units) ≡ ended-with units
+
+-- A refused end says the refusal's number and place 0. (10.2)
+abbrev pub EndingRefusedSays : Type 0
+EndingRefusedSays = (r : Refusal) → endSays (end.Refused r) ≡ EndingSays.refused (refusalNumber r) 0

@@ -40,7 +40,7 @@ abbrev pub lastByRelease : Run → (row : ℕ) → (due : Tick) → List Tick
 lastByRelease run row due = cond (isRow (run .table) row) (run .last) (set (run .last) (row - run .table .count) due)
 
 -- The run after an accepted release. The job is in the first unused place, the next serial is one higher, and the due time is kept for the job's row, or is the
--- last due time of its server. The clock, the rows, the servers and the other jobs stay as they were. (6.7)
+-- last due time of its server. The clock, the rows, the servers, the other jobs and the number of ended jobs stay as they were. (6.7)
 abbrev pub withJob : Run → (row cost : ℕ) → (due : Tick) → Run
 withJob run row cost due = record {
   table = run .table;
@@ -49,6 +49,7 @@ withJob run row cost due = record {
   next = record { 0 = run .next .0 + 1 };
   kept = keptByRelease run row due;
   last = lastByRelease run row due;
+  ended = run .ended;
 }
 
 -- The last test of a release: a due time above 2^40 is refusal 9. An accepted release answers the job's serial and due time. (6.6, 6.8)

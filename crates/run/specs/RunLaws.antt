@@ -5,7 +5,7 @@ use mathlib.Core.Logic.{_↔_}
 use mathlib.Core.Bool.{true, false, cond}
 use mathlib.Core.List.{List, []}
 use lib.Dec.{ltb}
-use lib.ListN.{length}
+use lib.ListN.{length, getD}
 use Rattle.kinds.specs.Numbering.{maxTime}
 use Rattle.kinds.specs.declared.Refusal.the-variants.{NoSuchRow, CostOutOfRange, TimeTooLate, RunNotSound}
 use Rattle.numbers.specs.SpelledNumbers.{Bytes}
@@ -15,16 +15,18 @@ use Rattle.table.specs.Costs.{costLimits, limitOf, costAnswer}
 use Rattle.table.specs.Limits.{maxRows, maxServers}
 use Rattle.table.specs.Rows.{fromOneTo}
 use Rattle.table.specs.Tables.{InRange}
-use Rattle.jobs.specs.Places.{jobsOf}
+use Rattle.jobs.specs.Places.{noJob, jobsOf, without}
 use Rattle.jobs.specs.Choice.{firstPlace}
 use Rattle.jobs.specs.JobChanges.{unitAt}
 use Rattle.jobs.specs.Late.{lateCount}
 use Rattle.run.specs.declared.Run.{Run}
 use Rattle.run.specs.Runs.{freshRun, started, rowInUse, costLimit}
-use Rattle.run.specs.Sound.{soundOf, Whole}
+use Rattle.run.specs.Sound.{soundOf, maxEnded, Whole}
 use Rattle.run.specs.Release.{released}
 use Rattle.run.specs.Ticking.{refusedTick, runWith, isTaken, freeTick, ticked}
 use Rattle.run.specs.Answers.{ReleaseSays, accepted, releaseSays, idle, taken, tickSays}
+use Rattle.run.specs.Ending.{unitsGiven, withEnded, ended}
+use Rattle.run.specs.Answers.{EndingSays, ended-with, endSays}
 use Rattle.run.specs.History.{KeepsHistory, GaveDue}
 
 -- ---- what is proved (proofs/Fresh.antt, proofs/Release.antt, proofs/Ticking.antt)
@@ -106,3 +108,57 @@ FreshHasNoHistory = (t : Table) → t .count ≤ maxRows → t .serving ≤ maxS
 abbrev pub DueByWholeHistory : Type 0
 DueByWholeHistory = (run : Run) (history : ℕ → List ℕ) (row cost serial due : ℕ) → Whole run → KeepsHistory run history
     → releaseSays (released run row cost .answer) ≡ accepted serial due → GaveDue run history row cost due (released run row cost .run)
+
+-- ---- ends (proofs/Ending.antt)
+
+-- An end leaves a sound run sound, whether it is done or refused. (6.25)
+abbrev pub EndKeepsSound : Type 0
+EndKeepsSound = (run : Run) (serial : ℕ) → Whole run → soundOf run ≡ true → (soundOf (ended run serial .run) ≡ true) × Whole (ended run serial .run)
+
+-- An end says 11 exactly where the run is not sound. (6.30)
+abbrev pub EndNotSoundMeans : Type 0
+EndNotSoundMeans = (run : Run) (serial : ℕ) → (endSays (ended run serial .answer) ≡ EndingSays.refused 11 0) ↔ (soundOf run ≡ false)
+
+-- An end says 17 exactly where the run is sound and no pending job has the serial. (6.30)
+abbrev pub NotPendingMeans : Type 0
+NotPendingMeans = (run : Run) (serial : ℕ) → (endSays (ended run serial .answer) ≡ EndingSays.refused 17 0)
+    ↔ ((soundOf run ≡ true) × ((i : ℕ) → i < length (jobsOf (run .pending)) → getD (jobsOf (run .pending)) i noJob .serial .0 ≡ serial → ⊥))
+
+-- An end says 18 exactly where the run is sound, a pending job has the serial, and 2^40 jobs were ended early. (6.30)
+abbrev pub TooManyEndedMeans : Type 0
+TooManyEndedMeans = (run : Run) (serial : ℕ) → (endSays (ended run serial .answer) ≡ EndingSays.refused 18 0)
+    ↔ ((soundOf run ≡ true) × ((at : ℕ) × (at < length (jobsOf (run .pending))) × (getD (jobsOf (run .pending)) at noJob .serial .0 ≡ serial))
+    × (run .ended ≡ maxEnded))
+
+-- An end is done exactly where the run is sound, a pending job has the serial, and fewer than 2^40 jobs were ended early. (6.27, 6.30)
+abbrev pub EndIsDoneMeans : Type 0
+EndIsDoneMeans = (run : Run) (serial : ℕ) → ((units : ℕ) × (endSays (ended run serial .answer) ≡ ended-with units))
+    ↔ ((soundOf run ≡ true) × ((at : ℕ) × (at < length (jobsOf (run .pending))) × (getD (jobsOf (run .pending)) at noJob .serial .0 ≡ serial))
+    × (run .ended < maxEnded))
+
+-- What an end that is done changes: the job with the serial leaves its place, later jobs move down, and one more job was ended. The units that it says are the
+-- job's stated cost less its units left, and less than its cost. (6.27, 6.28)
+pub record EndedAt (run : Run) (serial units : ℕ) (next : Run) : Type 0 where
+  pub at : ℕ
+  pub inside : at < length (jobsOf (run .pending))
+  pub its-serial : getD (jobsOf (run .pending)) at noJob .serial .0 ≡ serial
+  pub its-units : units ≡ unitsGiven (getD (jobsOf (run .pending)) at noJob)
+  pub fewer : units < getD (jobsOf (run .pending)) at noJob .cost
+  pub others : jobsOf (next .pending) ≡ without (jobsOf (run .pending)) at
+  pub nothing-else : next ≡ withEnded run at
+
+-- An end that says units ended the pending job with that serial, and changed nothing else. (6.27, 6.28)
+abbrev pub EndChangesNothingElse : Type 0
+EndChangesNothingElse = (run : Run) (serial units : ℕ) → Whole run → endSays (ended run serial .answer) ≡ ended-with units
+    → EndedAt run serial units (ended run serial .run)
+
+-- A refused end leaves the run unchanged. (6.18)
+abbrev pub RefusedEndChangesNothing : Type 0
+RefusedEndChangesNothing = (run : Run) (serial number place : ℕ) → endSays (ended run serial .answer) ≡ EndingSays.refused number place
+    → ended run serial .run ≡ run
+
+-- A tick keeps what the run keeps of every history of due times, and so does an end: due times go on counting when a job has finished or was ended. (4.5, 4.9,
+-- 6.17, 6.28)
+abbrev pub HistoriesStay : Type 0
+HistoriesStay = (run : Run) (history : ℕ → List ℕ) (serial : ℕ) → KeepsHistory run history
+    → KeepsHistory (ticked run .run) history × KeepsHistory (ended run serial .run) history

@@ -21,8 +21,8 @@ use Rattle.run.specs.declared.Started.{Started}
 use Rattle.run.specs.declared.StartAnswer.{StartAnswer}
 use Rattle.run.specs.declared.StartAnswer.the-variants as start
 
--- The fresh run of a table has the table's timer, rows and servers, the clock at 0, no pending job, the next serial 0, no due time kept, and 0 for every
--- server's last due time. (6.3)
+-- The fresh run of a table has the table's timer, rows and servers, the clock at 0, no pending job, the next serial 0, no due time kept, 0 for every server's
+-- last due time, and no job ended early. (6.3)
 abbrev pub freshRun : Table → Run
 freshRun t = record {
   table = t;
@@ -31,6 +31,7 @@ freshRun t = record {
   next = record { 0 = 0 };
   kept = replicate maxRows nothingKept;
   last = replicate maxServers (record { 0 = 0 });
+  ended = 0;
 }
 
 -- A start is ready where the table is accepted, and otherwise gives the table's refusal. (6.4)

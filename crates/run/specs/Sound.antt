@@ -66,10 +66,14 @@ serversSound [] ls = true
 serversSound (v ∷ vs) [] = true
 serversSound (v ∷ vs) (l ∷ ls) = serverInRange v && leb (l .0) maxTime && serversSound vs ls
 
--- The most that the next serial may be: the clock plus the number of pending jobs. The job of each serial given out is pending or was finished by a tick, and
--- no two were finished by the same tick. (6.23)
+-- At most so many jobs are ended early. (6.23)
+abbrev pub maxEnded : ℕ
+maxEnded = maxTime
+
+-- The most that the next serial may be: the clock plus the number of pending jobs plus the number of ended ones. The job of each serial given out is pending,
+-- was ended early, or was finished by a tick, and no two were finished by the same tick. (6.23)
 abbrev pub serialBound : Run → ℕ
-serialBound run = run .clock .0 + run .pending .count
+serialBound run = run .clock .0 + run .pending .count + run .ended
 
 -- A run is sound when all of these hold. The counts and the clock are tested before any place is looked at and before the clock is added to. (6.20 to 6.24)
 unfoldable pub soundOf : Run → Bool
@@ -79,6 +83,7 @@ soundOf run =
     && leb (run .table .serving) maxServers
     && leb (run .clock .0) maxTime
     && leb (run .pending .count) maxPlaces
+    && leb (run .ended) maxEnded
     && rowsSound (rowsOf (run .table)) (run .kept)
     && serversSound (serversOf (run .table)) (run .last)
     && jobsSound (costLimits (run .table)) (run .clock .0) (run .next .0) (jobsOf (run .pending))
@@ -105,6 +110,7 @@ pub record Sound (run : Run) : Type 0 where
   pub few-servers : run .table .serving ≤ maxServers
   pub clock-in-time : run .clock .0 ≤ maxTime
   pub few-pending : run .pending .count ≤ maxPlaces
+  pub few-ended : run .ended ≤ maxEnded
   pub rows : (i : ℕ) → i < run .table .count → WithinLimits (rowAt (run .table) i)
   pub c-within-d : (i : ℕ) → i < run .table .count → rowAt (run .table) i .c ≤ rowAt (run .table) i .d
   pub kept : (i : ℕ) → i < run .table .count → SoundKept (keptOf run i) (rowAt (run .table) i .x)
@@ -113,7 +119,7 @@ pub record Sound (run : Run) : Type 0 where
   pub jobs : (i : ℕ) → i < length (jobsOf (run .pending)) → SoundJob (run .table) (run .clock .0) (run .next .0) (getD (jobsOf (run .pending)) i noJob)
   pub apart : (i k : ℕ) → i < k → k < length (jobsOf (run .pending))
       → getD (jobsOf (run .pending)) i noJob .serial .0 ≡ getD (jobsOf (run .pending)) k noJob .serial .0 → ⊥
-  pub serials : run .next .0 ≤ run .clock .0 + run .pending .count
+  pub serials : run .next .0 ≤ run .clock .0 + run .pending .count + run .ended
 
 -- The arrays of a run have all their places. Every run that a program can hold has them by its type. `Run::sound` takes any run and ensures this, whatever it
 -- answers, so this premise of the laws holds for every run that a call is handed.

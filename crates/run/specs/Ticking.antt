@@ -20,10 +20,18 @@ use Rattle.run.specs.Sound.{soundOf}
 abbrev pub refusedTick : Run → Refusal → TickStep
 refusedTick run r = record { run = run; answer = answer.Refused r; late = 0 }
 
--- The run with another clock and other pending jobs. The timer, the rows, the servers, the next serial, the kept due times and the last due times stay as they
--- were: due times are kept after a finish, through idle time and through taken ticks. (4.5, 4.9, 6.17)
+-- The run with another clock and other pending jobs. The timer, the rows, the servers, the next serial, the kept due times, the last due times and the number
+-- of ended jobs stay as they were: due times are kept after a finish, through idle time and through taken ticks. (4.5, 4.9, 6.17)
 abbrev pub runWith : Run → (clock : ℕ) → Pending → Run
-runWith run clock p = record { table = run .table; clock = record { 0 = clock }; pending = p; next = run .next; kept = run .kept; last = run .last }
+runWith run clock p = record {
+  table = run .table;
+  clock = record { 0 = clock };
+  pending = p;
+  next = run .next;
+  kept = run .kept;
+  last = run .last;
+  ended = run .ended;
+}
 
 -- The timer takes the tick at the run's clock t when t mod p < s. (6.5)
 abbrev pub isTaken : Run → Bool

@@ -1,4 +1,4 @@
--- A run whose table has no servers is as it was before there were servers. This page says what soundness and a release were then, and that they are so still.
+-- A run whose table has no servers is as it was before there were servers. This page says what soundness and a release are by the rows alone, and that they are so still.
 -- (docs/RULES.md, 5.18.)
 use Prim.Native.Nat.{ℕ, _+_}
 use mathlib.Core.Path.{_≡_}
@@ -22,16 +22,17 @@ use Rattle.run.specs.declared.Run.{Run}
 use Rattle.run.specs.declared.ReleaseStep.{ReleaseStep}
 use Rattle.run.specs.declared.Released.the-variants as answer
 use Rattle.run.specs.Runs.{rowAt, keptOf}
-use Rattle.run.specs.Sound.{jobsSound, rowsSound, serialBound, soundOf, Whole}
+use Rattle.run.specs.Sound.{jobsSound, rowsSound, maxEnded, serialBound, soundOf, Whole}
 use Rattle.run.specs.Release.{refusedRelease, newJob, released}
 
--- A run is sound by its timer, rows and pending jobs alone. (6.20 to 6.24)
+-- A run is sound by its timer, rows, pending jobs and number of ended jobs alone. (6.20 to 6.24)
 unfoldable pub soundByRows : Run → Bool
 soundByRows run =
     timerInRange (run .table .s) (run .table .p)
     && leb (run .table .count) maxRows
     && leb (run .clock .0) maxTime
     && leb (run .pending .count) maxPlaces
+    && leb (run .ended) maxEnded
     && rowsSound (rowsOf (run .table)) (run .kept)
     && jobsSound (csOf (rowsOf (run .table))) (run .clock .0) (run .next .0) (jobsOf (run .pending))
     && distinctSerials (jobsOf (run .pending))
@@ -46,6 +47,7 @@ withJobOfRow run row cost due = record {
   next = record { 0 = run .next .0 + 1 };
   kept = set (run .kept) row (keptWith (keptOf run row) (rowAt (run .table) row) due);
   last = run .last;
+  ended = run .ended;
 }
 
 -- The last test of a release of a row. (6.6, 6.8)

@@ -7,6 +7,7 @@ use crate::soundness::rows_sound;
 use crate::soundness::servers_sound;
 use due::Due;
 use due::Kept;
+use jobs::Choice;
 use jobs::Job;
 use jobs::Pending;
 use jobs::Ran;
@@ -24,9 +25,10 @@ ghost use Rattle.run.specs.Runs.{freshRun, started};
 ghost use Rattle.run.specs.Sound.{soundOf, Whole};
 ghost use Rattle.run.specs.Release.{refusedRelease, released};
 ghost use Rattle.run.specs.Ticking.{ticked};
+ghost use Rattle.run.specs.Ending.{refusedEnd, ended};
 
-// A run holds its table, which is the timer, the rows and the servers, the clock, the pending jobs, the next serial, the kept due times of each row, and the
-// last due time of each server. (6.1)
+// A run holds its table, which is the timer, the rows and the servers, the clock, the pending jobs, the next serial, the kept due times of each row, the last
+// due time of each server, and how many jobs were ended early. (6.1)
 #[repr(C)]
 pub struct Run {
     pub table: Table,
@@ -35,6 +37,7 @@ pub struct Run {
     pub next: Serial,
     pub kept: [Kept; Table::MAX_ROWS],
     pub last: [Tick; Table::MAX_SERVERS],
+    pub ended: u64,
 }
 
 // The answer of a start: the run is ready, or the table was refused. (6.4)
@@ -82,6 +85,18 @@ pub struct TickStep {
     pub late: u64,
 }
 
+// The answer of an end: the units that the job was given so far, or a refusal. (6.27, 6.30)
+pub enum Ended {
+    Units(u64),
+    Refused(Refusal),
+}
+
+// The next run after an end, beside the answer. (6.19)
+pub struct EndStep {
+    pub run: Run,
+    pub answer: Ended,
+}
+
 // Starts a run on a table's bytes. An accepted table, an overloaded one too, gives its fresh run. Other bytes give the table's refusal, with the fresh run of
 // the empty table. (6.4)
 pub fn start(bytes: &[u8]) -> Started
@@ -110,6 +125,9 @@ impl Run {
     // The clock is at most 2^40. (6.2)
     pub const MAX_CLOCK: u64 = Tick::MAX;
 
+    // At most 2^40 jobs are ended early. (6.23)
+    pub const MAX_ENDED: u64 = Tick::MAX;
+
     // The fresh run of a table. (6.2, 6.3)
     pub fn fresh(table: Table) -> Run
         ensures { λ r. ⌜ r ≡ freshRun table ⌝ }
@@ -123,6 +141,7 @@ impl Run {
             next: Serial(0),
             kept: [nothing; Table::MAX_ROWS],
             last: [Tick(0); Table::MAX_SERVERS],
+            ended: 0,
         }
     }
 
@@ -153,6 +172,9 @@ impl Run {
         if Run::MAX_PENDING < pending.count {
             return false;
         }
+        if Run::MAX_ENDED < self.ended {
+            return false;
+        }
         if !rows_sound(table, kept) {
             return false;
         }
@@ -164,7 +186,7 @@ impl Run {
         if !jobs_sound(&limits[..used], clock, next, pending) {
             return false;
         }
-        next.0 <= clock.0 + pending.count as u64
+        next.0 <= clock.0 + pending.count as u64 + self.ended
     }
 
     // Releases a job of a row or of a server at the clock. It answers the job's serial and due time, or refuses with 11, 6, 7, 8 or 9, in this order. A
@@ -286,6 +308,44 @@ impl Run {
                 late,
             },
         }
+    }
+
+    // Ends the pending job that has a serial before it has had its cost. It answers the units that the job was given so far, or refuses with 11, 17 or 18, in
+    // this order. A refused end leaves the run unchanged. (6.18, 6.27 to 6.30)
+    pub fn end(self, serial: Serial) -> EndStep
+        ensures { λ r. ⌜ r ≡ ended self (serial .0) ⌝ }
+    {
+        if !self.sound() {
+            return refused_end(self, Refusal::RunNotSound);
+        }
+        let mut run = self;
+        let pending = run.pending;
+        let at = match pending.place_of(serial) {
+            Choice::Place(at) => at,
+            Choice::Nobody => return refused_end(run, Refusal::NotPending),
+        };
+        if Run::MAX_ENDED <= run.ended {
+            return refused_end(run, Refusal::TooManyEnded);
+        }
+        let job = pending.places[at];
+        let step = pending.take_out(at);
+        let rest = step.pending;
+        run.pending = rest;
+        run.ended += 1;
+        EndStep {
+            run,
+            answer: Ended::Units(job.cost - job.left),
+        }
+    }
+}
+
+// A refused end leaves the run unchanged. (6.18)
+fn refused_end(run: Run, refusal: Refusal) -> EndStep
+    ensures { λ r. ⌜ r ≡ refusedEnd run refusal ⌝ }
+{
+    EndStep {
+        run,
+        answer: Ended::Refused(refusal),
     }
 }
 

@@ -31,6 +31,7 @@ pub fn changed(what: u8, numbers: [u64; Case::NUMBERS], run: Run) -> Run {
         b'a' => with_a(run, a as usize, b),
         b'b' => with_b(run, a as usize, b),
         b'l' => with_last(run, a as usize, b),
+        b'e' => with_ended(run, a),
         _ => run,
     }
 }
@@ -169,5 +170,11 @@ fn with_last(mut run: Run, server: usize, due: u64) -> Run {
     let at = server % Table::MAX_SERVERS;
     let newest = Tick(due);
     run.last[at] = newest;
+    run
+}
+
+// Sets how many jobs were ended early: `ended = 1`.
+fn with_ended(mut run: Run, ended: u64) -> Run {
+    run.ended = ended;
     run
 }

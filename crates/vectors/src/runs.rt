@@ -1,5 +1,6 @@
 // The calls on a run. The run is kept from one call to the next. Behind each call stand its answer and then the run's clock, its number of pending jobs and
-// whether it is sound. `Release` and `Tick` lend the run by exclusive reference, and the other calls take it by value. (docs/RULES.md, sections 4 and 6.)
+// whether it is sound. `Release`, `Tick` and `Lent end` lend the run by exclusive reference, and the other calls take it by value. (An `E` is a digit, so no
+// call begins with it.) (docs/RULES.md, sections 4 and 6.)
 use crate::case::Case;
 use crate::case::least;
 use crate::changes::changed;
@@ -7,6 +8,9 @@ use crate::print;
 use crate::words;
 use jobs::Finished;
 use kinds::RowNumber;
+use kinds::Serial;
+use run::EndStep;
+use run::Ended;
 use run::ReleaseStep;
 use run::Released;
 use run::Run;
@@ -24,6 +28,8 @@ pub fn answer(case: Case, run: Run) -> Run {
         b'R' => release(true, run, RowNumber(numbers[0]), numbers[1]),
         b't' => tick(false, run),
         b'T' => tick(true, run),
+        b'e' => end(false, run, Serial(numbers[0])),
+        b'L' => end(true, run, Serial(numbers[0])),
         b'=' => shown(changed(case.change, numbers, run)),
         _ => run,
     }
@@ -106,6 +112,29 @@ fn told_tick(answer: Ticked) {
             }
         }
         Ticked::Refused(refusal) => print::refused(refusal),
+    }
+}
+
+// Ends a job early, and writes the answer and the run, such as `: units 2, clock 3, pending 1, sound`.
+fn end(lent: bool, run: Run, serial: Serial) -> Run {
+    let step = ended(lent, run, serial);
+    let answer = step.answer;
+    told_end(answer);
+    shown(step.run)
+}
+
+// Ends a job early on a run that is lent by exclusive reference, or on one that is handed over by value. (6.19)
+fn ended(lent: bool, run: Run, serial: Serial) -> EndStep {
+    if lent {
+        return lent::end_lent(run, serial);
+    }
+    run.end(serial)
+}
+
+fn told_end(answer: Ended) {
+    match answer {
+        Ended::Units(units) => print::count(words::UNITS, units),
+        Ended::Refused(refusal) => print::refused(refusal),
     }
 }
 

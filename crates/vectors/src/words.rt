@@ -2,8 +2,8 @@
 // check's time.
 use libc::STDOUT_FILENO;
 
-const ALL: [u8; 377] =
-    *b": refused @ at @: @, next @: length @, buffer:@, back@: feasible@: overloaded, length @, demand @: gap @, row @, cost @: the end@, held@, read to @: first@: second@: both ended@, part:@: in time, log length @: late, log length @, jobs late @, log:@: ready@: serial @, due @: idle@: ran @, finished@, unfinished@, late @, clock @, pending @, sound@, not sound@: changed@: taken@";
+const ALL: [u8; 386] =
+    *b": refused @ at @: @, next @: length @, buffer:@, back@: feasible@: overloaded, length @, demand @: gap @, row @, cost @: the end@, held@, read to @: first@: second@: both ended@, part:@: in time, log length @: late, log length @, jobs late @, log:@: ready@: serial @, due @: idle@: ran @, finished@, unfinished@, late @, clock @, pending @, sound@, not sound@: changed@: taken@: units @";
 
 pub const REFUSED: u64 = 0;
 
@@ -80,6 +80,8 @@ pub const NOT_SOUND: u64 = 35;
 pub const CHANGED: u64 = 36;
 
 pub const TAKEN: u64 = 37;
+
+pub const UNITS: u64 = 38;
 
 // Writes the word with this number.
 pub fn say(word: u64) {

@@ -10,6 +10,7 @@ pub mod chooser;
 pub mod damage;
 pub mod definition;
 pub mod edges;
+pub mod ends;
 pub mod families;
 pub mod fenced;
 pub mod hopeless;

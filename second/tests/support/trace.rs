@@ -5,8 +5,8 @@ use super::random::Random;
 use second::trace::{Answer, Call};
 
 /// All that this file knows of the library's side. Numbers take eight bytes each, lowest byte first. A call is three
-/// of them: 1, row, cost for a release; 2, 0, 0 for a tick. The answers are of four each, as the second program gives
-/// them, and their count is returned.
+/// of them: 1, row, cost for a release; 2, 0, 0 for a tick; 3, serial, 0 for an end. The answers are of four each,
+/// as the second program gives them, and their count is returned.
 mod library {
     extern "C" {
         pub fn trace(
@@ -24,6 +24,7 @@ fn numbers_of(call: &Call) -> [u64; 3] {
     match *call {
         Call::Release { row, cost } => [1, row, cost],
         Call::Tick => [2, 0, 0],
+        Call::End { serial } => [3, serial, 0],
     }
 }
 

@@ -8,7 +8,7 @@ use borrow.Author.Tests.{not-true, not-false}
 use Rattle.kinds.proofs.Lists.{length-mapped}
 use Rattle.run.specs.Sound.{Whole}
 use Rattle.run.proofs.Sound.{JobsTested, AllBefore, enough-limits, jobs-tested, bound-settles}
-use Rattle.run.proofs.Sound.{timer-out-of-range, too-many-rows, too-many-servers, clock-too-late, too-many-pending}
+use Rattle.run.proofs.Sound.{timer-out-of-range, too-many-rows, too-many-servers, clock-too-late, too-many-pending, too-many-ended}
 use Rattle.run.proofs.Sound.{rows-unsound, servers-unsound, jobs-unsound}
 use Rattle.run.proofs.Run.sound.Statement.{statement}
 use Rattle.run.proofs.Run.sound.Tie as tie
@@ -31,10 +31,10 @@ abbrev start-3 : (c : tie.Else3) → tie.Start
 start-3 c = start (c .before .before .before .before)
 
 -- The place past the third test, seen from where the rows are sound and from where the jobs were tested.
-abbrev few : (c : tie.Else6) → tie.Else3
-few c = c .before .before .before .before .before .before
+abbrev few : (c : tie.Else7) → tie.Else3
+few c = c .before .before .before .before .before .before .before .before
 
-abbrev rows : (c : tie.After-jobs-sound) → tie.Else6
+abbrev rows : (c : tie.After-jobs-sound) → tie.Else7
 rows c = c .before .before .before .before .before .before
 
 -- The code's test of the pending jobs answers what the definition says.
@@ -65,19 +65,22 @@ returns-4 c = (clock-too-late _ (c .if4 .taken), whole (start-3 (c .before .befo
 returns-5 : tie.Need-returns-5
 returns-5 c = (too-many-pending _ (c .if5 .taken), whole (start-3 (c .before .before .before .before)))
 
+returns-6 : tie.Need-returns-6
+returns-6 c = (too-many-ended _ (c .if6 .taken), whole (start-3 (c .before .before .before .before .before .before)))
+
 rows-sound-requires : tie.Need-rows-sound-requires
 rows-sound-requires c κs = search needs
 
-returns-6 : tie.Need-returns-6
-returns-6 c =
-    let wrong = rows-unsound _ (sym (c .before .rows-sound .ensures) ∙ not-true _ (c .if6 .taken)) in
-    (wrong, whole (start-3 (c .before .before .before .before .before .before)))
+returns-7 : tie.Need-returns-7
+returns-7 c =
+    let wrong = rows-unsound _ (sym (c .before .rows-sound .ensures) ∙ not-true _ (c .if7 .taken)) in
+    (wrong, whole (start-3 (c .before .before .before .before .before .before .before .before)))
 
 servers-sound-requires : tie.Need-servers-sound-requires
 servers-sound-requires c κs = search needs
 
-returns-7 : tie.Need-returns-7
-returns-7 c = (servers-unsound _ (sym (c .before .servers-sound .ensures) ∙ not-true _ (c .if7 .taken)), whole (start-3 (few (c .before .before))))
+returns-8 : tie.Need-returns-8
+returns-8 c = (servers-unsound _ (sym (c .before .servers-sound .ensures) ∙ not-true _ (c .if8 .taken)), whole (start-3 (few (c .before .before))))
 
 cost-limits-requires : tie.Need-cost-limits-requires
 cost-limits-requires c κs = search needs
@@ -97,17 +100,20 @@ slice-aggregate-jobs-sound c =
 jobs-sound-requires : tie.Need-jobs-sound-requires
 jobs-sound-requires c κs = search needs
 
-returns-8 : tie.Need-returns-8
-returns-8 c =
+returns-9 : tie.Need-returns-9
+returns-9 c =
     let j = c .before in
-    (jobs-unsound _ (is-tested j ∙ not-true _ (c .if8 .taken)), whole (start-3 (few (rows j))))
+    (jobs-unsound _ (is-tested j ∙ not-true _ (c .if9 .taken)), whole (start-3 (few (rows j))))
 
 add-result : tie.Need-add-result
 add-result c = search needs
 
-returns-9 : tie.Need-returns-9
-returns-9 c =
-    let j = c .before .before .before in
+add-result-2 : tie.Need-add-result-2
+add-result-2 c = search needs
+
+returns-10 : tie.Need-returns-10
+returns-10 c =
+    let j = c .before .before .before .before in
     let r = rows j in
     let t = few r in
     let first = t .before .before .before .before in
@@ -115,11 +121,12 @@ returns-9 c =
       timer = sym (first .before .timer-in-range .ensures) ∙ not-false _ (first .if1 .left);
       few-rows = t .before .before .if2 .left;
       few-servers = t .if3 .left;
-      clock-in-time = r .before .before .before .before .if4 .left;
-      few-pending = r .before .before .if5 .left;
-      rows = sym (r .before .rows-sound .ensures) ∙ not-false _ (r .if6 .left);
-      servers = sym (j .before .before .before .before .before .servers-sound .ensures) ∙ not-false _ (j .before .before .before .before .if7 .left);
-      jobs = is-tested j ∙ not-false _ (c .before .before .if8 .left);
+      clock-in-time = r .before .before .before .before .before .before .if4 .left;
+      few-pending = r .before .before .before .before .if5 .left;
+      few-ended = r .before .before .if6 .left;
+      rows = sym (r .before .rows-sound .ensures) ∙ not-false _ (r .if7 .left);
+      servers = sym (j .before .before .before .before .before .servers-sound .ensures) ∙ not-false _ (j .before .before .before .before .if8 .left);
+      jobs = is-tested j ∙ not-false _ (c .before .before .before .if9 .left);
     } in
     (bound-settles _ before, whole (start first))
 
@@ -133,15 +140,17 @@ sound-spec =
     returns-3
     returns-4
     returns-5
-    rows-sound-requires
     returns-6
-    servers-sound-requires
+    rows-sound-requires
     returns-7
+    servers-sound-requires
+    returns-8
     cost-limits-requires
     add-used
     array-share-prefix-limits
     slice-aggregate-jobs-sound
     jobs-sound-requires
-    returns-8
+    returns-9
     add-result
-    returns-9)
+    add-result-2
+    returns-10)
