@@ -228,7 +228,7 @@ mod tests {
 
     #[test]
     fn what_is_not_in_use_stays_but_a_place_that_a_job_has_left_holds_zeros() {
-        let mut host = Host::started(&spell_all([0, 1], &[[2, 4, 3, 3]], &[[1, 4]]));
+        let host = Host::started(&spell_all([0, 1], &[[2, 4, 3, 3]], &[[1, 4]]));
         let other = Job { serial: 9, row: 9, release: 9, due: 9, cost: 9, left: 9 };
         let mut expected = host.held();
         expected.pending.fill(other.clone());
