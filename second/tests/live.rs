@@ -37,33 +37,25 @@ const ENDED: usize = 5_983;
 fn main() {
     let seed = settings::number("JYRMEKKO_SEED", 1);
     let sequences = settings::number("JYRMEKKO_SEQUENCES", SEQUENCES);
-    let mut met = Met::default();
-    let mut passed = 0;
-    let mut say = |name: &str, met: &mut Met, compare: &mut dyn FnMut(&mut Met)| {
-        let before = met.total();
-        compare(met);
-        println!("{:>9} calls, {name}", met.total() - before);
-        passed += 1;
-    };
-    say("with their answers written out", &mut met, &mut |met| written_out(seed, met));
-    say("in random sequences", &mut met, &mut |met| {
+    let mut compared = Compared::default();
+    compared.family("with their answers written out", |met| written_out(seed, met));
+    compared.family("in random sequences", |met| {
         let mut memory = live::zeros();
         for index in 0..sequences {
             memory = sequence(memory, seed, index, met);
         }
     });
-    say("to start on damaged tables", &mut met, &mut |met| starts(seed, met));
-    say("on sound runs that no calls have made", &mut met, &mut |met| {
+    compared.family("to start on damaged tables", |met| starts(seed, met));
+    compared.family("on sound runs that no calls have made", |met| {
         (0..sequences).for_each(|index| on_a_made_run(seed, index, met));
     });
-    let mut whole = vec![];
-    let mut small = vec![];
-    say("to make a run with all in use", &mut met, &mut |met| whole = run_with_all_in_use(seed, met));
-    say("to make a run with little in use", &mut met, &mut |met| small = run_with_little_in_use(seed, met));
+    let all = compared.family("to make a run with all in use", |met| run_with_all_in_use(seed, met));
+    let little = compared.family("to make a run with little in use", |met| run_with_little_in_use(seed, met));
     let all_values = sequences >= SEQUENCES;
-    say("with all in use and each number changed", &mut met, &mut |met| changed(&whole, all_values, seed, met));
-    say("with little in use and each number changed", &mut met, &mut |met| changed(&small, all_values, seed, met));
+    compared.family("with all in use and each number changed", |met| changed(&all, all_values, seed, met));
+    compared.family("with little in use and each number changed", |met| changed(&little, all_values, seed, met));
 
+    let Compared { families, met } = compared;
     println!("{} calls on live runs with seed {seed}", met.total());
     let statuses: Vec<String> =
         met.statuses.iter().map(|((call, status), count)| format!("{call} {status}: {count}")).collect();
@@ -72,7 +64,24 @@ fn main() {
     println!("numbers changed, in use and sound afterwards: {}", changes.join(", "));
     println!("units given on feasible tables, with nobody late: {}", met.promised);
     check(&met);
-    println!("{} passed, 0 failed", passed + 1);
+    println!("{} passed, 0 failed", families + 1);
+}
+
+#[derive(Default)]
+struct Compared {
+    /// This many families of calls went through without a difference.
+    families: u64,
+    met: Met,
+}
+
+impl Compared {
+    fn family<T>(&mut self, name: &str, compare: impl FnOnce(&mut Met) -> T) -> T {
+        let before = self.met.total();
+        let made = compare(&mut self.met);
+        println!("{:>9} calls, {name}", self.met.total() - before);
+        self.families += 1;
+        made
+    }
 }
 
 /// Everything has to be met that can be, and nothing else.
@@ -305,30 +314,26 @@ fn run_with_all_in_use(seed: u64, met: &mut Met) -> Vec<u8> {
     let mut random = Random::of(seed, 1 << 41);
     let rows: Vec<_> = (0..MOST_ROWS).map(|row| [MOST_X, 1 << (row % 5), 5_000 + row, 2 + row]).collect();
     let servers: Vec<_> = (0..MOST_SERVERS).map(|server| [1 + server, 16]).collect();
-    let mut live = Live::on(&live::zeros(), format!("a run with all in use, seed {seed}"), &mut random);
-    let mut call = |call: OnRun| live.call(Call::OnRun(call), 16, &mut random, met);
-    assert_eq!(call(Tick), (11, 0, 0));
-    let table = tables::spell_all([1, 4], &rows, &servers);
-    assert_eq!(live.call(Call::Start(table), 16, &mut random, met), (33, 0, 0));
-    let mut call = |call: OnRun| live.call(Call::OnRun(call), 16, &mut random, met);
     let numbers = MOST_ROWS + MOST_SERVERS;
+    let mut live = Live::on(&live::zeros(), format!("a run with all in use, seed {seed}"), &mut random);
+    let mut call = |call: Call| live.call(call, 16, &mut random, met);
+    assert_eq!(call(Call::Start(tables::spell_all([1, 4], &rows, &servers))), (33, 0, 0));
     for row in 0..numbers {
         for _ in 0..MOST_X {
-            let (_, serial, _) = call(Release { row, cost: 1 });
-            assert_eq!(call(End { serial }), (39, 0, 0));
+            let (_, serial, _) = call(Call::OnRun(Release { row, cost: 1 }));
+            assert_eq!(call(Call::OnRun(End { serial })), (39, 0, 0));
         }
     }
-    for job in 0_u64.. {
+    for job in 0.. {
         if job % 10 == 0 {
-            call(Tick);
+            call(Call::OnRun(Tick));
         }
-        if call(Release { row: job * 7 % numbers, cost: 2 }) == (8, 0, 0) {
+        if call(Call::OnRun(Release { row: job * 7 % numbers, cost: 2 })) == (8, 0, 0) {
             break;
         }
     }
-    while live.held().pending_count == MOST_PENDING as u64 {
-        live.call(Call::OnRun(Tick), 16, &mut random, met);
-    }
+    // The first finish frees one place.
+    while !matches!(call(Call::OnRun(Tick)), (FINISHED, ..)) {}
     live.memory().to_vec()
 }
 
@@ -426,6 +431,7 @@ fn written_out(seed: u64, met: &mut Met) {
         (end(0), (17, 0, 0)),
         (release(0, 1), (6, 0, 0)),
         (tick.clone(), (35, 0, 0)),
+        (start(&[]), (1, 0, 0)),
         (start(&[1, 2, 65]), (2, 2, 0)),
         (start(&[1, 2, 0, 2, 1, 2, 4, 3]), (3, 7, 0)),
         (start(&[0, 1, 0, 0, 0]), (4, 4, 0)),
