@@ -4,11 +4,13 @@ pub mod Jobs
 pub mod Ticks
 pub mod Timers
 pub mod Curves
+pub mod Descent
 pub mod Demand
 pub mod Paper
 pub mod DueTimes
 pub mod Windows
 pub mod Servers
+pub mod Terms
 pub mod AllAtZero
 pub mod Trace
 pub mod EarliestDue

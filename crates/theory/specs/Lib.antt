@@ -1,10 +1,12 @@
 pub mod Lists
 pub mod Curves
+pub mod Descent
 pub mod Demand
 pub mod Paper
 pub mod Jobs
 pub mod DueTimes
 pub mod Servers
+pub mod Terms
 pub mod Ticks
 pub mod Trace
 pub mod Schedules
