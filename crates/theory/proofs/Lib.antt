@@ -11,6 +11,12 @@ pub mod DueTimes
 pub mod Windows
 pub mod Servers
 pub mod Terms
+pub mod TermCurves
+pub mod Reciprocal
+pub mod Lines
+pub mod Parts
+pub mod Classes
+pub mod Steps
 pub mod AllAtZero
 pub mod Trace
 pub mod EarliestDue

@@ -8,6 +8,12 @@ pub mod DueTimes
 pub mod Servers
 pub mod Terms
 pub mod Ticks
+pub mod TermCurves
+pub mod Reciprocal
+pub mod Lines
+pub mod Parts
+pub mod Classes
+pub mod Steps
 pub mod Trace
 pub mod Schedules
 pub mod Sources
