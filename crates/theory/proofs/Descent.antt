@@ -84,9 +84,11 @@ module _ (f : ℕ → ℕ) (start period over m r : ℕ) (curve : Curve f start 
 pub late : Late
 late f start period over m r curve some-period some fit least first =
     let k = periodsToFail m over in
-    let e = after-periods f start period over m r curve some-period some least first r k (omega (arith, first .from-lo)) in
-    (record {
-      some-length = omega (arith, first .from-lo);
-      fails = omega (arith, e, first .fails);
-      smaller-fit = smaller-fits f start period over m r curve some-period some least first fit;
-    }, omega (arith, e))
+    let e = after-periods f start period over m r curve some-period some least first r k (omega (arith, first .from-lo)) in (
+      record {
+        some-length = omega (arith, first .from-lo);
+        fails = omega (arith, e, first .fails);
+        smaller-fit = smaller-fits f start period over m r curve some-period some least first fit;
+      },
+      omega (arith, e),
+    )
