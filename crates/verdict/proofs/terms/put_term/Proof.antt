@@ -22,7 +22,7 @@ div-terms : tie.Need-div-terms
 div-terms c = search needs
 
 add-terms : tie.Need-add-terms
-add-terms c = omega (arith, div-le-self (c .args .a * 8589934592) (c .args .b))
+add-terms c = omega (arith, div-le-self (c .args .a * parts) (c .args .b))
 
 mul-terms-2 : tie.Need-mul-terms-2
 mul-terms-2 c = search needs

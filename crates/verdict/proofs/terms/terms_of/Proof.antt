@@ -4,6 +4,7 @@ use mathlib.Core.Path.{_≡_, refl}
 use native.Mathlib.Omega.{arith}
 use native.Mathlib.Nat.{div-le-self}
 use borrow.Author.Needs.{needs}
+use Rattle.verdict.specs.HeldTerms.{parts}
 use Rattle.verdict.proofs.Rows.{row-within}
 use Rattle.verdict.proofs.Bounds.{some-b, cost-of-x-at-most}
 use Rattle.verdict.proofs.FilledTerms.{Filled}
@@ -33,7 +34,7 @@ div-terms : tie.Need-div-terms Inv-loop μ-loop Inv-loop2 μ-loop2
 div-terms c = omega arith
 
 add-terms : tie.Need-add-terms Inv-loop μ-loop Inv-loop2 μ-loop2
-add-terms c = omega (arith, div-le-self 8589934592 (c .args .t1 .p))
+add-terms c = omega (arith, div-le-self parts (c .args .t1 .p))
 
 array-write-terms-3 : tie.Need-array-write-terms-3 Inv-loop μ-loop Inv-loop2 μ-loop2
 array-write-terms-3 c = omega arith
