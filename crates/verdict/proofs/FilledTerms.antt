@@ -1,6 +1,6 @@
 -- An array of terms is filled one term after another. A term that is set stands after those that are there, and changes none of them. (docs/RULES.md, 5.3.)
-use Prim.Native.Nat.{ℕ, zero, suc, _+_, _*_, _≤_, _<_}
-use mathlib.Core.Path.{_≡_, refl, sym, ap, _∙_}
+use Prim.Native.Nat.{ℕ, zero, suc, _+_, _≤_, _<_}
+use mathlib.Core.Path.{_≡_, refl, sym, _∙_}
 use mathlib.Core.List.{List, [], _∷_}
 use native.Mathlib.Omega.{arith}
 use lib.ListN.{length, getD, set, length-set}
@@ -8,8 +8,8 @@ use lib.Seq.{sets, length-sets, getD-set-same, getD-set-other}
 use Rattle.theory.specs.Ticks.{timerTakes}
 use Rattle.theory.specs.Terms.{termDemand, reciprocal}
 use Rattle.theory.proofs.Cases.{by-eq}
-use Rattle.table.specs.Limits.{maxSources, maxX, maxY, maxC, maxB}
-use Rattle.verdict.specs.HeldTerms.{parts, heldEntries, groupOf, heldS, heldP, heldTerm, sumBelow, heldDemand}
+use Rattle.table.specs.Limits.{maxSources}
+use Rattle.verdict.specs.HeldTerms.{parts, heldEntries, groupOf, heldS, heldP, heldTerm, heldDemand}
 use Rattle.verdict.specs.HeldTerms.{GoodTerm, GoodAt, GoodHeader, Held, withTerm}
 use Rattle.verdict.proofs.HeldTerms.{no-terms, one-term-more}
 
@@ -104,15 +104,19 @@ module _ {l : List ℕ} {n : ℕ} {f : ℕ → ℕ} (filled : Filled l n f) (roo
   entry : (j : ℕ) → j < 6 → getD more (groupOf n + j) 0 ≡ getD (reciprocal parts a b ∷ w ∷ up ∷ down ∷ b ∷ a ∷ []) j 0
   entry j h = sets-here (reciprocal parts a b ∷ w ∷ up ∷ down ∷ b ∷ a ∷ []) l (groupOf n) j h (omega (arith, filled .as-long))
 
+  -- The first entry of the group is the reciprocal.
   entry-zero : getD more (groupOf n) 0 ≡ reciprocal parts a b
   entry-zero = let e : groupOf n + 0 ≡ groupOf n = omega arith in rw e at (entry 0 (omega arith))
 
+  -- The entries before the group are as they were.
   unchanged : Same l more (groupOf n)
   unchanged e h = sets-before (reciprocal parts a b ∷ w ∷ up ∷ down ∷ b ∷ a ∷ []) l (groupOf n) e h
 
+  -- The term that is set is a good one.
   good-here : GoodAt more n
   good-here = rw (entry-zero, entry 1 (omega arith), entry 2 (omega arith), entry 4 (omega arith), entry 5 (omega arith)) good
 
+  -- The demand of the term that is set.
   term-here : (L : ℕ) → heldTerm more n L ≡ termDemand b a w up down L
   term-here L = rw (entry 1 (omega arith), entry 2 (omega arith), entry 3 (omega arith), entry 4 (omega arith), entry 5 (omega arith)) refl
 

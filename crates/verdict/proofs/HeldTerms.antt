@@ -1,22 +1,21 @@
 -- The demand that an array of terms holds: no step of its sum overflows, it never falls, and a group that is set holds its term. (docs/RULES.md, 5.3.)
-use Prim.Native.Nat.{ℕ, zero, suc, _+_, _-_, _*_, _/_, _%_, _^_, _≤_, _<_, min}
-use mathlib.Core.Path.{_≡_, refl, ap, _∙_}
-use mathlib.Core.List.{List, [], _∷_}
+use Prim.Native.Nat.{ℕ, zero, suc, _+_, _-_, _*_, _/_, _%_, _≤_, _<_, min}
+use mathlib.Core.Path.{_≡_, refl}
+use mathlib.Core.List.{List}
 use native.Mathlib.Omega.{arith}
 use native.Mathlib.Nat.{dvd-refl, div-le-of-le-mul, div-mul-le-self, mod-eq-sub-div-mul, mul-le-mul, mul-le-mul-left, mul-le-mul-right}
 use native.Mathlib.Numerals.{add-one}
-use lib.ListN.{length, getD, set, length-set}
-use lib.Seq.{sets, getD-set-same, getD-set-other}
+use lib.ListN.{getD}
 use Rattle.theory.specs.Ticks.{timerTakes}
-use Rattle.theory.specs.Terms.{termDemand, reciprocal}
+use Rattle.theory.specs.Terms.{termDemand}
 use Rattle.theory.specs.Descent.{NeverFalls}
 use Rattle.theory.proofs.Demand.{floor-is-monotone}
 use Rattle.theory.proofs.Terms.{by-reciprocal}
 use Rattle.theory.proofs.Timers.{timer-is-a-curve}
-use Rattle.table.specs.Limits.{maxSources, maxX, maxY, maxC, maxB}
+use Rattle.table.specs.Limits.{maxX, maxY, maxC}
 use Rattle.table.specs.Timer.{GoodTimer}
-use Rattle.verdict.specs.HeldTerms.{parts, maxSearched, heldEntries, groupOf, heldS, heldP, heldTerm, sumBelow, heldDemand}
-use Rattle.verdict.specs.HeldTerms.{GoodTerm, GoodAt, GoodHeader, Held, withTimer, withTerm}
+use Rattle.verdict.specs.HeldTerms.{parts, maxSearched, groupOf, heldS, heldP, heldTerm, sumBelow, heldDemand}
+use Rattle.verdict.specs.HeldTerms.{GoodTerm, GoodHeader, Held}
 use Rattle.verdict.proofs.Bounds.{taken-at-most}
 
 -- No v of a term is above this.

@@ -6,7 +6,7 @@ use Rattle.theory.specs.Curves.{SmallestFailing, FitsUpTo}
 use Rattle.theory.specs.Descent.{NeverFalls, raised, FitsBetween, LargestFrom, SmallestFrom, LeastSlack}
 use Rattle.theory.proofs.Cases.{by-lt}
 use Rattle.theory.proofs.Descent.{descent}
-use Rattle.verdict.specs.QuickVerdict.{LargestOrNone, SmallestOrNone, Failing}
+use Rattle.verdict.specs.QuickVerdict.{LargestOrNone, SmallestOrNone}
 
 -- ---- from the end of a stretch down
 

@@ -1,9 +1,9 @@
 -- The array of a table is filled with its timer, its servers and its rows, and then holds the table's demand. (docs/RULES.md, 5.3.)
-use Prim.Native.Nat.{ℕ, _+_, _-_, _*_, _≤_, _<_}
+use Prim.Native.Nat.{ℕ, _+_, _-_, _*_, _<_}
 use mathlib.Core.Path.{_≡_, refl}
 use mathlib.Core.List.{List}
 use native.Mathlib.Omega.{arith}
-use lib.ListN.{length, getD, take}
+use lib.ListN.{length, getD}
 use Rattle.theory.specs.Lists.{total}
 use Rattle.theory.specs.Ticks.{timerTakes}
 use Rattle.theory.specs.Terms.{reciprocal}
@@ -13,7 +13,7 @@ use Rattle.table.specs.declared.Server.{Server}
 use Rattle.table.specs.declared.Table.{Table}
 use Rattle.table.specs.SpelledTables.{WithinLimits}
 use Rattle.table.specs.Servers.{GoodServer, noServer}
-use Rattle.table.specs.Tables.{noRow, serversOf, InRange}
+use Rattle.table.specs.Tables.{noRow, InRange}
 use Rattle.verdict.specs.Demand.{tableDemand}
 use Rattle.verdict.specs.HeldTerms.{parts, heldEntries, heldS, heldP, heldDemand, GoodTerm, Held, withTerm}
 use Rattle.verdict.proofs.Sums.{total-more}
@@ -85,7 +85,8 @@ module _ {t : Table} (in-range : InRange t) where
       let limits = row-within in-range i h in
       let e : t .serving + (i + 1) ≡ t .serving + i + 1 = omega arith in
       rw e (filled-as
-      (one-more-filled filled (omega (arith, in-range .few-servers, in-range .few-rows)) (r .y) 1 (r .x * r .c) (r .y - r .d) (r .d - r .y) (row-is-good r limits))
+      (one-more-filled filled (omega (arith, in-range .few-servers, in-range .few-rows)) (r .y) 1 (r .x * r .c) (r .y - r .d) (r .d - r .y)
+      (row-is-good r limits))
       (λ L. omega (
         arith,
         total-more noRow (t .rows) (demandIn L) i (omega (arith, row-places in-range)),

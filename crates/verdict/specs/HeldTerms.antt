@@ -80,10 +80,6 @@ pub record Held (l : List ℕ) (count : ℕ) : Type 0 where
   pub few : count ≤ maxSources
   pub good : (i : ℕ) → i < count → GoodAt l i
 
--- The array with its first group set to this timer.
-abbrev pub withTimer : (s p : ℕ) → List ℕ → List ℕ
-withTimer s p l = sets l 0 (s ∷ p ∷ reciprocal parts 1 p ∷ [])
-
 -- The array with the group of term i set to these numbers.
 abbrev pub withTerm : (i b a w up down : ℕ) → List ℕ → List ℕ
 withTerm i b a w up down l = sets l (groupOf i) (reciprocal parts a b ∷ w ∷ up ∷ down ∷ b ∷ a ∷ [])

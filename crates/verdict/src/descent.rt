@@ -1,6 +1,6 @@
-// The quick search among the lengths up to H + the largest d. The demand never falls from a length to a longer one. So where a length fits, every length from its
-// demand up to it fits as well, and a search that starts at the end of a stretch passes over all of these at once. Everything here is about the demand that an
-// array of terms holds, raised by `extra` in every length. (docs/RULES.md, 5.4 to 5.9.)
+// The quick search among the lengths up to H + the largest d. The demand never falls from a length to a longer one. So where a length fits, every length from
+// its demand up to it fits as well, and a search that starts at the end of a stretch passes over all of these at once. Everything here is about the demand that
+// an array of terms holds, raised by `extra` in every length. (docs/RULES.md, 5.4 to 5.9.)
 use crate::Verdict;
 use crate::Witness;
 use crate::terms::ROOM;

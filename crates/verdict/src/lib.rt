@@ -144,8 +144,8 @@ fn largest_d(table: Table) -> u64
     largest
 }
 
-// The answer is the verdict on the table that the bytes spell, or its refusal. Every length is looked at in turn. Where the demand grows in H ticks by at most H,
-// the lengths up to H + the largest d settle the verdict. Otherwise a length up to (the largest d + 1) · H + the largest d fails. (5.4 to 5.9)
+// The answer is the verdict on the table that the bytes spell, or its refusal. Every length is looked at in turn. Where the demand grows in H ticks by at most
+// H, the lengths up to H + the largest d settle the verdict. Otherwise a length up to (the largest d + 1) · H + the largest d fails. (5.4 to 5.9)
 pub fn judge_every_length(bytes: &[u8]) -> Verdict
     ensures { λ r. ⌜ Judged (now (bytes .entry)) r ⌝ }
 {

@@ -4,17 +4,19 @@
 use table::Table;
 ghost use mathlib.Core.Path.{_≡_};
 ghost use Prim.Native.Nat.{ℕ, _+_, _-_, _≤_, _<_};
-ghost use lib.ListN.{length};
 ghost use Rattle.theory.specs.Ticks.{timerTakes};
 ghost use Rattle.table.specs.Limits.{maxSources, maxB};
 ghost use Rattle.table.specs.Tables.{InRange};
 ghost use Rattle.verdict.specs.Demand.{tableDemand};
-ghost use Rattle.verdict.specs.HeldTerms.{parts, maxSearched, heldEntries, heldS, heldP, heldTerm, heldDemand, GoodAt, GoodHeader, Held, withTerm};
+ghost use Rattle.verdict.specs.HeldTerms.{maxSearched, heldS, heldP, heldTerm, heldDemand, GoodAt, GoodHeader, Held, withTerm};
 
-// The entries of the array.
-pub(crate) const ROOM: usize = 6 * (Table::MAX_ROWS + Table::MAX_SERVERS + 1);
+// The numbers of one group.
+const GROUP: usize = 6;
 
-// Reciprocals are in parts of this, which is above every number that is multiplied by one, times its b.
+// The entries of the array: one group for the timer, and one for each term that a table may have.
+pub(crate) const ROOM: usize = GROUP * (Table::MAX_ROWS + Table::MAX_SERVERS + 1);
+
+// Reciprocals are in parts of this. A number that is multiplied by the reciprocal of a b is so small that b times that number is below it.
 const PARTS: u64 = 8589934592;
 
 // How far x is past y, or 0 if it is not.
@@ -32,7 +34,7 @@ fn term_demand(terms: &[u64; ROOM], i: usize, length: u64) -> u64
     requires { ⌜ (i < maxSources) × (GoodAt (now terms) i) × (length ≤ maxSearched) ⌝ }
     ensures { λ r. ⌜ r ≡ heldTerm (now (terms .entry)) i length ⌝ }
 {
-    let at = 6 * i + 6;
+    let at = GROUP * i + GROUP;
     let v = past(length + terms[at + 2], terms[at + 3]);
     v * terms[at] / PARTS * terms[at + 1]
 }
@@ -66,12 +68,12 @@ pub(crate) fn held_demand(terms: &[u64; ROOM], count: usize, length: u64) -> u64
     sum
 }
 
-// Sets the group of term i.
+// Sets the group of term i. The one division by b is here.
 fn put_term(terms: &mut [u64; ROOM], i: usize, b: u64, a: u64, w: u64, up: u64, down: u64)
     requires { ⌜ (i < maxSources) × (1 ≤ b) × (a ≤ maxB) ⌝ }
     ensures { λ r. ⌜ now (terms .exit) ≡ withTerm i b a w up down (now (terms .entry)) ⌝ }
 {
-    let at = 6 * i + 6;
+    let at = GROUP * i + GROUP;
     terms[at] = a * PARTS / b + 1;
     terms[at + 1] = w;
     terms[at + 2] = up;

@@ -1,6 +1,5 @@
 -- `verdict::judge` meets its contract: a small witness is found by the scan of the first lengths, and the quick search settles what is left.
-use Prim.Native.Nat.{ℕ, _+_, _*_, _≤_}
-use mathlib.Core.Path.{_≡_}
+use Prim.Native.Nat.{_+_, _≤_}
 use mathlib.Core.Logic.{⊎-elim}
 use native.Mathlib.Omega.{arith}
 use borrow.Author.Needs.{needs}
@@ -39,7 +38,8 @@ scan-end c = ⊎-elim (λ w. omega arith) (λ w. omega arith) (c .if1 .came)
 
 -- The first lengths fit, where the scan found none that fails.
 early-fit : (c : tie.After-enum-told)
-    → FitsUpTo (tableDemand (c .before .before .before .before .before .before .before .before .before .read-table .result .table)) (c .before .before .before .if1 .early)
+    → (let k = c .before .before .before .before .before in
+    FitsUpTo (tableDemand (k .before .before .before .before .read-table .result .table)) (c .before .before .before .if1 .early))
 early-fit c = rw (c .enum-told .given .1) at (c .before .before .scan-range .ensures)
 
 read-table-requires : tie.Need-read-table-requires
@@ -82,9 +82,12 @@ add-if2 c = omega (arith, small-d (c .before .before .before .before .before), k
 
 returns-3 : tie.Need-returns-3
 returns-3 c =
-    let k = c .before .before .before .before .before .before .before .before in
-    let all : c .before .before .before .before .before .before .before .largest-d .result + k .before .answer .given .0 .0 ≤ c .before .before .before .before .before .before .if1 .early = ⊎-elim (λ w. omega arith) (λ w. omega arith) (c .before .before .before .before .before .before .if1 .came) in
-    judged k _ (settled-by-one-period _ _ (known k) (c .before .before .before .before .before .before .before .largest-d .ensures) (c .before .before .growth .ensures) (c .if3 .taken)
+    let first = c .before .before .before .before .before .before in
+    let d = first .before .largest-d in
+    let k = first .before .before in
+    let all : d .result + k .before .answer .given .0 .0 ≤ first .if1 .early = ⊎-elim (λ w. omega arith) (λ w. omega arith) (first .if1 .came) in
+    judged k _
+    (settled-by-one-period _ _ (known k) (d .ensures) (c .before .before .growth .ensures) (c .if3 .taken)
     (λ L one high. early-fit (c .before .before .before) L one (omega arith)))
 
 add-count : tie.Need-add-count
@@ -95,19 +98,24 @@ terms-of-requires c κs = known (c .before .before .before .before .before .befo
 
 search-requires : tie.Need-search-requires
 search-requires c κs =
-    let k = known (c .before .before .before .before .before .before .before .before .before .before) in
-    let same = c .before .terms-of .ensures .1 in (
-      c .before .terms-of .ensures .0,
-      small-d (c .before .before .before .before .before .before .before .before .before),
+    let held = c .before .terms-of .ensures in
+    let grows = c .before .before .before .before in
+    let first = grows .before .before .before .before in
+    let k = known (first .before .before) in (
+      held .0,
+      small-d (first .before),
       k .some-period,
       k .most-period,
-      scan-end (c .before .before .before .before .before .before .before .before),
-      same-fits _ _ same (early-fit (c .before .before .before .before .before)),
-      same-curve _ _ same (rw (c .before .before .before .before .before .before .before .before .before .largest-d .ensures, c .before .before .before .before .growth .ensures) (k .curve)),
+      scan-end first,
+      same-fits _ _ (held .1) (early-fit (grows .before)),
+      same-curve _ _ (held .1) (rw (first .before .largest-d .ensures, grows .growth .ensures) (k .curve)),
     )
 
 returns-4 : tie.Need-returns-4
-returns-4 c = judged (c .before .before .before .before .before .before .before .before .before .before .before) (c .search .result) (right-for-same _ _ (c .before .before .terms-of .ensures .1) (c .search .result) (c .search .ensures))
+returns-4 c =
+    let held = c .before .before .terms-of .ensures in
+    let k = c .before .before .before .before .before .before .before .before .before .before .before in
+    judged k (c .search .result) (right-for-same _ _ (held .1) (c .search .result) (c .search .ensures))
 
 pub judge-spec : {M : Type 1} → statement M
 judge-spec =

@@ -33,8 +33,8 @@ descend-requires c κs =
     (p .0, p .1, omega arith, omega (arith, stretch c .1))
 
 -- The length that was found is the largest of the stretch that fails.
-found : (c : tie.Then2 Inv-loop μ-loop) → (let s = c .before .before .before .before .before in
-    LargestFrom (raised (heldDemand (s .args .terms .now) (s .args .count)) (s .args .extra)) (c .before .before .before .before .loop .low) (c .before .before .if1 .high) (c .before .descend .result))
+found : (c : tie.Then2 Inv-loop μ-loop) → (let k = c .before .before .before .before in let a = k .before .args in
+    LargestFrom (raised (heldDemand (a .terms .now) (a .count)) (a .extra)) (k .loop .low) (c .before .before .if1 .high) (c .before .descend .result))
 found c = c .before .descend .ensures .some (c .if2 .taken)
 
 smallest-requires : tie.Need-smallest-requires Inv-loop μ-loop
@@ -61,7 +61,7 @@ loop-again c =
     (omega (arith, stretch (c .before .before .before) .0), fits-further (v .1) (c .before .before .descend .ensures .none (omega arith)))
 
 returns-2 : tie.Need-returns-2 Inv-loop μ-loop
-returns-2 c = none-fails-at-all (c .loop-test .left) (c .before .loop .inv .1)
+returns-2 c = none-fails-at-all {low = c .before .loop .low} (omega arith) (c .before .loop .inv .1)
 
 pub first-spec : {M : Type 1} → statement M
 first-spec =

@@ -92,7 +92,8 @@ add-t14 c =
 returns : tie.Need-returns
 returns c =
     let p = c .before .before .before .pre in
-    let it = late _ _ _ _ _ (c .before .first .result) (p .5) (p .2) (p .4) (p .6) (c .before .before .least-slack .ensures) (found (c .before)) in
+    let least = c .before .before .least-slack .ensures in
+    let it = late _ _ _ _ _ (c .before .first .result) (p .5) (p .2) (p .4) (λ L one high. p .6 L one (omega arith)) least (found (c .before)) in
     (it .0, rw (c .held-demand .ensures) (sym (it .1)))
 
 pub late-witness-spec : {M : Type 1} → statement M

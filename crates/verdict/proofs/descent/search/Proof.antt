@@ -32,8 +32,9 @@ returns c = (first-is-smallest (c .before .before .before .pre .5) (c .before .b
 
 returns-2 : tie.Need-returns-2
 returns-2 c =
-    let p = c .before .before .before .pre in
-    settled-within-a-period _ _ _ _ (p .6) (p .2) (c .if2 .taken) (λ L one high. fit (c .before) L one (omega arith))
+    let s = c .before .before .before in
+    let all = fit (c .before) in
+    settled-within-a-period _ _ (s .args .period) (s .args .growth) (s .pre .6) (s .pre .2) (omega arith) (λ L one high. all L one (omega arith))
 
 sub-late-witness : tie.Need-sub-late-witness
 sub-late-witness c = search needs

@@ -1,7 +1,6 @@
 -- `verdict::terms::held_demand` meets its contract: the loop adds the demands of the terms to the ticks that the timer takes.
 use Prim.Native.Nat.{_+_, _-_, _≤_}
 use mathlib.Core.Path.{_≡_, sym, _∙_}
-use borrow.Author.Needs.{needs}
 use native.Mathlib.Omega.{arith}
 use Rattle.verdict.specs.HeldTerms.{heldDemand}
 use Rattle.verdict.proofs.HeldTerms.{no-terms, one-term-more, held-at-most}

@@ -62,7 +62,8 @@ mul-result-4 : tie.Need-mul-result-4
 mul-result-4 c =
     let s = c .before .before .before .before .before in
     let L = s .args .length in
-    omega (arith, term-by-reciprocal (s .pre .1) _ L (s .pre .2) (c .before .before .past .ensures), term-at-most (s .pre .1) (getD (s .args .terms .now) (groupOf (s .args .i) + 3) 0) L (s .pre .2))
+    let down = getD (s .args .terms .now) (groupOf (s .args .i) + 3) 0 in
+    omega (arith, term-by-reciprocal (s .pre .1) down L (s .pre .2) (c .before .before .past .ensures), term-at-most (s .pre .1) down L (s .pre .2))
 
 returns : tie.Need-returns
 returns c =

@@ -1,6 +1,6 @@
 -- `verdict::terms::terms_of` meets its contract: the first loop fills in the servers after the timer, and the second the rows after the servers.
 use Prim.Native.Nat.{_+_, _-_, _≤_}
-use mathlib.Core.Path.{_≡_, refl}
+use mathlib.Core.Path.{refl}
 use native.Mathlib.Omega.{arith}
 use native.Mathlib.Nat.{div-le-self}
 use borrow.Author.Needs.{needs}
@@ -62,7 +62,8 @@ loop-less c = omega arith
 
 loop-again : tie.Need-loop-again Inv-loop μ-loop Inv-loop2 μ-loop2
 loop-again c =
-    (omega arith, rw (c .put-term .ensures) (server-filled (c .before .before .before .before .before .pre) _ (c .before .before .before .loop-test .taken) (c .before .before .before .before .loop .inv .1)))
+    let turn = c .before .before .before in
+    (omega arith, rw (c .put-term .ensures) (server-filled (turn .before .before .pre) _ (turn .loop-test .taken) (turn .before .loop .inv .1)))
 
 loop2-holds : tie.Need-loop2-holds Inv-loop μ-loop Inv-loop2 μ-loop2
 loop2-holds c = (omega arith, servers-filled (c .before .before .pre) (omega arith) (c .before .loop .inv .1))
@@ -83,12 +84,15 @@ add-put-term : tie.Need-add-put-term Inv-loop μ-loop Inv-loop2 μ-loop2
 add-put-term c = omega arith
 
 mul-put-term : tie.Need-mul-put-term Inv-loop μ-loop Inv-loop2 μ-loop2
-mul-put-term c = omega (arith, cost-of-x-at-most _ (row-within (c .before .before .before .before .before .before .before .before .before .pre) _ (c .before .before .before .before .before .loop2-test .taken)))
+mul-put-term c =
+    let turn = c .before .before .before .before .before in
+    omega (arith, cost-of-x-at-most _ (row-within (turn .before .before .before .before .pre) _ (turn .loop2-test .taken)))
 
 put-term-requires-2 : tie.Need-put-term-requires-2 Inv-loop μ-loop Inv-loop2 μ-loop2
 put-term-requires-2 c κs =
-    let pre = c .before .before .before .before .before .before .before .before .before .pre in
-    (omega (arith, pre .few-servers, pre .few-rows), row-within pre _ (c .before .before .before .before .before .loop2-test .taken) .some-y, omega arith)
+    let turn = c .before .before .before .before .before in
+    let pre = turn .before .before .before .before .pre in
+    (omega (arith, pre .few-servers, pre .few-rows), row-within pre _ (turn .loop2-test .taken) .some-y, omega arith)
 
 add-i : tie.Need-add-i Inv-loop μ-loop Inv-loop2 μ-loop2
 add-i c = omega arith
