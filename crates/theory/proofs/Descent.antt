@@ -38,6 +38,7 @@ record Folded (start period L : ℕ) : Type 0 where
   within-period : place ≤ start + period
   adds-up : periods * period + place ≡ L
 
+-- Every length above the start is folded so.
 folded : (start period L : ℕ) → 1 ≤ period → start < L → Folded start period L
 folded start period L some above =
     let n = L - (start + 1) in
@@ -71,22 +72,25 @@ module _ (f : ℕ → ℕ) (start period over m r : ℕ) (curve : Curve f start 
       let it : j ≡ k = omega arith in
       omega (arith, e, ap (λ n. n * over) it, first .smaller-fit q low (omega (arith, rw it at below)))))
 
+  -- The same for a length that is given by where it is folded to.
   where-folded : (M : ℕ) → Folded start period M → M < periodsToFail m over * period + r → f M ≤ M
   where-folded M at below =
       rw (at .adds-up) at (folded-fits (at .place) (at .periods) (at .above-start) (at .within-period) (omega (arith, at .adds-up)))
 
-  -- Every smaller length fits: up to start + period by what is known, and above it because it is folded.
-  smaller-fits : FitsUpTo f (start + period) → (M : ℕ) → 1 ≤ M → M < periodsToFail m over * period + r → f M ≤ M
+  -- Every smaller length fits: up to the start by what is known, and above it because it is folded.
+  smaller-fits : FitsUpTo f start → (M : ℕ) → 1 ≤ M → M < periodsToFail m over * period + r → f M ≤ M
   smaller-fits fit M one below = by-lt start M
       (λ above. where-folded M (folded start period M some-period above) below)
-      (λ low. fit M one (omega arith))
+      (λ low. fit M one low)
 
 pub late : Late
 late f start period over m r curve some-period some fit least first =
     let k = periodsToFail m over in
-    let e = after-periods f start period over m r curve some-period some least first r k (omega (arith, first .from-lo)) in
-    (record {
-      some-length = omega (arith, first .from-lo);
-      fails = omega (arith, e, first .fails);
-      smaller-fit = smaller-fits f start period over m r curve some-period some least first fit;
-    }, omega (arith, e))
+    let e = after-periods f start period over m r curve some-period some least first r k (omega (arith, first .from-lo)) in (
+      record {
+        some-length = omega (arith, first .from-lo);
+        fails = omega (arith, e, first .fails);
+        smaller-fit = smaller-fits f start period over m r curve some-period some least first fit;
+      },
+      omega (arith, e),
+    )

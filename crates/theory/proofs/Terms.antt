@@ -4,7 +4,6 @@ use mathlib.Core.Path.{_≡_}
 use native.Mathlib.Omega.{arith}
 use native.Mathlib.Nat.{add-div-right, div-eq-of-lt, div-eq-of-lt-le, div-mul-le-self, lt-div-mul-add, mul-le-mul-left, le-of-mul-le-mul-left}
 use native.Mathlib.Nat.{lt-of-mul-lt-mul-left}
-use Rattle.theory.specs.Demand.{rowDemand}
 use Rattle.theory.specs.Servers.{serverDemand}
 use Rattle.theory.specs.Terms.{termDemand, reciprocal, RowIsATerm, ServerIsATerm, ByReciprocal}
 use Rattle.theory.proofs.Cases.{by-lt}

@@ -62,11 +62,11 @@ FailsSoon = (f : ℕ → ℕ) (start period over m : ℕ) → Curve f start peri
     → LeastSlack f (start + 1) (start + period) m
     → (m + over ≤ start) × (periodsToFail m over * over ≤ start) × (periodsToFail m over ≤ start)
 
--- Where the growth is above the period by `over` and the lengths up to start + period fit, let m be the least slack of the period after the start, k the number
--- of `periodsToFail`, and r the smallest length of that period that fails the curve raised by k · over. Then the smallest failing length is k periods after r,
--- and its demand is that in r and k times the growth. (5.5, 5.9)
+-- Where the growth is above the period by `over` and the lengths up to the start fit, let m be the least slack of the period after the start, k the number of
+-- `periodsToFail`, and r the smallest length of that period that fails the curve raised by k · over. Then the smallest failing length is k periods after r, and
+-- its demand is that in r and k times the growth. (5.5, 5.9)
 abbrev pub Late : Type 0
-Late = (f : ℕ → ℕ) (start period over m r : ℕ) → Curve f start period (period + over) → 1 ≤ period → 1 ≤ over → FitsUpTo f (start + period)
+Late = (f : ℕ → ℕ) (start period over m r : ℕ) → Curve f start period (period + over) → 1 ≤ period → 1 ≤ over → FitsUpTo f start
     → LeastSlack f (start + 1) (start + period) m
     → SmallestFrom (raised f (periodsToFail m over * over)) (start + 1) (start + period) r
     → SmallestFailing f (periodsToFail m over * period + r)
