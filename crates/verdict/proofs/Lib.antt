@@ -7,3 +7,8 @@ pub mod Accepted
 pub mod Verdicts
 pub mod Scans
 pub mod RowsAlone
+pub mod HeldTerms
+pub mod FilledTerms
+pub mod TableTerms
+pub mod Searches
+pub mod QuickVerdict

@@ -42,7 +42,7 @@ module _ {A : Type 0} (none : A) (l : List A) where
 
   module _ (w : A → ℕ) where
     -- The sum over the elements before i + 1 is the sum over those before i, and the weight of element i.
-    total-more : (i : ℕ) → i < length l → total w (take (i + 1) l) ≡ total w (take i l) + w (getD l i none)
+    pub total-more : (i : ℕ) → i < length l → total w (take (i + 1) l) ≡ total w (take i l) + w (getD l i none)
     unfolding total
     total-more i h = rw (one-more i h, total-append) (omega arith)
 

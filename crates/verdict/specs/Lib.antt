@@ -2,3 +2,5 @@ pub mod Demand
 pub mod Verdict
 pub mod ScanLaws
 pub mod RowsAlone
+pub mod HeldTerms
+pub mod QuickVerdict
