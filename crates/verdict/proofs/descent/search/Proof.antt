@@ -1,7 +1,6 @@
 -- `verdict::descent::search` meets its contract: the first length that fails is the witness, or the lengths up to d + period fit, and the growth tells whether
 -- they settle the verdict.
-use Prim.Native.Nat.{_+_, _-_}
-use mathlib.Core.Path.{_≡_}
+use Prim.Native.Nat.{_+_}
 use native.Mathlib.Omega.{arith}
 use borrow.Author.Needs.{needs}
 use Rattle.theory.specs.Curves.{FitsUpTo}
