@@ -8,7 +8,7 @@ use borrow.Author.Needs.{needs}
 use Rattle.theory.specs.Curves.{Curve, FitsUpTo}
 use Rattle.theory.specs.Descent.{raised, SmallestFrom, periodsToFail}
 use Rattle.theory.proofs.Descent.{tightest-fails, fails-soon, late}
-use Rattle.table.specs.Limits.{maxD}
+use Rattle.table.specs.Limits.{maxD, maxPeriod}
 use Rattle.verdict.specs.HeldTerms.{maxSearched, heldDemand}
 use Rattle.verdict.proofs.Searches.{found-for-sure}
 use Rattle.verdict.proofs.descent.late_witness.Statement.{statement}
@@ -58,6 +58,11 @@ few c = omega (arith, soon c .2)
 slow : (c : tie.After-least-slack) → c .before .args .growth ≤ maxSearched
 slow c = omega (arith, soon c .0, grows (c .before))
 
+-- The products of the number of periods with the period and with the growth are within limits.
+products : (c : tie.After-least-slack) → (let k = periodsToFail (c .least-slack .result) (over (c .before)) in
+    (k * c .before .args .period ≤ maxD * maxPeriod) × (k * c .before .args .growth ≤ maxD * maxSearched))
+products c = (mul-le-mul (few c) (c .before .pre .3), mul-le-mul (few c) (slow c))
+
 sub-over : tie.Need-sub-over
 sub-over c = search needs
 
@@ -92,16 +97,16 @@ held-demand-requires : tie.Need-held-demand-requires
 held-demand-requires c κs = (c .before .before .pre .0, omega (arith, found c .to-hi))
 
 mul-t12 : tie.Need-mul-t12
-mul-t12 c = omega (arith, mul-le-mul (few (c .before .before)) (c .before .before .before .pre .3), found (c .before) .to-hi)
+mul-t12 c = omega (arith, products (c .before .before), found (c .before) .to-hi, small (c .before), c .held-demand .ensures)
 
 add-t13 : tie.Need-add-t13
-add-t13 c = omega (arith, mul-le-mul (few (c .before .before)) (c .before .before .before .pre .3), found (c .before) .to-hi)
+add-t13 c = omega (arith, products (c .before .before), found (c .before) .to-hi, small (c .before), c .held-demand .ensures)
 
 mul-t11 : tie.Need-mul-t11
-mul-t11 c = omega (arith, mul-le-mul (few (c .before .before)) (slow (c .before .before)), small (c .before), c .held-demand .ensures)
+mul-t11 c = omega (arith, products (c .before .before), found (c .before) .to-hi, small (c .before), c .held-demand .ensures)
 
 add-t14 : tie.Need-add-t14
-add-t14 c = omega (arith, mul-le-mul (few (c .before .before)) (slow (c .before .before)), small (c .before), c .held-demand .ensures)
+add-t14 c = omega (arith, products (c .before .before), found (c .before) .to-hi, small (c .before), c .held-demand .ensures)
 
 returns : tie.Need-returns
 returns c =
