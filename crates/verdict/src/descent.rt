@@ -6,7 +6,7 @@ use crate::Witness;
 use crate::terms::ROOM;
 use crate::terms::held_demand;
 ghost use mathlib.Core.Path.{_≡_};
-ghost use Prim.Native.Nat.{_+_, _≤_};
+ghost use Prim.Native.Nat.{_+_, _≤_, _<_};
 ghost use Rattle.theory.specs.Curves.{Curve, SmallestFailing, FitsUpTo};
 ghost use Rattle.theory.specs.Descent.{raised, LeastSlack, SmallestFrom, FitsBetween};
 ghost use Rattle.table.specs.Limits.{maxD, maxPeriod};
@@ -92,21 +92,22 @@ fn least_slack(terms: &[u64; ROOM], count: usize, lo: u64, hi: u64) -> u64
     slack
 }
 
-// The witness where the demand grows in each period by `over` more than the period, and the lengths up to d + period fit. The least slack of the period after d
-// is used up after k periods, and the witness is k periods after the first length of that period that has no more than k · over ticks to spare. (5.9)
-fn late_witness(terms: &[u64; ROOM], count: usize, d: u64, period: u64, over: u64) -> Witness
-    requires { ⌜ (Held (now terms) count) × (d ≤ maxD) × (1 ≤ period) × (period ≤ maxPeriod) × (1 ≤ over)
-        × (Curve (heldDemand (now terms) count) d period (period + over)) × (FitsUpTo (heldDemand (now terms) count) (d + period)) ⌝ }
+// The witness where the growth is above the period and the lengths up to d + period fit. The least slack of the period after d is used up after k periods, and
+// the witness is k periods after the first length of that period that has less than k · over ticks to spare. (5.9)
+fn late_witness(terms: &[u64; ROOM], count: usize, d: u64, period: u64, growth: u64) -> Witness
+    requires { ⌜ (Held (now terms) count) × (d ≤ maxD) × (1 ≤ period) × (period ≤ maxPeriod) × (period < growth)
+        × (Curve (heldDemand (now terms) count) d period growth) × (FitsUpTo (heldDemand (now terms) count) (d + period)) ⌝ }
     ensures { λ r. ⌜ (SmallestFailing (heldDemand (now (terms .entry)) count) (r .length))
         × (r .demand ≡ heldDemand (now (terms .entry)) count (r .length)) ⌝ }
 {
+    let over = growth - period;
     let slack = least_slack(terms, count, d + 1, d + period);
     let k = slack / over + 1;
     let r = first(terms, count, k * over, d + 1, d + period);
     let demand = held_demand(terms, count, r);
     Witness {
         length: k * period + r,
-        demand: k * (period + over) + demand,
+        demand: k * growth + demand,
     }
 }
 
@@ -135,6 +136,6 @@ pub(crate) fn search(
     if growth <= period {
         return Verdict::Feasible;
     }
-    let w = late_witness(terms, count, d, period, growth - period);
+    let w = late_witness(terms, count, d, period, growth);
     Verdict::Overloaded(w)
 }

@@ -1,7 +1,6 @@
 -- `verdict::descent::search` meets its contract: the first length that fails is the witness, or the lengths up to d + period fit, and the growth tells whether
 -- they settle the verdict.
-use Prim.Native.Nat.{_+_, _-_}
-use mathlib.Core.Path.{_≡_}
+use Prim.Native.Nat.{_+_}
 use native.Mathlib.Omega.{arith}
 use borrow.Author.Needs.{needs}
 use Rattle.theory.specs.Curves.{FitsUpTo}
@@ -36,15 +35,8 @@ returns-2 c =
     let all = fit (c .before) in
     settled-within-a-period _ _ (s .args .period) (s .args .growth) (s .pre .6) (s .pre .2) (omega arith) (λ L one high. all L one (omega arith))
 
-sub-late-witness : tie.Need-sub-late-witness
-sub-late-witness c = search needs
-
 late-witness-requires : tie.Need-late-witness-requires
-late-witness-requires c κs =
-    let p = c .before .before .before .pre in
-    let a = c .before .before .before .args in
-    let grows : a .period + (a .growth - a .period) ≡ a .growth = omega arith in
-    (p .0, p .1, p .2, p .3, omega arith, rw grows (p .6), fit (c .before))
+late-witness-requires c κs = let p = c .before .before .before .pre in (p .0, p .1, p .2, p .3, omega arith, p .6, fit (c .before))
 
 returns-3 : tie.Need-returns-3
 returns-3 c = search needs
@@ -59,6 +51,5 @@ search-spec =
     held-demand-requires
     returns
     returns-2
-    sub-late-witness
     late-witness-requires
     returns-3)
