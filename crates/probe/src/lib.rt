@@ -1,5 +1,6 @@
 // The probe, which is for comparisons only: calls by which another program can compare what the host's calls don't reach. They are the number writer, the
-// chooser, the verdict by every length, a trace of calls on a run, and four calls on a run that is lent. Numbers are lent as words of eight bytes, lowest byte first.
+// chooser, the verdict by every length, a trace of calls on a run, and four calls on a run that is lent. Numbers are lent as words of eight bytes, lowest byte
+// first.
 use jobs::Finished;
 use kinds::Refusal;
 use kinds::RowNumber;
@@ -153,6 +154,9 @@ pub extern "C" fn choose<'a>(
 
 // ---- the verdict by every length
 
+// The length of the answer buffer of a verdict in bytes: two words. (9.4)
+const VERDICT: usize = 2 * WORD;
+
 // The statuses of a verdict that are no refusal. (1.15)
 const FEASIBLE: u32 = 20;
 
@@ -164,7 +168,7 @@ const OVERLOADED: u32 = 21;
 pub extern "C" fn verdict_every_length(table: &[u8], answer: &mut [u8]) -> u32
     ensures { λ r. ⌜ VerdictAnswered (now (table .entry)) (now (answer .entry)) r (now (answer .exit)) ⌝ }
 {
-    if answer.len() != CHOICE {
+    if answer.len() != VERDICT {
         return Refusal::AnswerNot16Bytes.number();
     }
     match verdict::judge_every_length(table) {
