@@ -1,7 +1,7 @@
 //! The families of tables whose verdicts are measured beside the plain program. Each table of a family is random, from a
 //! fixed seed. In the names h is the period, and a family is tight where each d is as small as still fits.
 
-use super::tables::{maybe_timer, pick, random_rows, row_of, rows_of_cost_1, Period, Table, MOST, MOST_D};
+use super::tables::{pick, random_rows, row_of, rows_of_cost_1, Period, Table, MOST, MOST_D};
 use crate::cases::{Random, Timer, NO_TIMER};
 use std::ops::RangeInclusive;
 
@@ -62,12 +62,14 @@ pub fn all() -> Vec<Family> {
         large("3 rows and 2 servers, h = 1019 * 1021, 1 to 1 - 5/h, tight", 40, |random| few_divisors(random)?.tight()),
     ];
     for (goal, said) in [(1_000_000, "10^6"), (100_000_000, "10^8"), (16_000_000_000, "1.6 * 10^10")] {
-        for (rows, samples) in [(1, 6), (2, 6), (16, 6), (64, 6)] {
-            let beside =
-                if rows == 1 && goal > 1_000_000 { "1 row and a timer".to_string() } else { format!("{rows} rows") };
-            families.push(family(format!("late witness, about {said}: {beside}"), LATE, (samples, 1), move |random| {
-                late(random, goal, rows)
-            }));
+        for rows in [1, 2, 16, 64] {
+            let terms = match rows {
+                1 if goal == 1_000_000 => "1 row".to_string(),
+                1 => "1 row and a timer".to_string(),
+                _ => format!("{rows} rows"),
+            };
+            let name = format!("late witness, about {said}: {terms}");
+            families.push(family(name, LATE, (6, 1), move |random| late(random, goal, rows)));
         }
     }
     let v8 = |_: &mut Random| Some(Table::new(NO_TIMER, vec![[1, 2, 10, 3]], vec![]));
@@ -209,27 +211,29 @@ fn late(random: &mut Random, goal: u64, count: u64) -> Option<Table> {
     for row in &mut table.rows {
         row[2] = (row[1] + goal / period.h - random.below(8)).min(MOST_D);
     }
-    Some(table)
+    // The slack falls by 1 in every period.
+    (table.fits() && table.least_slack() as u64 * period.h >= goal / 2).then_some(table)
 }
 
 /// The plain program looks at so many lengths of these tables.
 fn small(random: &mut Random, overloaded: bool, lengths: RangeInclusive<u64>) -> Option<Table> {
     let last = *lengths.end();
     let most = if last <= 64 { 8 } else { 24 };
-    let timer = maybe_timer(random, most);
+    let p = 1 + random.below(most);
+    let timer = if random.below(2) == 0 { NO_TIMER } else { Timer { s: random.below(p), p } };
+    let (many_rows, many_servers) = (1 + random.below(5), random.below(3));
     let mut row = |_| {
         let d = 1 + random.below(2 * most);
         [1 + random.below(2), 1 + random.below(most), d, 1 + random.below(d.min(4))]
     };
-    let rows = (0..1 + row(0)[2] % 5).map(&mut row).collect();
+    let rows = (0..many_rows).map(&mut row).collect();
     let mut server = |_| {
         let b = 1 + random.below(most);
         [1 + random.below(b.div_ceil(4)), b]
     };
-    let servers = (0..server(0)[1] % 3).map(&mut server).collect();
+    let servers = (0..many_servers).map(&mut server).collect();
     let table = Table::new(timer, rows, servers);
     let h = table.period();
-    // A sum far from 1 has its witness at once, or a short period.
     if h > (1 << 20) || table.growth(h) > 2 * h {
         return None;
     }

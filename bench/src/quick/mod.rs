@@ -115,8 +115,8 @@ fn judge(verdict: fn(&[u8], &mut [u8]) -> u32, tables: &[Vec<u8>], said: &mut [S
     }
 }
 
-/// Returns how many lengths the plain program looks at. The witness has to be above its demand, and the length before it
-/// not.
+/// Returns how many lengths the plain program looks at. The demand in a witness has to be above it, and the length before it
+/// has to fit.
 fn looked_at(name: &str, table: &Table, (status, answer): &Said) -> u64 {
     let [length, demand] = [0, 8].map(|at| u64::from_le_bytes(answer[at..at + 8].try_into().unwrap()));
     match *status {

@@ -1,6 +1,6 @@
 //! Tables as numbers, and how random ones are made: with a given period, with a given sum, and with the smallest d.
 
-use crate::cases::{table, Random, Row, Server, Timer, NO_TIMER};
+use crate::cases::{table, Random, Row, Server, Timer};
 
 /// No y, b, c or p is above this.
 pub const MOST: u64 = 4_096;
@@ -67,9 +67,14 @@ impl Table {
         slack
     }
 
-    /// Says whether a table of a sum of at most 1 is feasible.
+    /// Says whether all lengths to H + the largest d fit. A table of a sum of at most 1 is feasible then.
     pub fn fits(&self) -> bool {
         self.slack().iter().all(|&slack| slack >= 0)
+    }
+
+    /// Returns the least slack in the period of lengths past the largest d.
+    pub fn least_slack(&self) -> i64 {
+        self.slack().into_iter().skip(self.largest_d() as usize + 1).min().unwrap_or(0)
     }
 
     /// Makes each d as small as still fits, row after row. Returns none where the table is not feasible as it is.
@@ -197,15 +202,6 @@ pub fn pick<T: Copy>(random: &mut Random, from: &[T]) -> Option<T> {
     match from.len() as u64 {
         0 => None,
         length => Some(from[random.below(length) as usize]),
-    }
-}
-
-/// Returns no timer in every other table.
-pub fn maybe_timer(random: &mut Random, most: u64) -> Timer {
-    let p = 1 + random.below(most);
-    match random.below(2) {
-        0 => NO_TIMER,
-        _ => Timer { s: random.below(p), p },
     }
 }
 

@@ -11,6 +11,7 @@ use Rattle.theory.proofs.Cases.{by-eq}
 use Rattle.table.specs.Limits.{maxSources}
 use Rattle.verdict.specs.HeldTerms.{parts, heldEntries, groupOf, heldS, heldP, heldTerm, heldDemand}
 use Rattle.verdict.specs.HeldTerms.{GoodTerm, GoodAt, GoodHeader, Held, withTerm}
+use Rattle.verdict.specs.HeldParts.{heldUp, heldDown, heldB}
 use Rattle.verdict.proofs.HeldTerms.{no-terms, one-term-more}
 
 -- ---- entries that are set
@@ -90,6 +91,15 @@ none-filled l long header = record {
   demands = no-terms l;
 }
 
+-- The timer's p is this one, and each of the first n terms has the property Q of its b, its `up` and its `down`.
+pub record Placed (p : ℕ) (Q : (b up down : ℕ) → Type 0) (l : List ℕ) (n : ℕ) : Type 0 where
+  pub is-p : heldP l ≡ p
+  pub each : (i : ℕ) → i < n → Q (heldB l i) (heldUp l i) (heldDown l i)
+
+-- An array with no terms yet.
+pub none-placed : {p : ℕ} {Q : (b up down : ℕ) → Type 0} (l : List ℕ) → heldP l ≡ p → Placed p Q l 0
+none-placed l is-p = record { is-p = is-p; each = λ i h. absurd (omega arith) }
+
 -- What is filled with one demand is filled with the same demand in other words.
 pub filled-as : {l : List ℕ} {n : ℕ} {f g : ℕ → ℕ} → Filled l n f → ((L : ℕ) → f L ≡ g L) → Filled l n g
 filled-as filled same = record { as-long = filled .as-long; held = filled .held; demands = λ L. filled .demands L ∙ same L }
@@ -131,4 +141,16 @@ module _ {l : List ℕ} {n : ℕ} {f : ℕ → ℕ} (filled : Filled l n f) (roo
     };
     demands = λ L.
         omega (arith, one-term-more more n L, same-demand l more n unchanged n L (omega arith), filled .demands L, term-here L);
+  }
+
+  -- Where the term that is set has a property that those before have, all have it.
+  pub one-more-placed : {p : ℕ} {Q : (b up down : ℕ) → Type 0} → Placed p Q l n → Q b up down → Placed p Q more (n + 1)
+  one-more-placed {p} {Q} placed q = record {
+    is-p = unchanged 1 (omega arith) ∙ placed .is-p;
+    each = λ i h. by-eq i n
+        (λ e. rw (e, entry 2 (omega arith), entry 3 (omega arith), entry 4 (omega arith)) q)
+        (λ e.
+        let before : i < n = omega (arith, e) in
+        let at = groupOf i in
+        rw (unchanged (at + 2) (omega arith), unchanged (at + 3) (omega arith), unchanged (at + 4) (omega arith)) (placed .each i before));
   }

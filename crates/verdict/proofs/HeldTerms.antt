@@ -27,7 +27,7 @@ abbrev pub mostTerm : ℕ
 mostTerm = mostV * (maxX * maxC)
 
 -- Where a is at most b, floor(a · v / b) is at most v.
-quotient-at-most : (a b v : ℕ) → a ≤ b → a * v / b ≤ v
+pub quotient-at-most : (a b v : ℕ) → a ≤ b → a * v / b ≤ v
 quotient-at-most a b v h = div-le-of-le-mul b (mul-le-mul-right v h)
 
 -- ---- one term
@@ -104,13 +104,13 @@ taken-never-falls s p good = timer-is-a-curve s p p (good .some-p) (omega (arith
 -- ---- all terms
 
 -- A sum of weights within a bound is at most their number times that bound.
-sum-at-most : (w : ℕ → ℕ) (most n : ℕ) → ((i : ℕ) → i < n → w i ≤ most) → sumBelow n w ≤ n * most
+pub sum-at-most : (w : ℕ → ℕ) (most n : ℕ) → ((i : ℕ) → i < n → w i ≤ most) → sumBelow n w ≤ n * most
 unfolding sumBelow
 sum-at-most w most zero small = omega arith
 sum-at-most w most (suc n) small = omega (arith, small n (omega arith), sum-at-most w most n (λ i h. small i (omega arith)))
 
 -- Where no weight is larger, the sum is not.
-sum-not-larger : (v w : ℕ → ℕ) (n : ℕ) → ((i : ℕ) → i < n → v i ≤ w i) → sumBelow n v ≤ sumBelow n w
+pub sum-not-larger : (v w : ℕ → ℕ) (n : ℕ) → ((i : ℕ) → i < n → v i ≤ w i) → sumBelow n v ≤ sumBelow n w
 unfolding sumBelow
 sum-not-larger v w zero each = omega arith
 sum-not-larger v w (suc n) each = omega (arith, each n (omega arith), sum-not-larger v w n (λ i h. each i (omega arith)))

@@ -10,5 +10,6 @@ pub mod RowsAlone
 pub mod HeldTerms
 pub mod FilledTerms
 pub mod TableTerms
+pub mod HeldParts
 pub mod Searches
 pub mod QuickVerdict

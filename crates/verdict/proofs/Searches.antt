@@ -4,8 +4,12 @@ use mathlib.Core.Path.{_≡_}
 use native.Mathlib.Omega.{arith}
 use Rattle.theory.specs.Curves.{SmallestFailing, FitsUpTo}
 use Rattle.theory.specs.Descent.{NeverFalls, raised, FitsBetween, LargestFrom, SmallestFrom, LeastSlack}
+use Rattle.theory.specs.Parts.{InParts, partAndLine}
+use Rattle.theory.specs.Classes.{SettledAbove, Walked}
 use Rattle.theory.proofs.Cases.{by-lt}
 use Rattle.theory.proofs.Descent.{descent}
+use Rattle.theory.proofs.Classes.{nothing-to-settle, settled-by-looks, settled-by-a-walk, none-found, best-is-smallest, walk-finds, walk-ends}
+use Rattle.verdict.specs.HeldParts.{WalkFound}
 use Rattle.verdict.specs.QuickVerdict.{LargestOrNone, SmallestOrNone}
 
 -- ---- from the end of a stretch down
@@ -105,6 +109,29 @@ module _ {f : ℕ → ℕ} {lo hi : ℕ} where
     no-more = so-far .no-more;
   }
 
+-- What is found for the curve that is raised by 0 is found for the curve itself.
+pub not-raised : {f : ℕ → ℕ} {lo hi r : ℕ} → SmallestOrNone (raised f 0) lo hi r → SmallestOrNone f lo hi r
+not-raised s = record {
+  none = λ e L from to. omega (arith, s .none e L from to);
+  some = λ one.
+      let it = s .some one in
+      record {
+        from-lo = it .from-lo;
+        to-hi = it .to-hi;
+        fails = omega (arith, it .fails);
+        smaller-fit = λ M from below. omega (arith, it .smaller-fit M from below);
+      };
+}
+
+-- A length that is found in the first part of a stretch is found in the whole stretch.
+pub found-sooner : {f : ℕ → ℕ} {lo middle hi r : ℕ} → SmallestOrNone f lo middle r → 1 ≤ r → middle ≤ hi → SmallestOrNone f lo hi r
+found-sooner s one within =
+    let it = s .some one in
+    record {
+      none = λ e. absurd (omega arith);
+      some = λ h. record { from-lo = it .from-lo; to-hi = omega (arith, it .to-hi); fails = it .fails; smaller-fit = it .smaller-fit };
+    }
+
 -- ---- a length that is known to be there
 
 -- Where some length fails, the smallest that fails was found.
@@ -115,13 +142,97 @@ found-for-sure {r = r} s t low high fails = by-lt 0 r
 
 module _ {f : ℕ → ℕ} {done last : ℕ} (fit : FitsUpTo f done) where
   -- The smallest that fails after the lengths that fit is the smallest of all.
-  pub first-is-smallest : {L : ℕ} → SmallestFrom (raised f 0) (done + 1) last L → SmallestFailing f L
+  pub first-is-smallest : {L : ℕ} → SmallestFrom f (done + 1) last L → SmallestFailing f L
   first-is-smallest s = record {
     some-length = omega (arith, s .from-lo);
-    fails = omega (arith, s .fails);
-    smaller-fit = λ M one below. by-lt done M (λ h. omega (arith, s .smaller-fit M (omega arith) below)) (λ h. fit M one h);
+    fails = s .fails;
+    smaller-fit = λ M one below. by-lt done M (λ h. s .smaller-fit M (omega arith) below) (λ h. fit M one h);
   }
 
   -- Where none fails after the lengths that fit, all fit.
-  pub all-fit : FitsBetween (raised f 0) (done + 1) last → FitsUpTo f last
-  all-fit rest L one high = by-lt done L (λ h. omega (arith, rest L (omega arith) high)) (λ h. fit L one h)
+  pub all-fit : FitsBetween f (done + 1) last → FitsUpTo f last
+  all-fit rest L one high = by-lt done L (λ h. rest L (omega arith) high) (λ h. fit L one h)
+
+  -- Where the lengths up to `near` fit as well, the smallest that fails after `near` is the smallest that fails after `done`.
+  pub from-there-on : {near r : ℕ} → FitsUpTo f near → SmallestOrNone f (near + 1) last r → SmallestOrNone f (done + 1) last r
+  from-there-on {near} {r} fits s = record {
+    none = λ e L from to. by-lt near L (λ h. s .none e L (omega arith) to) (λ h. fits L (omega arith) h);
+    some = λ one.
+        let it = s .some one in
+        record {
+          from-lo = by-lt done r (λ h. omega arith) (λ h. absurd (omega (arith, fit r one h, it .fails)));
+          to-hi = it .to-hi;
+          fails = it .fails;
+          smaller-fit = λ M from below. by-lt near M (λ h. it .smaller-fit M (omega arith) below) (λ h. fits M (omega arith) h);
+        };
+  }
+
+-- ---- classes of lengths
+
+module _ {f : ℕ → ℕ} {P x at best : ℕ} (walked : Walked f P x at best) where
+  -- A walk that comes to a failing length has found it.
+  pub walk-stopped : at < best → at < f at → WalkFound f P x best at
+  walk-stopped sooner fails = record {
+    at-most = omega arith;
+    smaller-fit = walk-ends f P x (at + P) at (walk-finds f P x at best walked (omega arith)) (omega arith);
+    fails = λ h. (omega (arith, walked .here), fails);
+  }
+
+  -- A walk that comes to `best` has found no other.
+  pub walk-ended : best ≤ at → WalkFound f P x best best
+  walk-ended past = record { at-most = omega arith; smaller-fit = walk-ends f P x at best walked past; fails = λ h. absurd (omega arith) }
+
+-- What a search by classes keeps: the classes above `top` are settled, and `best` fails, or none was found and it is past the period.
+pub record ClassesDone (f : ℕ → ℕ) (start P H top best : ℕ) : Type 0 where
+  pub settled : SettledAbove f start P H top best
+  pub at-most : best ≤ start + H + 1
+  pub found : best ≤ start + H → (start < best) × (best < f best)
+
+module _ {f : ℕ → ℕ} {start P H : ℕ} where
+  -- At first no class is settled.
+  pub no-class-done : 1 ≤ P → ClassesDone f start P H (start + P) (start + H + 1)
+  no-class-done some = record {
+    settled = nothing-to-settle f start P H (start + H + 1) some;
+    at-most = omega arith;
+    found = λ h. absurd (omega arith);
+  }
+
+  module _ {part : ℕ → ℕ} {growth slope lift top best : ℕ} (K : ℕ) (parts : InParts f part start P H growth slope lift) (some : 1 ≤ H) (step : 1 ≤ P)
+      (grows : growth ≤ H + K) (done : ClassesDone f start P H top best) where
+    -- Where no look fails, all classes are settled.
+    pub all-classes-done : FitsBetween (raised (partAndLine part H slope lift) K) (start + 1) top → ClassesDone f start P H start best
+    all-classes-done fits = record {
+      settled = settled-by-looks f part start P H growth slope lift K start top best parts some step grows (λ c above x to. fits c (omega arith) to)
+          (done .settled);
+      at-most = done .at-most;
+      found = done .found;
+    }
+
+    -- Where x is the largest at which a look fails, the classes above x are settled by looks, and that of x by a walk.
+    pub class-done : {x sooner : ℕ} → LargestFrom (raised (partAndLine part H slope lift) K) (start + 1) top x → WalkFound f P x best sooner
+        → ClassesDone f start P H (x - 1) sooner
+    class-done {x} {sooner} largest walked = record {
+      settled = settled-by-a-walk f start P H x best sooner step (walked .at-most) (walked .smaller-fit)
+          (settled-by-looks f part start P H growth slope lift K x top best parts some step grows (λ c above x to. largest .larger-fit c x to)
+          (done .settled));
+      at-most = omega (arith, walked .at-most, done .at-most);
+      found = λ h. by-lt sooner best
+          (λ less. let w = walked .fails less in (omega (arith, w .0, largest .from-lo), w .1))
+          (λ same. let e : sooner ≡ best = omega (arith, walked .at-most) in rw e (done .found (omega arith)));
+    }
+
+  module _ {top best : ℕ} (done : ClassesDone f start P H top best) (all : top ≤ start) where
+    -- All classes are settled.
+    all-settled : SettledAbove f start P H start best
+    all-settled L above at-most sooner inside = done .settled L above at-most sooner (omega arith)
+
+    -- Where `best` is past the period, no length of it fails.
+    pub no-class-fails : start + H < best → SmallestOrNone f (start + 1) (start + H) 0
+    no-class-fails past = record { none = λ e. none-found f start P H best all-settled past; some = λ h. absurd (omega arith) }
+
+    -- Otherwise `best` is the smallest that fails.
+    pub class-fails : best ≤ start + H → SmallestOrNone f (start + 1) (start + H) best
+    class-fails within = record {
+      none = λ e. absurd (omega (arith, done .found within .0));
+      some = λ h. best-is-smallest f start P H best all-settled (done .found within .0) within (done .found within .1);
+    }

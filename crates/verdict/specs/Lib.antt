@@ -3,4 +3,5 @@ pub mod Verdict
 pub mod ScanLaws
 pub mod RowsAlone
 pub mod HeldTerms
+pub mod HeldParts
 pub mod QuickVerdict

@@ -3,6 +3,7 @@
 // an array of terms holds, raised by `extra` in every length. (docs/RULES.md, 5.4 to 5.9.)
 use crate::Verdict;
 use crate::Witness;
+use crate::classes::period_search;
 use crate::terms::ROOM;
 use crate::terms::held_demand;
 ghost use mathlib.Core.Path.{_≡_};
@@ -12,6 +13,7 @@ ghost use Rattle.theory.specs.Descent.{raised, LeastSlack, SmallestFrom, FitsBe
 ghost use Rattle.table.specs.Limits.{maxD, maxPeriod};
 ghost use Rattle.verdict.specs.Verdict.{RightFor};
 ghost use Rattle.verdict.specs.HeldTerms.{maxSearched, heldDemand, Held};
+ghost use Rattle.verdict.specs.HeldParts.{Repeats};
 ghost use Rattle.verdict.specs.QuickVerdict.{LargestOrNone, SmallestOrNone, Failing};
 
 // The largest length from `lo` to `hi` that fails, or 0 if none does. Each look at a length settles all lengths down to its demand.
@@ -55,7 +57,7 @@ fn smallest(terms: &[u64; ROOM], count: usize, extra: u64, lo: u64, failing: u64
 
 // The smallest length from `lo` to `hi` that fails, or 0 if none does. The stretches that are looked at double, so that the cost follows the smallest one that
 // fails.
-fn first(terms: &[u64; ROOM], count: usize, extra: u64, lo: u64, hi: u64) -> u64
+pub(crate) fn first(terms: &[u64; ROOM], count: usize, extra: u64, lo: u64, hi: u64) -> u64
     requires { ⌜ (Held (now terms) count) × (extra ≤ maxSearched) × (1 ≤ lo) × (hi ≤ maxSearched) ⌝ }
     ensures { λ r. ⌜ SmallestOrNone (raised (heldDemand (now (terms .entry)) count) extra) lo hi r ⌝ }
 {
@@ -122,10 +124,11 @@ pub(crate) fn search(
     growth: u64,
 ) -> Verdict
     requires { ⌜ (Held (now terms) count) × (d ≤ maxD) × (1 ≤ period) × (period ≤ maxPeriod) × (done ≤ d + period)
-        × (FitsUpTo (heldDemand (now terms) count) done) × (Curve (heldDemand (now terms) count) d period growth) ⌝ }
+        × (FitsUpTo (heldDemand (now terms) count) done) × (Repeats (now terms) count d period)
+        × (Curve (heldDemand (now terms) count) d period growth) ⌝ }
     ensures { λ r. ⌜ RightFor (heldDemand (now (terms .entry)) count) r ⌝ }
 {
-    let found = first(terms, count, 0, done + 1, d + period);
+    let found = period_search(terms, count, done, d, period, growth);
     if 0 < found {
         let demand = held_demand(terms, count, found);
         return Verdict::Overloaded(Witness {

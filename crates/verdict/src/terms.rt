@@ -7,11 +7,12 @@ ghost use Prim.Native.Nat.{ℕ, _+_, _-_, _≤_, _<_};
 ghost use Rattle.theory.specs.Ticks.{timerTakes};
 ghost use Rattle.table.specs.Limits.{maxSources, maxB};
 ghost use Rattle.table.specs.Tables.{InRange};
-ghost use Rattle.verdict.specs.Demand.{tableDemand};
+ghost use Rattle.verdict.specs.Demand.{tableDemand, largestD};
 ghost use Rattle.verdict.specs.HeldTerms.{maxSearched, heldS, heldP, heldTerm, heldDemand, GoodAt, GoodHeader, Held, withTerm};
+ghost use Rattle.verdict.specs.HeldParts.{PeriodOf, Repeats};
 
 // The numbers of one group.
-const GROUP: usize = 6;
+pub(crate) const GROUP: usize = 6;
 
 // The entries of the array: one group for the timer, and one for each term that a table may have.
 pub(crate) const ROOM: usize = GROUP * (Table::MAX_ROWS + Table::MAX_SERVERS + 1);
@@ -20,7 +21,7 @@ pub(crate) const ROOM: usize = GROUP * (Table::MAX_ROWS + Table::MAX_SERVERS + 1
 const PARTS: u64 = 8589934592;
 
 // How far x is past y, or 0 if it is not.
-fn past(x: u64, y: u64) -> u64
+pub(crate) fn past(x: u64, y: u64) -> u64
     ensures { λ r. ⌜ r ≡ x - y ⌝ }
 {
     if x < y {
@@ -69,7 +70,15 @@ pub(crate) fn held_demand(terms: &[u64; ROOM], count: usize, length: u64) -> u64
 }
 
 // Sets the group of term i. The one division by b is here.
-fn put_term(terms: &mut [u64; ROOM], i: usize, b: u64, a: u64, w: u64, up: u64, down: u64)
+pub(crate) fn put_term(
+    terms: &mut [u64; ROOM],
+    i: usize,
+    b: u64,
+    a: u64,
+    w: u64,
+    up: u64,
+    down: u64,
+)
     requires { ⌜ (i < maxSources) × (1 ≤ b) × (a ≤ maxB) ⌝ }
     ensures { λ r. ⌜ now (terms .exit) ≡ withTerm i b a w up down (now (terms .entry)) ⌝ }
 {
@@ -85,7 +94,8 @@ fn put_term(terms: &mut [u64; ROOM], i: usize, b: u64, a: u64, w: u64, up: u64, 
 // The array of a table: its timer, then its servers, then its rows. (5.3)
 pub(crate) fn terms_of(table: Table) -> [u64; ROOM]
     requires { ⌜ InRange table ⌝ }
-    ensures { λ r. ⌜ (Held r (table .serving + table .count)) × ((L : ℕ) → heldDemand r (table .serving + table .count) L ≡ tableDemand table L) ⌝ }
+    ensures { λ r. ⌜ (Held r (table .serving + table .count)) × ((L : ℕ) → heldDemand r (table .serving + table .count) L ≡ tableDemand table L)
+        × ((period : ℕ) → PeriodOf table period → Repeats r (table .serving + table .count) (largestD table) period) ⌝ }
 {
     let count = table.count;
     let serving = table.serving;

@@ -108,6 +108,7 @@ search-requires c κs =
       k .most-period,
       scan-end first,
       same-fits _ _ (held .1) (early-fit (grows .before)),
+      rw (first .before .largest-d .ensures) (held .2 _ (k .whole)),
       same-curve _ _ (held .1) (rw (first .before .largest-d .ensures, grows .growth .ensures) (k .curve)),
     )
 

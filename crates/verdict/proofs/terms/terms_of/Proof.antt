@@ -7,19 +7,22 @@ use borrow.Author.Needs.{needs}
 use Rattle.verdict.specs.HeldTerms.{parts}
 use Rattle.verdict.proofs.Rows.{row-within}
 use Rattle.verdict.proofs.Bounds.{some-b, cost-of-x-at-most}
-use Rattle.verdict.proofs.FilledTerms.{Filled}
-use Rattle.verdict.proofs.TableTerms.{serversTo, rowsTo, timer-filled, server-filled, servers-filled, row-filled, all-filled}
+use Rattle.verdict.proofs.FilledTerms.{Filled, Placed}
+use Rattle.verdict.proofs.TableTerms.{serversTo, rowsTo, OfTable, timer-filled, server-filled, servers-filled, row-filled, all-filled}
+use Rattle.verdict.proofs.TableTerms.{timer-placed, server-placed, servers-placed, row-placed, all-repeat}
 use Rattle.verdict.proofs.terms.terms_of.Statement.{statement}
 use Rattle.verdict.proofs.terms.terms_of.Tie as tie
 
 abbrev Inv-loop : tie.InvT-loop
-Inv-loop table count serving terms₀ k₀ terms k = (k ≤ serving) × Filled terms k (serversTo table k)
+Inv-loop table count serving terms₀ k₀ terms k =
+    (k ≤ serving) × Filled terms k (serversTo table k) × Placed (table .p) (OfTable table) terms k
 
 abbrev μ-loop : tie.MeasureT-loop
 μ-loop table count serving terms₀ k₀ terms k = serving - k
 
 abbrev Inv-loop2 : tie.InvT-loop2
-Inv-loop2 table count serving terms₀ k i₀ terms i = (i ≤ count) × Filled terms (serving + i) (rowsTo table i)
+Inv-loop2 table count serving terms₀ k i₀ terms i =
+    (i ≤ count) × Filled terms (serving + i) (rowsTo table i) × Placed (table .p) (OfTable table) terms (serving + i)
 
 abbrev μ-loop2 : tie.MeasureT-loop2
 μ-loop2 table count serving terms₀ k i₀ terms i = count - i
@@ -40,7 +43,7 @@ array-write-terms-3 : tie.Need-array-write-terms-3 Inv-loop μ-loop Inv-loop2 μ
 array-write-terms-3 c = omega arith
 
 loop-holds : tie.Need-loop-holds Inv-loop μ-loop Inv-loop2 μ-loop2
-loop-holds c = (omega arith, timer-filled (c .pre) _ refl refl refl refl)
+loop-holds c = (omega arith, timer-filled (c .pre) _ refl refl refl refl, timer-placed (c .pre) _ refl)
 
 mul-server : tie.Need-mul-server Inv-loop μ-loop Inv-loop2 μ-loop2
 mul-server c = omega arith
@@ -63,10 +66,16 @@ loop-less c = omega arith
 loop-again : tie.Need-loop-again Inv-loop μ-loop Inv-loop2 μ-loop2
 loop-again c =
     let turn = c .before .before .before in
-    (omega arith, rw (c .put-term .ensures) (server-filled (turn .before .before .pre) _ (turn .loop-test .taken) (turn .before .loop .inv .1)))
+    let v = turn .before .loop .inv in (
+      omega arith,
+      rw (c .put-term .ensures) (server-filled (turn .before .before .pre) _ (turn .loop-test .taken) (v .1)),
+      rw (c .put-term .ensures) (server-placed (turn .before .before .pre) _ (turn .loop-test .taken) (v .1) (v .2)),
+    )
 
 loop2-holds : tie.Need-loop2-holds Inv-loop μ-loop Inv-loop2 μ-loop2
-loop2-holds c = (omega arith, servers-filled (c .before .before .pre) (omega arith) (c .before .loop .inv .1))
+loop2-holds c =
+    let v = c .before .loop .inv in
+    (omega arith, servers-filled (c .before .before .pre) (omega arith) (v .1), servers-placed (c .before .before .pre) (omega arith) (v .2))
 
 mul-row : tie.Need-mul-row Inv-loop μ-loop Inv-loop2 μ-loop2
 mul-row c = omega arith
@@ -102,14 +111,22 @@ loop2-less c = omega arith
 
 loop2-again : tie.Need-loop2-again Inv-loop μ-loop Inv-loop2 μ-loop2
 loop2-again c =
-    let turn = c .before .before .before .before .before .before in (
+    let turn = c .before .before .before .before .before .before in
+    let v = turn .before .loop2 .inv in
+    let pre = turn .before .before .before .before .pre in (
       omega arith,
       rw (c .put-term2 .ensures, c .before .before .before .before .past .ensures, c .before .before .before .past2 .ensures)
-          (row-filled (turn .before .before .before .before .pre) _ (turn .loop2-test .taken) (turn .before .loop2 .inv .1)),
+          (row-filled pre _ (turn .loop2-test .taken) (v .1)),
+      rw (c .put-term2 .ensures, c .before .before .before .before .past .ensures, c .before .before .before .past2 .ensures)
+          (row-placed pre _ (turn .loop2-test .taken) (v .1) (v .2)),
     )
 
 returns : tie.Need-returns Inv-loop μ-loop Inv-loop2 μ-loop2
-returns c = all-filled (c .before .before .before .before .pre) (omega arith) (c .before .loop2 .inv .1)
+returns c =
+    let v = c .before .loop2 .inv in
+    let pre = c .before .before .before .before .pre in
+    let filled = all-filled pre (omega arith) (v .1) in
+    (filled .0, filled .1, all-repeat pre (omega arith) (v .2))
 
 pub terms-of-spec : {M : Type 1} → statement M
 terms-of-spec =
