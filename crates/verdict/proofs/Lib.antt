@@ -12,3 +12,4 @@ pub mod FilledTerms
 pub mod TableTerms
 pub mod Searches
 pub mod QuickVerdict
+pub mod BlockRises

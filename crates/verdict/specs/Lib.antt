@@ -4,3 +4,4 @@ pub mod ScanLaws
 pub mod RowsAlone
 pub mod HeldTerms
 pub mod QuickVerdict
+pub mod Blocks
