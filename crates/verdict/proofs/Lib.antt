@@ -13,3 +13,4 @@ pub mod TableTerms
 pub mod HeldParts
 pub mod Searches
 pub mod QuickVerdict
+pub mod BlockRises

@@ -5,3 +5,4 @@ pub mod RowsAlone
 pub mod HeldTerms
 pub mod HeldParts
 pub mod QuickVerdict
+pub mod Blocks

@@ -2,6 +2,7 @@
 // once. But the terms whose b divides P repeat themselves every P, and the others stay below a straight line. So one look at the smallest length of a class can
 // show that all its lengths fit, and only the other classes are walked along. Of the P that divide H, samples of their lengths choose one. (docs/RULES.md, 5.4
 // to 5.8.)
+use crate::blocks::blocks;
 use crate::descent::first;
 use crate::terms::GROUP;
 use crate::terms::ROOM;
@@ -301,6 +302,44 @@ fn choose(terms: &[u64; ROOM], count: usize, d: u64, period: u64, growth: u64) -
     Choice { step, looks }
 }
 
+// So many terms and more are searched by blocks where the other ways are thought to need many looks: the cost of a block does not grow with the terms.
+const MANY: usize = 12;
+
+// Whether the lengths are searched by blocks: there are many terms, and more looks than a 24th of the period's lengths would be needed.
+fn by_blocks(count: usize, period: u64, looks: u64) -> bool {
+    if count < MANY {
+        return false;
+    }
+    period / 24 < looks
+}
+
+// The step with which the period is searched by classes, or 0 where it is searched by descent or by blocks.
+fn choose_way(terms: &[u64; ROOM], count: usize, d: u64, period: u64, growth: u64) -> Choice
+    requires { ⌜ (Held (now terms) count) × (d ≤ maxD) × (64 ≤ period) × (period ≤ maxPeriod) × (growth ≤ period + maxOver)
+        × (Repeats (now terms) count d period) × (Curve (heldDemand (now terms) count) d period growth) ⌝ }
+    ensures { λ r. ⌜ r .step ≤ period ⌝ }
+{
+    let choice = choose(terms, count, d, period, growth);
+    if by_blocks(count, period, choice.looks) {
+        return Choice {
+            step: 0,
+            looks: choice.looks,
+        };
+    }
+    choice
+}
+
+// The smallest length from `lo` to `hi` that fails, or 0 if none does, by blocks or by descent.
+fn search_rest(terms: &[u64; ROOM], count: usize, period: u64, looks: u64, lo: u64, hi: u64) -> u64
+    requires { ⌜ (Held (now terms) count) × (1 ≤ lo) × (hi ≤ maxSearched) ⌝ }
+    ensures { λ r. ⌜ SmallestOrNone (heldDemand (now (terms .entry)) count) lo hi r ⌝ }
+{
+    if by_blocks(count, period, looks) {
+        return blocks(terms, count, lo, hi);
+    }
+    first(terms, count, 0, lo, hi)
+}
+
 // The smallest length up to d + period that fails, or 0 if none does, where the lengths up to `done` fit. A short period is searched by descent, and so is the
 // start of a long one. (5.8)
 pub(crate) fn period_search(
@@ -327,9 +366,9 @@ pub(crate) fn period_search(
     if 0 < early {
         return early;
     }
-    let choice = choose(terms, count, d, period, growth);
+    let choice = choose_way(terms, count, d, period, growth);
     if choice.step == 0 {
-        return first(terms, count, 0, near + 1, d + period);
+        return search_rest(terms, count, period, choice.looks, near + 1, d + period);
     }
     let mut middle = d + choice.looks / 2;
     if d + period < middle {

@@ -1,5 +1,6 @@
 // The verdict on a table. It is feasible if no length of time, however long, has more demand than length. Otherwise it is overloaded, and the answer is the
 // smallest length that has, with its demand. (docs/RULES.md, section 5.)
+mod blocks;
 mod classes;
 mod descent;
 mod terms;

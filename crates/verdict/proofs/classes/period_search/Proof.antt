@@ -53,22 +53,22 @@ fit : (c : tie.Else3) → (let a = c .before .before .before .before .args in
     FitsUpTo (heldDemand (a .terms .now) (a .count)) (a .d + a .period / 64))
 fit c = all-fit (c .before .before .before .before .pre .5) (not-raised (c .before .first3 .ensures) .none (omega arith))
 
-choose-requires : tie.Need-choose-requires
-choose-requires c κs = let p = c .before .before .before .before .pre in (p .0, p .1, omega arith, p .3, omega arith, p .6, p .7)
+choose-way-requires : tie.Need-choose-way-requires
+choose-way-requires c κs = let p = c .before .before .before .before .pre in (p .0, p .1, omega arith, p .3, omega arith, p .6, p .7)
 
-add-first-6 : tie.Need-add-first-6
-add-first-6 c = omega arith
+add-search-rest : tie.Need-add-search-rest
+add-search-rest c = omega arith
 
-add-first-7 : tie.Need-add-first-7
-add-first-7 c = omega arith
+add-search-rest-2 : tie.Need-add-search-rest-2
+add-search-rest-2 c = omega arith
 
-first-requires-4 : tie.Need-first-requires-4
-first-requires-4 c κs = let p = c .before .before .before .before .before .before .before .pre in (p .0, omega arith, omega arith, omega arith)
+search-rest-requires : tie.Need-search-rest-requires
+search-rest-requires c κs = let p = c .before .before .before .before .before .before .before .pre in (p .0, omega arith, omega arith)
 
 returns-4 : tie.Need-returns-4
 returns-4 c =
     let s = c .before .before .before .before .before .before .before .before in
-    from-there-on (s .pre .5) (fit (c .before .before .before .before)) (not-raised (c .first4 .ensures))
+    from-there-on (s .pre .5) (fit (c .before .before .before .before)) (c .search-rest .ensures)
 
 add-middle : tie.Need-add-middle
 add-middle c = omega arith
@@ -79,15 +79,15 @@ add-if5 c = omega arith
 add-middle-2 : tie.Need-add-middle-2
 add-middle-2 c = omega arith
 
-add-first-8 : tie.Need-add-first-8
-add-first-8 c = omega arith
+add-first-6 : tie.Need-add-first-6
+add-first-6 c = omega arith
 
 -- The middle is within the period.
 middle : (c : tie.Joined5) → (let a = c .before .before .before .before .before .before .before .before .before .args in c .if5 .middle ≤ a .d + a .period)
 middle c = ⊎-elim (λ w. omega arith) (λ w. omega arith) (c .if5 .came)
 
-first-requires-5 : tie.Need-first-requires-5
-first-requires-5 c κs =
+first-requires-4 : tie.Need-first-requires-4
+first-requires-4 c κs =
     let s = c .before .before .before .before .before .before .before .before .before in
     let p = s .pre in (p .0, omega arith, omega arith, omega (arith, middle c))
 
@@ -95,12 +95,12 @@ returns-5 : tie.Need-returns-5
 returns-5 c =
     let s = c .before .before .before .before .before .before .before .before .before .before .before in
     from-there-on (s .pre .5) (fit (c .before .before .before .before .before .before .before))
-    (found-sooner (not-raised (c .before .first5 .ensures)) (c .if6 .taken) (middle (c .before .before)))
+    (found-sooner (not-raised (c .before .first4 .ensures)) (c .if6 .taken) (middle (c .before .before)))
 
 classes-requires : tie.Need-classes-requires
 classes-requires c κs =
     let p = c .before .before .before .before .before .before .before .before .before .before .before .pre in
-    (p .0, p .1, p .2, p .3, omega arith, omega arith, c .before .before .before .before .before .before .choose .ensures, p .6, p .7)
+    (p .0, p .1, p .2, p .3, omega arith, omega arith, c .before .before .before .before .before .before .choose-way .ensures, p .6, p .7)
 
 returns-6 : tie.Need-returns-6
 returns-6 c =
@@ -126,16 +126,16 @@ period-search-spec =
     add-first-5
     first-requires-3
     returns-3
-    choose-requires
-    add-first-6
-    add-first-7
-    first-requires-4
+    choose-way-requires
+    add-search-rest
+    add-search-rest-2
+    search-rest-requires
     returns-4
     add-middle
     add-if5
     add-middle-2
-    add-first-8
-    first-requires-5
+    add-first-6
+    first-requires-4
     returns-5
     classes-requires
     returns-6)
