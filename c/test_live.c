@@ -664,6 +664,7 @@ static void test_made_up(void)
         struct ledger ledgers[2];
         uint8_t bytes[MOST_TABLE], answer[JYRMEKKO_ANSWER_SIZE];
         int feasible[2];
+        memset(answer, UNTOUCHED, sizeof answer);
         for (k = 0; k < 2; k++) {
             some_table(&rows[k]);
             start("calls made up", pairs[k], bytes, spell_table(bytes, &rows[k]));

@@ -4,9 +4,9 @@
  * verdict() says whether a table is feasible: whether its jobs can all be run in time at every load that it allows, in
  * the ticks that the sampling timer leaves free. Jobs that have a rate belong to rows, and odd jobs, which have none, to
  * servers. replay() runs a script of releases on a table and writes a log of the jobs. run_start(), run_release(),
- * run_tick() and run_end() are the live calls: with them a controller runs its jobs tick by tick, and says by itself what
- * is released and ended. Every call returns a status, which is one of the numbers below. Zero is none of them, and no
- * refusal looks like a yes. Test for the status that you want, and never for the absence of another.
+ * run_tick() and run_end() are the live calls: with them a controller runs its jobs tick by tick, and says by itself
+ * what is released and ended. Every call returns a status, which is one of the numbers below. Zero is none of them, and
+ * no refusal looks like a yes. Test for the status that you want, and never for the absence of another.
  *
  * Buffers. Each buffer is lent as a pointer and a length in bytes. The buffers of one call must not overlap. A null
  * pointer is allowed only with length 0. Any bytes may be handed in, and nothing has to be checked beforehand. The
@@ -70,15 +70,15 @@
  * does not promise is that a release is accepted: a flood can use up the places, and then the release is refused with 8.
  *
  * The caller of a live run owes this:
- *   - The run is no null pointer, lies at an address that 8 divides, as every struct jyrmekko_run of C does, and overlaps
- *     no buffer.
+ *   - The run is no null pointer, lies at an address that 8 divides, as every struct jyrmekko_run of C does, and
+ *     overlaps no buffer.
  *   - A run takes one call at a time. Where a thread or an interrupt handler could call while another call on the same
  *     run is under way, a lock or masked interrupts have to keep it out. Two runs need no lock.
  *   - Nobody but the live calls writes to the run, and nobody copies it while a call on it is under way. Between two
  *     calls it may be copied as a whole, and the copy is a run by itself.
- * Any bytes may stand in a run all the same, and no call goes wrong by them: run_start() overwrites them, and every other
- * call refuses a run that is not sound with 11. A run that was never started is not sound where it is all zeros. Other
- * memory that was not started could be sound by chance, so start every run. 11 never comes while the caller keeps to
+ * Any bytes may stand in a run all the same, and no call goes wrong by them: run_start() overwrites them, and every
+ * other call refuses a run that is not sound with 11. A run of zeros, which was never started, is not sound. Other
+ * memory that was never started could be sound by chance, so start every run. 11 never comes while the caller keeps to
  * this.
  *
  * Answers. The answer buffer has exactly 16 bytes and takes two numbers of eight bytes each, the lowest byte first. For
@@ -153,9 +153,9 @@ extern "C" {
 
 /*
  * The bytes of stack with which a thread can make every call. A live call works on copies of the run, and they stand on
- * the stack. Measured on x86-64, with any run: below its caller run_start() takes less than 105,000 bytes, run_tick() less
- * than 221,000, run_end() less than 262,000 and run_release() less than 286,000. With what the system itself puts on a
- * thread's stack, a thread needs at most 290,816 bytes. The other 16,384 are room, as above.
+ * the stack. Measured on x86-64, with any run: below its caller run_start() takes less than 105,000 bytes, run_tick()
+ * less than 221,000, run_end() less than 262,000 and run_release() less than 286,000. With what the system itself puts
+ * on a thread's stack, a thread needs at most 290,816 bytes. The other 16,384 are room, as above.
  */
 #define JYRMEKKO_RUN_STACK_SIZE 307200
 
@@ -198,8 +198,8 @@ enum jyrmekko_status {
     JYRMEKKO_PERIOD_TOO_LONG = 5,      /* H is above 1,048,576. Place: the table's length. */
     JYRMEKKO_HOPELESS_ROW = 16,        /* A row's c is in its range and above the row's d. Place: the start of c. */
 
-    /* The refusals of a script, by replay(). 6 to 9 are refusals of run_release() too, and 10 is one of run_tick(): */
-    /* they are given for the same reasons, and their place is 0. */
+    /* The refusals of a script, by replay(). 6 to 9 are refusals of run_release() too, for the same reasons, and 10 */
+    /* is one of run_tick(). Their place is 0 then. */
     JYRMEKKO_NO_SUCH_ROW = 6,          /* The row number is not in use: it is neither a row's nor a server's. Place: */
                                        /* the row number's start. */
     JYRMEKKO_COST_OUT_OF_RANGE = 7,    /* The cost is 0, or above the row's c, or for an odd job above */
@@ -294,10 +294,10 @@ struct jyrmekko_run {
  * Starts a run on a table, whatever stood in its memory before. Overloaded tables are started too, so ask verdict()
  * first.
  *
- * It returns 33, or a refusal. 13 comes first, and then nothing changes at all, in the run either. Then come those of the
- * table as in verdict(), with their places. After one of these the run is the fresh run of the table without rows and
- * servers, in which every release is refused with 6 and every tick is idle, and nothing is left of the run before. Every
- * status but 13 writes the answer buffer. The table is only read.
+ * It returns 33, or a refusal. 13 comes first, and with it nothing changes at all, neither the answer buffer nor the
+ * run. Then come those of the table as in verdict(), with their places. After one of these the run is the fresh run of
+ * the table without rows and servers: nothing is left of the run before, every release is refused with 6, and every tick
+ * is idle. Every status but 13 writes the answer buffer. The table is only read.
  */
 uint32_t run_start(const uint8_t *table, size_t table_len, struct jyrmekko_run *run, uint8_t *answer, size_t answer_len);
 
