@@ -93,25 +93,6 @@ static bool is_replayed(uint32_t status)
     return status == JYRMEKKO_IN_TIME || status == JYRMEKKO_LATE;
 }
 
-/* Returns the least common multiple of a period and of some numbers, or 0 where it is above the limit. */
-static uint64_t joined(uint64_t period, const uint64_t *numbers, uint64_t count)
-{
-    enum { LONGEST_PERIOD = 1048576 };
-    for (uint64_t i = 0; i < count && period != 0; i++) {
-        uint64_t multiple = period;
-        while (multiple % numbers[i] != 0)
-            multiple += period;
-        period = multiple > LONGEST_PERIOD ? 0 : multiple;
-    }
-    return period;
-}
-
-/* Returns H of a table that none of 1 to 4 and 16 is wanted for (docs/RULES.md, 3.4), or 0 where it is above the limit. */
-static uint64_t period_of(const struct rows *rows)
-{
-    return joined(joined(rows->p, rows->y, rows->count), rows->b, rows->servers);
-}
-
 /* Expects the refusal of the table that the rules want, or none where they want none. */
 static void expect_table_answer(struct answer answer, struct bytes table)
 {

@@ -3,6 +3,10 @@
 passed=0
 failed=0
 
+# A program is tampered with where it is compiled with these words (c/tamper.c).
+# shellcheck disable=SC2034 # The test scripts use it.
+tamper_words=('-Wl,--wrap=verdict,--wrap=replay,--wrap=run_start,--wrap=run_release,--wrap=run_tick,--wrap=run_end' c/tamper.c)
+
 # check WHAT STATUS PATTERN COMMAND..: checks that the command exits with STATUS, and that all it says matches PATTERN.
 check() {
   local what=$1 status=$2 pattern=$3 said got

@@ -11,7 +11,7 @@
 #include <stdio.h>
 
 /*
- * These exit statuses are no answers of the library. The rules use 1 to 26, and 0 would read as a pass, so these are
+ * These exit statuses are no answers of the library. The rules use 1 to 39, and 0 would read as a pass, so these are
  * other numbers. 69 belongs to the script that builds this program.
  */
 enum {

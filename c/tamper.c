@@ -1,6 +1,6 @@
 /*
- * The library's two calls, tampered with in the one way that the environment variable TAMPER names, to show that a test
- * sees it. A program that is to be tampered with is linked with this file and -Wl,--wrap=verdict,--wrap=replay.
+ * The library's calls, tampered with in the one way that the environment variable TAMPER names, to show that a test sees
+ * it. A program that is to be tampered with is linked with this file and with a --wrap of each call (c/checks.sh).
  */
 #include "jyrmekko.h"
 
@@ -12,6 +12,14 @@ uint32_t __real_verdict(const uint8_t *, size_t, uint8_t *, size_t);
 uint32_t __wrap_verdict(const uint8_t *, size_t, uint8_t *, size_t);
 uint32_t __real_replay(const uint8_t *, size_t, const uint8_t *, size_t, uint8_t *, size_t, uint8_t *, size_t);
 uint32_t __wrap_replay(const uint8_t *, size_t, const uint8_t *, size_t, uint8_t *, size_t, uint8_t *, size_t);
+uint32_t __real_run_start(const uint8_t *, size_t, struct jyrmekko_run *, uint8_t *, size_t);
+uint32_t __wrap_run_start(const uint8_t *, size_t, struct jyrmekko_run *, uint8_t *, size_t);
+uint32_t __real_run_release(struct jyrmekko_run *, uint64_t, uint64_t, uint8_t *, size_t);
+uint32_t __wrap_run_release(struct jyrmekko_run *, uint64_t, uint64_t, uint8_t *, size_t);
+uint32_t __real_run_tick(struct jyrmekko_run *, uint8_t *, size_t);
+uint32_t __wrap_run_tick(struct jyrmekko_run *, uint8_t *, size_t);
+uint32_t __real_run_end(struct jyrmekko_run *, uint64_t, uint8_t *, size_t);
+uint32_t __wrap_run_end(struct jyrmekko_run *, uint64_t, uint8_t *, size_t);
 
 enum { FIRST = 0, SECOND = 8 }; /* The answer's two numbers start here. */
 enum { S, P, COUNT };           /* A table's first three numbers start here, where s and p have one group each. */
@@ -26,7 +34,13 @@ static bool tampering(const char *name)
                                         "byte-before", "byte-after", "end-for-byte", "fewer-rows", "fewer-places",
                                         "period-before-hopeless", "taken-left-out", "taken-given", "s-before-p",
                                         "old-spelling", "servers-left-out", "odd-due-early", "fewer-servers",
-                                        "no-server-count", "period-let-through"};
+                                        "no-server-count", "period-let-through", "run-changed-at-13",
+                                        "run-changed-at-11", "run-past-its-end", "run-not-all-written",
+                                        "run-kept-by-a-refused-start", "refusal-of-0", "place-of-a-refusal",
+                                        "live-answer-past-its-end", "tick-status", "numbers-swapped",
+                                        "ran-for-finished", "idle-for-taken", "late-left-out", "late-added",
+                                        "another-serial", "tick-left-out", "due-moved", "release-refused",
+                                        "release-left-out", "units-left-for-given", "end-left-out"};
     const char *chosen = getenv("TAMPER");
     for (size_t i = 0; chosen != NULL && i < sizeof names / sizeof names[0]; i++)
         if (strcmp(chosen, names[i]) == 0)
@@ -257,4 +271,96 @@ uint32_t __wrap_replay(const uint8_t *table, size_t table_len, const uint8_t *sc
         }
     }
     return tampered(status, table, table_len, answer, answer_len, before);
+}
+
+/* ---- the live calls */
+
+enum { LAST_WORD = JYRMEKKO_RUN_SIZE / 8 - 1 };
+
+/* Tampers in the ways that all live calls have. */
+static uint32_t live_tampered(uint32_t status, struct jyrmekko_run *run, uint8_t *answer)
+{
+    if (status == JYRMEKKO_ANSWER_NOT_16_BYTES) {
+        if (tampering("run-changed-at-13"))
+            run->words[LAST_WORD] ^= 1;
+        return status;
+    }
+    if (tampering("run-changed-at-11") && status == JYRMEKKO_RUN_NOT_SOUND)
+        run->words[LAST_WORD] ^= 1;
+    if (tampering("run-past-its-end"))
+        ((volatile uint64_t *)run)[LAST_WORD + 1] ^= 1;
+    if (tampering("live-answer-past-its-end"))
+        answer[JYRMEKKO_ANSWER_SIZE] ^= 1;
+    if (tampering("place-of-a-refusal") && status < JYRMEKKO_STARTED)
+        answer[FIRST]++;
+    if (tampering("refusal-of-0") && status < JYRMEKKO_STARTED)
+        return 0;
+    return status;
+}
+
+uint32_t __wrap_run_start(const uint8_t *table, size_t table_len, struct jyrmekko_run *run, uint8_t *answer,
+                          size_t answer_len)
+{
+    uint64_t last_word = run->words[LAST_WORD], p = run->words[1];
+    uint32_t status = __real_run_start(table, table_len, run, answer, answer_len);
+    if (tampering("run-not-all-written"))
+        run->words[LAST_WORD] = last_word;
+    if (tampering("run-kept-by-a-refused-start") && status != JYRMEKKO_STARTED)
+        run->words[1] = p;
+    return live_tampered(status, run, answer);
+}
+
+uint32_t __wrap_run_release(struct jyrmekko_run *run, uint64_t row, uint64_t cost, uint8_t *answer, size_t answer_len)
+{
+    struct jyrmekko_run before = *run;
+    uint32_t status = __real_run_release(run, row, cost, answer, answer_len);
+    if (tampering("due-moved") && status == JYRMEKKO_ACCEPTED)
+        answer[SECOND]++;
+    if (tampering("release-left-out") && status == JYRMEKKO_ACCEPTED)
+        *run = before;
+    if (tampering("release-refused") && status == JYRMEKKO_ACCEPTED) {
+        *run = before;
+        return refused(JYRMEKKO_PLACES_FULL, 0, answer);
+    }
+    return live_tampered(status, run, answer);
+}
+
+uint32_t __wrap_run_tick(struct jyrmekko_run *run, uint8_t *answer, size_t answer_len)
+{
+    struct jyrmekko_run before = *run;
+    uint32_t status = __real_run_tick(run, answer, answer_len);
+    if (status < JYRMEKKO_STARTED)
+        return live_tampered(status, run, answer);
+    if (tampering("numbers-swapped"))
+        for (int i = FIRST; i < SECOND; i++) {
+            uint8_t first = answer[i];
+            answer[i] = answer[i + SECOND];
+            answer[i + SECOND] = first;
+        }
+    if (tampering("late-left-out"))
+        answer[SECOND] = 0;
+    if (tampering("late-added"))
+        answer[SECOND]++;
+    if (tampering("another-serial") && status != JYRMEKKO_IDLE && status != JYRMEKKO_TAKEN)
+        answer[FIRST]++;
+    if (tampering("tick-left-out"))
+        *run = before;
+    if (tampering("ran-for-finished") && status == JYRMEKKO_FINISHED)
+        status = JYRMEKKO_RAN;
+    if (tampering("idle-for-taken") && status == JYRMEKKO_TAKEN)
+        status = JYRMEKKO_IDLE;
+    if (tampering("tick-status"))
+        status = (uint32_t)strtoul(getenv("TAMPER_STATUS"), NULL, 10);
+    return live_tampered(status, run, answer);
+}
+
+uint32_t __wrap_run_end(struct jyrmekko_run *run, uint64_t serial, uint8_t *answer, size_t answer_len)
+{
+    struct jyrmekko_run before = *run;
+    uint32_t status = __real_run_end(run, serial, answer, answer_len);
+    if (tampering("units-left-for-given") && status == JYRMEKKO_ENDED)
+        answer[FIRST]++;
+    if (tampering("end-left-out") && status == JYRMEKKO_ENDED)
+        *run = before;
+    return live_tampered(status, run, answer);
 }

@@ -4,15 +4,11 @@
  */
 #include "jyrmekko.h"
 
+#include "testing.h"
 #include "wanted.h"
 
 #include <stdio.h>
 #include <string.h>
-
-#define COUNT(array) (sizeof(array) / sizeof((array)[0]))
-
-/* Buffers are filled with this byte beforehand, so that every byte that is written shows. */
-#define UNTOUCHED 0xA5
 
 /* These are the spellings of 2^40 and of numbers near it. */
 #define LAST_TICK 0x80, 0x80, 0x80, 0x80, 0x80, 0x20
@@ -31,42 +27,9 @@
 /* Any log of the scripts here fits. */
 enum { FENCE = 16, MOST_LOG = JYRMEKKO_LOG_SIZE(3 * (JYRMEKKO_MOST_PENDING + 2)) };
 
-static unsigned passed, failed;
-
-static void check(int good, const char *name, const char *what)
-{
-    if (good) {
-        passed++;
-    } else {
-        failed++;
-        printf("%s: wrong %s\n", name, what);
-    }
-}
-
-static int all_bytes(const uint8_t *bytes, size_t length, uint8_t value)
-{
-    size_t i;
-    for (i = 0; i < length; i++) {
-        if (bytes[i] != value) {
-            return 0;
-        }
-    }
-    return 1;
-}
-
 static int same_bytes(const uint8_t *one, const uint8_t *other, size_t length)
 {
     return length == 0 || memcmp(one, other, length) == 0;
-}
-
-static uint64_t number(const uint8_t *eight_bytes)
-{
-    uint64_t value = 0;
-    int i;
-    for (i = 7; i >= 0; i--) {
-        value = value << 8 | eight_bytes[i];
-    }
-    return value;
 }
 
 /* A buffer to lend. It starts at bytes + FENCE, and around it stand bytes that nobody may touch. */
@@ -920,16 +883,6 @@ static void test_damage(void)
 
 /* ---- every pair of some d and some c: only a c that is in its range can make a row hopeless */
 
-static size_t spell(uint8_t *out, uint64_t value)
-{
-    size_t length = 0;
-    for (; value > 127; value /= 128) {
-        out[length++] = (uint8_t)(value % 128 + 128);
-    }
-    out[length++] = (uint8_t)value;
-    return length;
-}
-
 static void test_hopeless(void)
 {
     static const unsigned values[] = {0, 1, 2, 3, 126, 127, 128, 129, 300, 4095, 4096, 4097, 16383, 16384, 16385};
@@ -1026,32 +979,9 @@ static void test_server_values(void)
 /* ---- small tables and scripts, compared with the definitions: each length by itself, and each tick by itself */
 
 enum {
-    MOST_SMALL_ROWS = 3,
-    MOST_SMALL_SERVERS = 2,
     MOST_SMALL_JOBS = 16,
     MOST_SMALL_TABLE = HEAD_LEN + ROW_LEN * MOST_SMALL_ROWS + 1 + SERVER_LEN * MOST_SMALL_SERVERS
 };
-
-/* Each number of a small table has one group. Returns the table's length. */
-static size_t spell_small(uint8_t *table, const struct rows *rows)
-{
-    size_t i, length = HEAD_LEN;
-    table[0] = (uint8_t)rows->s;
-    table[1] = (uint8_t)rows->p;
-    table[2] = (uint8_t)rows->count;
-    for (i = 0; i < rows->count; i++) {
-        table[length++] = (uint8_t)rows->x[i];
-        table[length++] = (uint8_t)rows->y[i];
-        table[length++] = (uint8_t)rows->due[i];
-        table[length++] = (uint8_t)rows->cost[i];
-    }
-    table[length++] = (uint8_t)rows->servers;
-    for (i = 0; i < rows->servers; i++) {
-        table[length++] = (uint8_t)rows->a[i];
-        table[length++] = (uint8_t)rows->b[i];
-    }
-    return length;
-}
 
 static uint64_t common_multiple(uint64_t one, uint64_t other)
 {
@@ -1127,7 +1057,7 @@ static void check_named_jobs(const char *name, const uint8_t *table, size_t tabl
 static int check_small_table(const struct rows *rows)
 {
     uint8_t table[MOST_SMALL_TABLE], answer[JYRMEKKO_ANSWER_SIZE];
-    size_t table_len = spell_small(table, rows);
+    size_t table_len = spell_table(table, rows);
     uint64_t length = witness_of(rows);
     char name[3 * MOST_SMALL_TABLE + 20] = "the small table";
     size_t i;
@@ -1237,14 +1167,6 @@ static void test_every_small_server(void)
     check(counts[0] > 1000 && counts[1] > 1000, "small servers with one row", "number of cases");
 }
 
-/* Returns a number from 1 to `most`, always the same ones in the same order. */
-static uint64_t some(uint64_t most)
-{
-    static uint32_t state = 1;
-    state = (uint32_t)(state * UINT64_C(1664525) + UINT64_C(1013904223));
-    return state / 65536 % most + 1;
-}
-
 /* A job, whose serial is its place in a list. */
 struct small_job {
     uint64_t time, row, due, left;
@@ -1320,7 +1242,7 @@ static uint64_t check_small_script(const struct rows *rows, unsigned number_of_c
     struct fenced log_buffer;
     uint8_t table[MOST_SMALL_TABLE], script[RECORD_LEN * MOST_SMALL_JOBS], answer[JYRMEKKO_ANSWER_SIZE];
     uint8_t wanted[JYRMEKKO_LOG_SIZE(sizeof script)], *log = untouched(&log_buffer);
-    size_t table_len = spell_small(table, rows), count = (size_t)some(MOST_SMALL_JOBS), length, i;
+    size_t table_len = spell_table(table, rows), count = (size_t)some(MOST_SMALL_JOBS), length, i;
     uint64_t time = 0, late;
     uint32_t status;
     char name[60];
@@ -1350,27 +1272,12 @@ static uint64_t check_small_script(const struct rows *rows, unsigned number_of_c
 static void test_small_scripts(void)
 {
     enum { CASES = 6000 };
-    static const uint64_t sizes[] = {1, 2, 3, 4, 6, 8, 12, 24}; /* With such b, H stays small. */
     unsigned with_servers[2] = {0, 0}; /* So many tables with servers are feasible, and so many overloaded. */
     unsigned feasible = 0, overloaded = 0, late_scripts = 0, i;
     for (i = 0; i < CASES; i++) {
         struct rows rows;
-        size_t row;
         uint64_t late;
-        rows.p = some(9);
-        rows.s = some(rows.p) - 1;
-        rows.servers = some(MOST_SMALL_SERVERS + 1) - 1;
-        rows.count = rows.servers == 0 ? some(MOST_SMALL_ROWS) : some(MOST_SMALL_ROWS + 1) - 1;
-        for (row = 0; row < rows.servers; row++) {
-            rows.b[row] = sizes[some(COUNT(sizes)) - 1];
-            rows.a[row] = some(some(3) == 1 ? rows.b[row] : (rows.b[row] + 3) / 4);
-        }
-        for (row = 0; row < rows.count; row++) {
-            rows.x[row] = some(3);
-            rows.y[row] = some(4) == 1 ? some(6) : some(24);
-            rows.due[row] = some(20);
-            rows.cost[row] = some(rows.due[row] < 3 ? rows.due[row] : 3);
-        }
+        some_table(&rows);
         late = check_small_script(&rows, i);
         late_scripts += late > 0;
         if (check_small_table(&rows)) {

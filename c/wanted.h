@@ -164,6 +164,26 @@ static inline struct wanted wanted_of_table(const uint8_t *table, size_t length,
     return wanted;
 }
 
+/* Returns the least common multiple of a period and of some numbers, or 0 where it is above the limit. */
+static inline uint64_t joined(uint64_t period, const uint64_t *numbers, uint64_t count)
+{
+    enum { LONGEST_PERIOD = 1048576 };
+    uint64_t i, multiple;
+    for (i = 0; i < count && period != 0; i++) {
+        for (multiple = period; multiple % numbers[i] != 0;) {
+            multiple += period;
+        }
+        period = multiple > LONGEST_PERIOD ? 0 : multiple;
+    }
+    return period;
+}
+
+/* Returns H of a table that none of 1 to 4 and 16 is wanted for (docs/RULES.md, 3.4), or 0 where it is above the limit. */
+static inline uint64_t period_of(const struct rows *rows)
+{
+    return joined(joined(rows->p, rows->y, rows->count), rows->b, rows->servers);
+}
+
 /* Returns whether the timer takes the tick at this clock. */
 static inline int is_taken(const struct rows *rows, uint64_t clock)
 {

@@ -3,15 +3,18 @@
  *
  * verdict() says whether a table is feasible: whether its jobs can all be run in time at every load that it allows, in
  * the ticks that the sampling timer leaves free. Jobs that have a rate belong to rows, and odd jobs, which have none, to
- * servers. replay() runs a script of releases on a table and writes a log of the jobs. Both return a status, which is
- * one of the numbers below. Zero is none of them, and no refusal looks like a yes. Test for the status that you want,
- * and never for the absence of another.
+ * servers. replay() runs a script of releases on a table and writes a log of the jobs. run_start(), run_release(),
+ * run_tick() and run_end() are the live calls: with them a controller runs its jobs tick by tick, and says by itself
+ * what is released and ended. Every call returns a status, which is one of the numbers below. Zero is none of them, and
+ * no refusal looks like a yes. Test for the status that you want, and never for the absence of another.
  *
  * Buffers. Each buffer is lent as a pointer and a length in bytes. The buffers of one call must not overlap. A null
  * pointer is allowed only with length 0. Any bytes may be handed in, and nothing has to be checked beforehand. The
- * calls read and write only inside these buffers. They keep nothing from one call to the next and share no state, so
- * any number of threads may call at once, each with buffers of its own. They take no memory from the heap. A thread
- * whose stack has JYRMEKKO_STACK_SIZE bytes can make either call, whatever is handed in.
+ * calls read and write only inside these buffers, and inside the run that a live call is lent. Apart from that run they
+ * keep nothing from one call to the next. They share no state, so any number of threads may call at once, each with
+ * buffers and a run of its own. They take no memory from the heap. A thread whose stack has JYRMEKKO_STACK_SIZE bytes
+ * can make verdict() and replay(), and one whose stack has JYRMEKKO_RUN_STACK_SIZE bytes every call, whatever is handed
+ * in.
  *
  * Numbers. A number in a table, a script or a log is spelled in groups of seven bits, one group a byte, the lowest
  * group first. The top bit of a byte is set when another byte of the same number follows. A number has at most 6
@@ -58,9 +61,30 @@
  * that finishes exactly at it is not. A record of a log takes at most 30 bytes and a record of a script at least 3. So a
  * log buffer of JYRMEKKO_LOG_SIZE(script_len) bytes is always long enough.
  *
+ * Live runs. A live run is a struct jyrmekko_run, in memory that the host provides. run_start() makes it the fresh run
+ * of a table, with the clock at 0. run_release() hands in one job, released at the clock. run_tick() lets one tick go by
+ * and says which job had it. run_end() ends a job that is done before its cost, such as a reading that came early. Row
+ * numbers, serials, due times and the choice of the job are those of scripts and logs. Where verdict() finds the table
+ * feasible, every accepted job has had exactly its cost by its due time, counted in the answers of run_tick(), or it was
+ * ended and has had what run_end() answered. This holds whatever else is released, ended or refused. What a live run
+ * does not promise is that a release is accepted: a flood can use up the places, and then the release is refused with 8.
+ *
+ * The caller of a live run owes this:
+ *   - The run is no null pointer, lies at an address that 8 divides, as every struct jyrmekko_run of C does, and
+ *     overlaps no buffer.
+ *   - A run takes one call at a time. Where a thread or an interrupt handler could call while another call on the same
+ *     run is under way, a lock or masked interrupts have to keep it out. Two runs need no lock.
+ *   - Nobody but the live calls writes to the run, and nobody copies it while a call on it is under way. Between two
+ *     calls it may be copied as a whole, and the copy is a run by itself.
+ * Any bytes may stand in a run all the same, and no call goes wrong by them: run_start() overwrites them, and every
+ * other call refuses a run that is not sound with 11. A run of zeros, which was never started, is not sound. Other
+ * memory that was never started could be sound by chance, so start every run. 11 never comes while the caller keeps to
+ * this.
+ *
  * Answers. The answer buffer has exactly 16 bytes and takes two numbers of eight bytes each, the lowest byte first. For
  * a refusal they are its place and 0. A place counts bytes from 0. For 1 to 5 and 16 it is a place in the table, and
- * for every other refusal a place in the script.
+ * for every other refusal of replay() a place in the script. run_release(), run_tick() and run_end() have no place to
+ * name, and beside their refusals both numbers are 0.
  *
  * Bad bytes. 1 and 14 refuse a number that can't be read, and their place is the byte that is wrong:
  *   - Where the last group of a longer number is zero, it is the byte of that group. For 80 00 it is the byte 00.
@@ -82,6 +106,20 @@
  *
  * The same rig with a server that gives 1 unit in 4 ticks has the table {0, 1, 1, 1, 2, 6, 1, 1, 1, 4}. On it the
  * script {0, 0, 1, 0, 1, 2} releases a job of the row and an odd job of cost 2, which is due at tick 8.
+ *
+ * A controller's loop, in which a job of row 0 is released every 10 ticks (examples/host/controller.c is a whole one):
+ *
+ *     static struct jyrmekko_run run;
+ *     if (run_start(table, sizeof table, &run, answer, sizeof answer) != JYRMEKKO_STARTED) return 1;
+ *     for (uint64_t clock = 0;; clock++) {
+ *         wait_for_timer();
+ *         if (clock % 10 == 0 && run_release(&run, 0, 1, answer, sizeof answer) != JYRMEKKO_ACCEPTED) return 1;
+ *         switch (run_tick(&run, answer, sizeof answer)) {
+ *         case JYRMEKKO_RAN: case JYRMEKKO_FINISHED: give_the_processor_to(answer); break;
+ *         case JYRMEKKO_IDLE: case JYRMEKKO_TAKEN: break;
+ *         default: return 1;
+ *         }
+ *     }
  */
 #ifndef JYRMEKKO_H
 #define JYRMEKKO_H
@@ -93,9 +131,10 @@
 extern "C" {
 #endif
 
-/* The lengths of the buffers for an answer, and for any log of a script. */
+/* The lengths of the buffers for an answer, and for any log of a script, and the size of a live run, in bytes. */
 #define JYRMEKKO_ANSWER_SIZE 16
 #define JYRMEKKO_LOG_SIZE(script_len) (10 * (script_len))
+#define JYRMEKKO_RUN_SIZE 47872
 
 /* The limits. */
 #define JYRMEKKO_MOST_ROWS 64           /* A table has no more rows than this. */
@@ -105,12 +144,20 @@ extern "C" {
 #define JYRMEKKO_MOST_PENDING 256       /* No more jobs than this are pending at a time. */
 
 /*
- * The bytes of stack with which a thread can make either call. Measured on x86-64, with any input: below its caller
- * verdict() takes less than 13,000 bytes, and replay() less than 77,000. With what the system itself puts on a thread's
- * stack, a thread needs 81,920 bytes. The other 16,384 are room, for the functions that make the call and for signal
- * handlers.
+ * The bytes of stack with which a thread can make verdict() and replay(). Measured on x86-64, with any input: below its
+ * caller verdict() takes less than 13,000 bytes, and replay() less than 77,000. With what the system itself puts on a
+ * thread's stack, a thread needs at most 81,920 bytes. The other 16,384 are room, for the functions that make the call
+ * and for signal handlers.
  */
 #define JYRMEKKO_STACK_SIZE 98304
+
+/*
+ * The bytes of stack with which a thread can make every call. A live call works on copies of the run, and they stand on
+ * the stack. Measured on x86-64, with any run: below its caller run_start() takes less than 105,000 bytes, run_tick()
+ * less than 221,000, run_end() less than 262,000 and run_release() less than 286,000. With what the system itself puts
+ * on a thread's stack, a thread needs at most 290,816 bytes. The other 16,384 are room, as above.
+ */
+#define JYRMEKKO_RUN_STACK_SIZE 307200
 
 /*
  * The statuses. The comment on an answer says what the two numbers of the answer buffer are. The comment on a refusal
@@ -126,7 +173,19 @@ enum jyrmekko_status {
     JYRMEKKO_IN_TIME = 22,             /* All jobs are in time. Numbers: the log's length in bytes, and 0. */
     JYRMEKKO_LATE = 23,                /* A job is late. Numbers: the log's length in bytes, and how many are late. */
 
-    /* The refusals of a table, by both calls. */
+    /* The answers of the live calls. */
+    JYRMEKKO_STARTED = 33,             /* run_start(): the run is started. Numbers: 0 and 0. */
+    JYRMEKKO_ACCEPTED = 34,            /* run_release(): the job is accepted. Numbers: its serial and its due time. */
+    JYRMEKKO_IDLE = 35,                /* run_tick(): the tick was free, and no job was pending. Numbers: 0 and 0. */
+    JYRMEKKO_RAN = 36,                 /* run_tick(): a job had the unit, and has not finished. Numbers: its serial, */
+                                       /* and how many jobs became late in this tick. */
+    JYRMEKKO_FINISHED = 37,            /* run_tick(): a job had the unit, and has finished. Numbers: its serial, and */
+                                       /* how many jobs became late in this tick. */
+    JYRMEKKO_TAKEN = 38,               /* run_tick(): the timer took the tick. Numbers: 0, and how many jobs became */
+                                       /* late in this tick. */
+    JYRMEKKO_ENDED = 39,               /* run_end(): the job is ended. Numbers: the units that it was given, and 0. */
+
+    /* The refusals of a table, by verdict(), replay() and run_start(). */
     JYRMEKKO_MISSPELLED = 1,           /* A number is misspelled or too long. Place: the bad byte. */
                                        /* Or a number is cut off. Place: the table's length. */
     JYRMEKKO_TOO_MANY_ROWS = 2,        /* The row count is above JYRMEKKO_MOST_ROWS, or the server count is above */
@@ -139,7 +198,8 @@ enum jyrmekko_status {
     JYRMEKKO_PERIOD_TOO_LONG = 5,      /* H is above 1,048,576. Place: the table's length. */
     JYRMEKKO_HOPELESS_ROW = 16,        /* A row's c is in its range and above the row's d. Place: the start of c. */
 
-    /* The refusals of a script, by replay(). */
+    /* The refusals of a script, by replay(). 6 to 9 are refusals of run_release() too, for the same reasons, and 10 */
+    /* is one of run_tick(). Their place is 0 then. */
     JYRMEKKO_NO_SUCH_ROW = 6,          /* The row number is not in use: it is neither a row's nor a server's. Place: */
                                        /* the row number's start. */
     JYRMEKKO_COST_OUT_OF_RANGE = 7,    /* The cost is 0, or above the row's c, or for an odd job above */
@@ -151,17 +211,23 @@ enum jyrmekko_status {
     JYRMEKKO_TIME_TOO_LATE = 10,       /* A script time is above 2^40. Place: the gap's start. */
                                        /* Or, after the last record, the clock is at 2^40 with a job pending. Place: */
                                        /* the script's length. */
+                                       /* run_tick(): the clock is at 2^40, even with no job pending. Place: 0. */
     JYRMEKKO_SCRIPT_MISSPELLED = 14,   /* A number is misspelled or too long. Place: the bad byte. */
                                        /* Or a number is cut off. Place: the script's length. */
 
     /* The refusals of a buffer. */
     JYRMEKKO_NO_ROOM = 12,             /* replay(): the log is longer than its buffer. Place: the script's length. */
-    JYRMEKKO_ANSWER_NOT_16_BYTES = 13, /* Both calls: the answer buffer is not 16 bytes long. Nothing is written. */
+    JYRMEKKO_ANSWER_NOT_16_BYTES = 13, /* Every call: the answer buffer is not 16 bytes long. No buffer is written */
+                                       /* to, and a live run stays as it was. */
 
-    /* The refusals inside the scheduler, which these two calls never return. */
-    JYRMEKKO_RUN_NOT_SOUND = 11,       /* The run is not sound. */
-    JYRMEKKO_NOT_PENDING = 17,         /* No pending job has the serial that is to be ended. */
-    JYRMEKKO_TOO_MANY_ENDED = 18,      /* 2^40 jobs were ended early. */
+    /* The refusals of a live run, which verdict() and replay() never return. Their place is 0. */
+    JYRMEKKO_RUN_NOT_SOUND = 11,       /* run_release(), run_tick() and run_end(): the run is not sound. It was not */
+                                       /* started, or somebody else wrote to it. */
+    JYRMEKKO_NOT_PENDING = 17,         /* run_end(): no pending job has this serial. It was never given out, or its */
+                                       /* job has finished or was ended before. */
+    JYRMEKKO_TOO_MANY_ENDED = 18,      /* run_end(): 2^40 jobs were ended early. */
+
+    /* The refusal inside the scheduler, which none of these calls returns. */
     JYRMEKKO_NUMBER_TOO_BIG = 25       /* A number to write is above 2^42 - 1. */
 };
 
@@ -211,6 +277,53 @@ uint32_t replay(const uint8_t *table, size_t table_len,
                 const uint8_t *script, size_t script_len,
                 uint8_t *log, size_t log_len,
                 uint8_t *answer, size_t answer_len);
+
+/*
+ * A live run. Its words are the scheduler's, and no host needs to know what they say: it reads the answers. A run is
+ * large, and stands better in static memory than on a stack.
+ */
+struct jyrmekko_run {
+    uint64_t words[JYRMEKKO_RUN_SIZE / 8];
+};
+
+/*
+ * Starts a run on a table, whatever stood in its memory before. Overloaded tables are started too, so ask verdict()
+ * first.
+ *
+ * It returns 33, or a refusal. 13 comes first, and with it nothing changes at all, neither the answer buffer nor the
+ * run. Then come those of the table as in verdict(), with their places. After one of these the run is the fresh run of
+ * the table without rows and servers: nothing is left of the run before, every release is refused with 6, and every tick
+ * is idle. Every status but 13 writes the answer buffer. The table is only read.
+ */
+uint32_t run_start(const uint8_t *table, size_t table_len, struct jyrmekko_run *run, uint8_t *answer, size_t answer_len);
+
+/*
+ * Releases a job of a row or of a server at the clock, with this cost.
+ *
+ * It returns 34, with the job's serial and its due time, or a refusal. 13 comes first, then 11, 6, 7, 8 and 9. A refusal
+ * leaves the run as it was, and counts as no release. Every status but 13 writes the answer buffer.
+ */
+uint32_t run_release(struct jyrmekko_run *run, uint64_t row, uint64_t cost, uint8_t *answer, size_t answer_len);
+
+/*
+ * Lets one tick go by. Where the timer leaves it free, it gives one unit to the pending job with the earliest due time,
+ * and among equal due times to the lowest serial. The clock goes up by one.
+ *
+ * It returns 35, 36, 37 or 38, or a refusal. 13 comes first, then 11 and 10. A refusal leaves the run as it was. A job
+ * becomes late in the tick that takes the clock to its due time, where it is still pending after the unit. It stays
+ * pending, and is not counted again. On a feasible table no job becomes late. Every status but 13 writes the answer
+ * buffer.
+ */
+uint32_t run_tick(struct jyrmekko_run *run, uint8_t *answer, size_t answer_len);
+
+/*
+ * Ends the pending job with this serial. It gets no unit from then on, never becomes late, and frees its place at once.
+ * Later jobs of its row or server are due as if it had not been ended.
+ *
+ * It returns 39, with the units that the job was given, or a refusal. 13 comes first, then 11, 17 and 18. A refusal
+ * leaves the run as it was. Every status but 13 writes the answer buffer.
+ */
+uint32_t run_end(struct jyrmekko_run *run, uint64_t serial, uint8_t *answer, size_t answer_len);
 
 #ifdef __cplusplus
 }

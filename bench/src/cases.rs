@@ -24,11 +24,13 @@ pub enum Work {
     Calls { form: Form, table: Vec<u8>, calls: Vec<u8>, kinds: Vec<u64> },
 }
 
-/// The proved calls take a run by value and hand back the next one, or a run is lent to them.
-#[derive(Clone, Copy)]
+/// The proved calls take a run by value and hand back the next one, or a run is lent to them, or they are the host's calls
+/// on a run in its own memory.
+#[derive(Clone, Copy, PartialEq)]
 pub enum Form {
     ByValue,
     Lent,
+    Live,
 }
 
 /// x, y, d and c.
@@ -290,7 +292,7 @@ fn reading(name: &'static str, most: Row) -> Case {
 /// So many jobs are pending all the time, in both forms of the calls.
 fn ticks() -> Vec<Case> {
     let mut cases = Vec::new();
-    for (form, said) in [(Form::ByValue, "by value"), (Form::Lent, "lent")] {
+    for (form, said) in [(Form::ByValue, "by value"), (Form::Lent, "lent"), (Form::Live, "live")] {
         for servers in [&[][..], &HALF] {
             for pending in [1, 16, 64, 256] {
                 cases.push(only_ticks(format!("tick, {said}, {pending} pending"), form, servers, pending));
@@ -358,15 +360,26 @@ fn in_turn(job: u64, row: impl Fn(u64) -> u64, rows: &[Row], servers: &[Server])
     }
 }
 
+/// Returns the status that the host gets for what a trace says with this first word.
+fn live_status(word: u64) -> u64 {
+    match word {
+        2 => 34,
+        3..=5 => word + 32,
+        7 | 8 => word + 31,
+        _ => word,
+    }
+}
+
 /// Each call comes with the first word of its answer.
 fn run(name: String, form: Form, timer: Timer, rows: &[Row], servers: &[Server], played: Vec<([u64; 3], u64)>) -> Case {
     let size = format!("{} calls on a run of {} bytes", grouped(played.len() as u64), grouped(RUN_SIZE as u64));
     let status = 1 + played.len() as u32;
     let calls = played.iter().flat_map(|call| call.0).flat_map(u64::to_le_bytes).collect();
-    let kinds = played.iter().map(|call| call.1).collect();
+    let kinds = played.iter().map(|call| if form == Form::Live { live_status(call.1) } else { call.1 }).collect();
     let name = name + &beside(NO_TIMER, servers);
     let work = Work::Calls { form, table: table(timer, rows, servers), calls, kinds };
-    Case { group: "tick", name, size, work, status, first: None, target: None }
+    let (group, target) = if form == Form::Live { ("live", Some(3.0)) } else { ("tick", None) };
+    Case { group, name, size, work, status, first: None, target }
 }
 
 pub fn table(timer: Timer, rows: &[Row], servers: &[Server]) -> Vec<u8> {

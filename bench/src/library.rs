@@ -65,6 +65,10 @@ mod calls {
         pub fn lent_release(run: *mut Run, row: RowNumber, cost: u64) -> FourWords;
         pub fn lent_tick(run: *mut Run) -> FourWords;
         pub fn lent_end(run: *mut Run, serial: Serial) -> FourWords;
+        pub fn run_start(table: *const u8, table_len: usize, run: *mut Run, answer: *mut u8, answer_len: usize) -> u32;
+        pub fn run_release(run: *mut Run, row: u64, cost: u64, answer: *mut u8, answer_len: usize) -> u32;
+        pub fn run_tick(run: *mut Run, answer: *mut u8, answer_len: usize) -> u32;
+        pub fn run_end(run: *mut Run, serial: u64, answer: *mut u8, answer_len: usize) -> u32;
     }
 }
 
@@ -116,6 +120,42 @@ pub fn lent(table: &[u8], calls: &[u8], answers: &mut [u8]) -> u32 {
     }
     assert!(run.behind.iter().all(|&byte| byte == UNTOUCHED), "a run is larger than {RUN_SIZE} bytes");
     shown
+}
+
+/// Plays calls on a run in memory of our own, as a host does, and writes for each its status, the two numbers of its answer
+/// buffer, and 0, in eight bytes each.
+pub fn live(table: &[u8], calls: &[u8], answers: &mut [u8]) -> u32 {
+    let mut run = Box::new(Run { run: [UNTOUCHED; RUN_SIZE], behind: [UNTOUCHED; RUN_SIZE] });
+    let run = &mut *run;
+    let mut room = answers.chunks_exact_mut(4 * WORD);
+    let Some(said) = room.next() else {
+        return 0;
+    };
+    let (status, answer) = split(said);
+    let started = unsafe { calls::run_start(table.as_ptr(), table.len(), run, answer.as_mut_ptr(), answer.len()) };
+    status.copy_from_slice(&u64::from(started).to_le_bytes());
+    let mut shown = 1;
+    for (call, said) in calls.chunks_exact(3 * WORD).zip(room) {
+        let word = |index| u64::from_le_bytes(call[index * WORD..(index + 1) * WORD].try_into().unwrap());
+        let (status, answer) = split(said);
+        let (at, length) = (answer.as_mut_ptr(), answer.len());
+        let number = match word(0) {
+            RELEASE => unsafe { calls::run_release(run, word(1), word(2), at, length) },
+            END => unsafe { calls::run_end(run, word(1), at, length) },
+            _ => unsafe { calls::run_tick(run, at, length) },
+        };
+        status.copy_from_slice(&u64::from(number).to_le_bytes());
+        shown += 1;
+    }
+    assert!(run.behind.iter().all(|&byte| byte == UNTOUCHED), "a run is larger than {RUN_SIZE} bytes");
+    shown
+}
+
+/// Returns the places of the status and of the two numbers in four words, and sets the last word to 0.
+fn split(said: &mut [u8]) -> (&mut [u8], &mut [u8]) {
+    said[3 * WORD..].fill(0);
+    let (status, rest) = said.split_at_mut(WORD);
+    (status, &mut rest[..2 * WORD])
 }
 
 fn put(place: &mut [u8], answer: FourWords) {

@@ -19,19 +19,30 @@ const TOGETHER: Duration = Duration::from_millis(1_000);
 /// A byte of a log buffer that still has this value was not written.
 const UNTOUCHED: u8 = 0xA5;
 
-/// The two calls of one of the programs, and its list of calls on a run: by value, and lent. A plain run is always changed
-/// in place.
+/// The two calls of one of the programs, and its list of calls on a run: by value, lent, and live, as the host makes them. A
+/// plain run is always changed in place, and only where it is live it is tested for soundness first.
 struct Program {
     verdict: fn(&[u8], &mut [u8]) -> u32,
     replay: fn(&[u8], &[u8], &mut [u8], &mut [u8]) -> u32,
     trace: fn(&[u8], &[u8], &mut [u8]) -> u32,
     lent: fn(&[u8], &[u8], &mut [u8]) -> u32,
+    live: fn(&[u8], &[u8], &mut [u8]) -> u32,
 }
 
-const LIBRARY: Program =
-    Program { verdict: library::verdict, replay: library::replay, trace: library::trace, lent: library::lent };
-const PLAIN: Program =
-    Program { verdict: plain::verdict, replay: plain::replay, trace: plain::trace, lent: plain::trace };
+const LIBRARY: Program = Program {
+    verdict: library::verdict,
+    replay: library::replay,
+    trace: library::trace,
+    lent: library::lent,
+    live: library::live,
+};
+const PLAIN: Program = Program {
+    verdict: plain::verdict,
+    replay: plain::replay,
+    trace: plain::trace,
+    lent: plain::trace,
+    live: plain::live,
+};
 
 /// An answer in a list of calls on a run has this many bytes.
 const ANSWER: usize = 32;
@@ -152,6 +163,7 @@ fn make(program: &Program, work: &Work, said: &mut Said) {
             let play = match form {
                 Form::ByValue => program.trace,
                 Form::Lent => program.lent,
+                Form::Live => program.live,
             };
             said.answers[0].0 = black_box(play)(table, calls, &mut said.log);
         }

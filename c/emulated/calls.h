@@ -10,9 +10,12 @@
 #include <stddef.h>
 #include <stdint.h>
 
-enum call { VERDICT, REPLAY, TRACE, WRITE_NUMBER, CHOOSE };
+enum call { VERDICT, REPLAY, RUN_START, RUN_RELEASE, RUN_TICK, RUN_END, TRACE, WRITE_NUMBER, CHOOSE };
 
-enum { MOST_LENT = 4, MOST_NUMBERS = 2 };
+enum { MOST_LENT = 4, MOST_NUMBERS = 2, RUN_SIZE = 47872 };
+
+/* A live run of include/jyrmekko.h, of RUN_SIZE bytes. */
+struct jyrmekko_run;
 
 /* A buffer that is lent to a call. */
 struct lent {

@@ -119,6 +119,7 @@ static uint32_t call(enum call which, uint64_t first, uint64_t second, const str
 
 #define READ(name) {name, name##_len, NULL}
 #define WRITTEN(name) {name, name##_len, name}
+#define LIVE(run) {(const uint8_t *)run, RUN_SIZE, (uint8_t *)run}
 
 #ifdef HOST
 uint32_t verdict(const uint8_t *table, size_t table_len, uint8_t *answer, size_t answer_len);
@@ -135,6 +136,34 @@ uint32_t replay(const uint8_t *table, size_t table_len, const uint8_t *script, s
 {
     const struct buffer buffers[] = {READ(table), READ(script), WRITTEN(log), WRITTEN(answer)};
     return call(REPLAY, 0, 0, buffers, 4);
+}
+
+uint32_t run_start(const uint8_t *table, size_t table_len, struct jyrmekko_run *run, uint8_t *answer, size_t answer_len);
+uint32_t run_start(const uint8_t *table, size_t table_len, struct jyrmekko_run *run, uint8_t *answer, size_t answer_len)
+{
+    const struct buffer buffers[] = {READ(table), LIVE(run), WRITTEN(answer)};
+    return call(RUN_START, 0, 0, buffers, 3);
+}
+
+uint32_t run_release(struct jyrmekko_run *run, uint64_t row, uint64_t cost, uint8_t *answer, size_t answer_len);
+uint32_t run_release(struct jyrmekko_run *run, uint64_t row, uint64_t cost, uint8_t *answer, size_t answer_len)
+{
+    const struct buffer buffers[] = {LIVE(run), WRITTEN(answer)};
+    return call(RUN_RELEASE, row, cost, buffers, 2);
+}
+
+uint32_t run_tick(struct jyrmekko_run *run, uint8_t *answer, size_t answer_len);
+uint32_t run_tick(struct jyrmekko_run *run, uint8_t *answer, size_t answer_len)
+{
+    const struct buffer buffers[] = {LIVE(run), WRITTEN(answer)};
+    return call(RUN_TICK, 0, 0, buffers, 2);
+}
+
+uint32_t run_end(struct jyrmekko_run *run, uint64_t serial, uint8_t *answer, size_t answer_len);
+uint32_t run_end(struct jyrmekko_run *run, uint64_t serial, uint8_t *answer, size_t answer_len)
+{
+    const struct buffer buffers[] = {LIVE(run), WRITTEN(answer)};
+    return call(RUN_END, serial, 0, buffers, 2);
 }
 #endif
 

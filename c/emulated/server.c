@@ -11,6 +11,10 @@
 #ifdef HOST
 uint32_t verdict(const uint8_t *, size_t, uint8_t *, size_t);
 uint32_t replay(const uint8_t *, size_t, const uint8_t *, size_t, uint8_t *, size_t, uint8_t *, size_t);
+uint32_t run_start(const uint8_t *, size_t, struct jyrmekko_run *, uint8_t *, size_t);
+uint32_t run_release(struct jyrmekko_run *, uint64_t, uint64_t, uint8_t *, size_t);
+uint32_t run_tick(struct jyrmekko_run *, uint8_t *, size_t);
+uint32_t run_end(struct jyrmekko_run *, uint64_t, uint8_t *, size_t);
 #endif
 #ifdef PROBE
 uint32_t trace(const uint8_t *, size_t, const uint8_t *, size_t, uint8_t *, size_t);
@@ -19,7 +23,7 @@ uint32_t choose(const uint8_t *, size_t, const uint8_t *, size_t, uint64_t, uint
                 size_t);
 #endif
 
-enum { GUARD = 64, GUARD_BYTE = 0xA5 };
+enum { GUARD = 64, GUARD_BYTE = 0xA5 }; /* Behind such a guard a run lies at an address that 8 divides. */
 
 struct held {
     uint8_t *block; /* A guard, the bytes, and a guard stand here. */
@@ -73,6 +77,14 @@ static uint64_t make(enum call call, const uint64_t *numbers, const struct held 
         return verdict(b[0].at, b[0].length, b[1].at, b[1].length);
     case REPLAY:
         return replay(b[0].at, b[0].length, b[1].at, b[1].length, b[2].at, b[2].length, b[3].at, b[3].length);
+    case RUN_START:
+        return run_start(b[0].at, b[0].length, (struct jyrmekko_run *)b[1].at, b[2].at, b[2].length);
+    case RUN_RELEASE:
+        return run_release((struct jyrmekko_run *)b[0].at, numbers[0], numbers[1], b[1].at, b[1].length);
+    case RUN_TICK:
+        return run_tick((struct jyrmekko_run *)b[0].at, b[1].at, b[1].length);
+    case RUN_END:
+        return run_end((struct jyrmekko_run *)b[0].at, numbers[0], b[1].at, b[1].length);
 #endif
 #ifdef PROBE
     case TRACE:

@@ -44,13 +44,13 @@ pub fn replay(table: &[u8], script: &[u8], log: &mut [u8], answer: &mut [u8]) ->
     }
 }
 
-fn say(answer: &mut [u8; 16], status: u32, first: u64, second: u64) -> u32 {
+pub(crate) fn say(answer: &mut [u8; 16], status: u32, first: u64, second: u64) -> u32 {
     answer[..8].copy_from_slice(&first.to_le_bytes());
     answer[8..].copy_from_slice(&second.to_le_bytes());
     status
 }
 
-fn refuse(answer: &mut [u8; 16], refusal: Refusal) -> u32 {
+pub(crate) fn refuse(answer: &mut [u8; 16], refusal: Refusal) -> u32 {
     say(answer, refusal.reason.number(), refusal.place as u64, 0)
 }
 

@@ -6,6 +6,8 @@
 pub mod chooser;
 pub mod due;
 pub mod host;
+pub mod live;
+pub mod memory;
 pub mod numbers;
 pub mod refusal;
 pub mod replay;

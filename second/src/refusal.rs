@@ -1,7 +1,6 @@
 //! The refusals: each has a number, and a place in the bytes.
 
-/// The reasons of the refusals, by their numbers. Refusal 11, a run that is not sound, is missing: a run of this
-/// program is changed only by its own calls, and those keep it sound.
+/// The reasons of the refusals, by their numbers.
 #[derive(Clone, Copy, Debug, PartialEq, Eq)]
 #[repr(u32)]
 pub enum Reason {
@@ -25,6 +24,8 @@ pub enum Reason {
     DueTooLate = 9,
     /// A script time or a time reached is above 2^40, or the clock is at 2^40 at a tick.
     TimeTooLate = 10,
+    /// The run that a call is made on is not sound.
+    RunNotSound = 11,
     /// A number or the log is longer than its buffer.
     NoRoom = 12,
     /// The answer buffer is not 16 bytes long.

@@ -4,7 +4,7 @@
 use crate::due::due;
 use crate::refusal::{Reason, Refusal};
 use crate::sound::{Held, Kept};
-use crate::table::{self, Row, Server, Table, MOST_ROWS, MOST_SERVERS, MOST_X};
+use crate::table::{self, Row, Table};
 
 pub const LAST_TICK: u64 = 1 << 40;
 /// This is the limit of pending jobs.
@@ -21,6 +21,9 @@ pub struct Job {
     pub cost: u64,
     pub left: u64,
 }
+
+/// This stands in a place that a job has left.
+pub const NO_JOB: Job = Job { serial: 0, row: 0, release: 0, due: 0, cost: 0, left: 0 };
 
 #[derive(Clone, Debug)]
 pub struct Run {
@@ -133,44 +136,66 @@ impl Run {
     /// Returns what the rules say that a run holds: for each row its newest due times, at most x of them, and for each
     /// server its last. What is not in use is 0.
     pub fn held(&self) -> Held {
+        self.held_over(&Held::zeros())
+    }
+
+    /// Returns the same where something else stood before the last call. What is not in use stays as it was, but a place
+    /// that a job has left holds zeros.
+    pub fn held_over(&self, before: &Held) -> Held {
         let Table { timer, rows, servers, .. } = &self.table;
         let (of_rows, of_servers) = self.dues.split_at(rows.len());
-        let newest = |(row, dues): (&Row, &Vec<u64>)| {
+        let newest = |((row, dues), before): ((&Row, &Vec<u64>), &Kept)| {
             let count = dues.len().min(row.x as usize);
-            Kept { dues: padded(&dues[dues.len() - count..], MOST_X as usize, 0), count: count as u64 }
+            Kept { dues: over(&dues[dues.len() - count..], &before.dues), count: count as u64 }
         };
-        let kept: Vec<Kept> = rows.iter().zip(of_rows).map(newest).collect();
+        let kept: Vec<Kept> = rows.iter().zip(of_rows).zip(&before.kept).map(newest).collect();
         let last: Vec<u64> = of_servers.iter().map(|dues| dues.last().copied().unwrap_or(0)).collect();
-        let no_dues = Kept { dues: vec![0; MOST_X as usize], count: 0 };
-        let no_job = Job { serial: 0, row: 0, release: 0, due: 0, cost: 0, left: 0 };
+        let left_behind = before.jobs().len().saturating_sub(self.pending.len());
+        let places = [&self.pending[..], &vec![NO_JOB; left_behind]].concat();
         Held {
             timer: *timer,
-            rows: padded(rows, MOST_ROWS as usize, Row { x: 0, y: 0, d: 0, c: 0 }),
+            rows: over(rows, &before.rows),
             row_count: rows.len() as u64,
-            servers: padded(servers, MOST_SERVERS as usize, Server { a: 0, b: 0 }),
+            servers: over(servers, &before.servers),
             server_count: servers.len() as u64,
             clock: self.clock,
-            pending: padded(&self.pending, MOST_PENDING, no_job),
+            pending: over(&places, &before.pending),
             pending_count: self.pending.len() as u64,
             next_serial: self.next_serial,
             ended: self.ended,
-            kept: padded(&kept, MOST_ROWS as usize, no_dues),
-            last: padded(&last, MOST_SERVERS as usize, 0),
+            kept: over(&kept, &before.kept),
+            last: over(&last, &before.last),
+        }
+    }
+
+    /// Returns the run that holds this. It has to be sound.
+    pub fn holding(held: &Held) -> Run {
+        let (rows, servers) = (held.rows().to_vec(), held.servers().to_vec());
+        let of_row = |kept: &Kept| kept.dues[..kept.count as usize].to_vec();
+        let of_rows = held.kept[..rows.len()].iter().map(of_row);
+        let of_servers = held.last[..servers.len()].iter().map(|&last| vec![last]);
+        Run {
+            dues: of_rows.chain(of_servers).collect(),
+            // No call on a run asks for the period, which may be too long for a table here.
+            table: Table { timer: held.timer, rows, servers, period: 0 },
+            clock: held.clock,
+            pending: held.jobs().to_vec(),
+            next_serial: held.next_serial,
+            ended: held.ended,
         }
     }
 }
 
-fn padded<T: Clone>(list: &[T], length: usize, rest: T) -> Vec<T> {
-    let mut list = list.to_vec();
-    list.resize(length, rest);
-    list
+/// Puts a list over the start of another, of which the rest stays.
+fn over<T: Clone>(list: &[T], before: &[T]) -> Vec<T> {
+    [list, &before[list.len()..]].concat()
 }
 
 #[cfg(test)]
 mod tests {
     use super::*;
     use crate::table::tests::{spell, spell_all, spell_with};
-    use crate::table::MOST_ODD_COST;
+    use crate::table::{MOST_ODD_COST, MOST_ROWS, MOST_X};
 
     /// This many rows with x at its most have jobs for all places before the spacing by y sets in.
     const ROWS_FOR_ALL_PLACES: usize = MOST_PENDING / MOST_X as usize;
@@ -660,7 +685,7 @@ mod tests {
         run.tick().unwrap();
         let mut expected = run.held();
         let ended = expected.pending.remove(1);
-        expected.pending.push(Job { serial: 0, row: 0, release: 0, due: 0, cost: 0, left: 0 });
+        expected.pending.push(NO_JOB);
         expected.pending_count -= 1;
         expected.ended += 1;
         assert_eq!(run.end(ended.serial), Ok(ended.cost - ended.left));

@@ -1,7 +1,8 @@
 //! Sound runs. A run of this program is changed only by its own calls, and those keep it sound. So release, tick
-//! and end don't ask. This is the rule for a run that was made in another way.
+//! and end don't ask. This is the rule for a run that was made in another way, such as a live run, whose memory anybody
+//! may have written to.
 
-use crate::run::{Job, LAST_TICK, MOST_ENDED, MOST_PENDING};
+use crate::run::{Job, LAST_TICK, MOST_ENDED, MOST_PENDING, NO_JOB};
 use crate::table::{Row, Server, Timer};
 use crate::table::{MOST_A, MOST_B, MOST_C, MOST_D, MOST_ODD_COST, MOST_P, MOST_ROWS, MOST_SERVERS, MOST_X, MOST_Y};
 use std::collections::BTreeSet;
@@ -33,6 +34,25 @@ pub struct Kept {
 }
 
 impl Held {
+    /// Nothing but zeros, in as many places as there are.
+    pub fn zeros() -> Held {
+        let no_dues = Kept { dues: vec![0; MOST_X as usize], count: 0 };
+        Held {
+            timer: Timer { s: 0, p: 0 },
+            rows: vec![Row { x: 0, y: 0, d: 0, c: 0 }; MOST_ROWS as usize],
+            row_count: 0,
+            servers: vec![Server { a: 0, b: 0 }; MOST_SERVERS as usize],
+            server_count: 0,
+            clock: 0,
+            pending: vec![NO_JOB; MOST_PENDING],
+            pending_count: 0,
+            next_serial: 0,
+            ended: 0,
+            kept: vec![no_dues; MOST_ROWS as usize],
+            last: vec![0; MOST_SERVERS as usize],
+        }
+    }
+
     /// Says whether the run is sound. No count is used before it was tested.
     pub fn is_sound(&self) -> bool {
         self.has_sound_table()
@@ -43,12 +63,19 @@ impl Held {
             && self.has_sound_due_times()
     }
 
-    fn rows(&self) -> &[Row] {
+    /// Returns the rows in use.
+    pub fn rows(&self) -> &[Row] {
         &self.rows[..self.row_count as usize]
     }
 
-    fn servers(&self) -> &[Server] {
+    /// Returns the servers in use.
+    pub fn servers(&self) -> &[Server] {
         &self.servers[..self.server_count as usize]
+    }
+
+    /// Returns the pending jobs.
+    pub fn jobs(&self) -> &[Job] {
+        &self.pending[..self.pending_count as usize]
     }
 
     fn has_sound_table(&self) -> bool {
@@ -71,7 +98,6 @@ impl Held {
         if self.pending_count > MOST_PENDING as u64 {
             return false;
         }
-        let pending = &self.pending[..self.pending_count as usize];
         let costs: Vec<u64> =
             self.rows().iter().map(|row| row.c).chain(self.servers().iter().map(|_| MOST_ODD_COST)).collect();
         let job_is_sound = |job: &Job| {
@@ -83,8 +109,8 @@ impl Held {
                 && job.due <= LAST_TICK
                 && job.serial < self.next_serial
         };
-        let serials: BTreeSet<u64> = pending.iter().map(|job| job.serial).collect();
-        pending.iter().all(job_is_sound) && serials.len() == pending.len()
+        let serials: BTreeSet<u64> = self.jobs().iter().map(|job| job.serial).collect();
+        self.jobs().iter().all(job_is_sound) && serials.len() == self.jobs().len()
     }
 
     fn has_sound_due_times(&self) -> bool {

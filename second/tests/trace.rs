@@ -11,23 +11,14 @@ use support::case::hex;
 use support::ends::{self, Calls};
 use support::random::Random;
 use support::tables::Table;
-use support::trace::{by_library, bytes_of};
-use support::{damage, hopeless, scripts, servers, settings, tables, timers};
+use support::trace::{by_library, bytes_of, good_release, random_release};
+use support::{scripts, settings, tables};
 
 /// There are at least this many traces, since with fewer some answers might not be met.
 const TRACES: u64 = 20_000;
 
 /// One trace in so many takes about all places before it goes on.
 const FILLED: u64 = 12;
-
-/// One trace in so many has a timer that is refused, or nearly, and one in so many a period that p makes long.
-const BAD_TIMER: u64 = 40;
-
-/// One trace in so many has servers that are refused, or nearly, or a period that b makes long.
-const BAD_SERVERS: u64 = 40;
-
-/// One trace in so many has a first row whose c is above its d, or about as high.
-const HOPELESS: u64 = 40;
 
 /// One trace in so many ends no job.
 const WITHOUT_ENDS: u64 = 3;
@@ -65,27 +56,6 @@ fn random_calls(table: &Table, spelled: &[u8], random: &mut Random) -> Vec<Call>
         }
     }
     calls.made()
-}
-
-fn good_release(table: &Table, random: &mut Random) -> Call {
-    let row = random.below(table.row_numbers().max(1));
-    Call::Release { row, cost: random.within(1, table.most_cost(row).min(9)) }
-}
-
-fn random_release(table: &Table, random: &mut Random) -> Call {
-    let count = table.row_numbers();
-    let row = if random.one_in(30) {
-        random.pick(&[count, table.rows.len() as u64, MOST_ROWS, MOST_ROWS + MOST_SERVERS, 1 << 32, u64::MAX])
-    } else {
-        random.below(count.max(1))
-    };
-    let most = table.most_cost(row);
-    let cost = if random.one_in(20) {
-        random.pick(&[0, most, most + 1, 1 << 32, u64::MAX])
-    } else {
-        random.within(1, most.min(9))
-    };
-    Call::Release { row, cost }
 }
 
 /// Returns how many jobs were pending at a time in a trace, at most.
@@ -175,24 +145,7 @@ fn single_calls() {
     let mut places_of_3 = BTreeSet::new();
     for index in 0..settings::number("JYRMEKKO_COMPARISONS", 0).max(settings::number("JYRMEKKO_TRACES", TRACES)) {
         let mut random = Random::of(seed, index);
-        let mut lent = tables::to_replay(&mut random);
-        if random.one_in(HOPELESS) {
-            lent.rows.iter_mut().take(1).for_each(|row| hopeless::spoil(row, &mut random));
-        }
-        match random.below(BAD_SERVERS) {
-            0 => lent = servers::any_bad(&mut random).0,
-            1 => lent = servers::long_period(&mut random),
-            _ => {}
-        }
-        match random.below(BAD_TIMER) {
-            0 => lent.timer = timers::bad(&mut random),
-            1 => lent = tables::long_period_by_p(&mut random),
-            _ => {}
-        }
-        let mut table = lent.spell();
-        if random.one_in(20) {
-            table = damage::mutate(&table, &mut random);
-        }
+        let (lent, table) = tables::to_start(&mut random);
         let calls = random_calls(&lent, &table, &mut random);
         let expected = trace(&table, &calls);
         let (count, found) = by_library(&table, &calls, &mut random);

@@ -52,6 +52,17 @@ impl Source {
         }
     }
 
+    /// Says whether the row or server is in range, and what is kept of it no later than 2^40.
+    #[inline]
+    pub fn sound(&self) -> bool {
+        match self {
+            Source::Row { row, kept } => {
+                row.in_range() && kept.len() as u64 <= row.x && kept.iter().all(|&due| due <= LATEST)
+            }
+            Source::Server { server, last } => server.in_range() && *last <= LATEST,
+        }
+    }
+
     /// Returns the due time of the next job and keeps it, or returns none where it would be above 2^40.
     #[inline]
     pub fn due_time(&mut self, release: u64, cost: u64) -> Option<u64> {

@@ -10,7 +10,7 @@ mod table;
 mod verdict;
 
 pub use jobs::PLACES;
-pub use run::trace;
+pub use run::{live, trace};
 pub use table::{ROWS, SERVERS, X};
 
 /// A refusal has its number and its place.

@@ -1,5 +1,6 @@
-//! A run is a struct that is changed in place. Nobody else can change it, so it is always sound and is not tested for
-//! that. Calls are three words of eight bytes each, and answers are four, as the probe library has them.
+//! A run is a struct that is changed in place. Calls are three words of eight bytes each, and answers are four. In a trace,
+//! as the probe library has it, nobody else can change the run, so it is always sound and is not tested for that. A live
+//! run, as the host's calls have it, is tested for all that soundness asks before each call.
 
 use super::jobs::{first, Job, Source, LATEST, PLACES};
 use super::table::{read_table, Timer};
@@ -20,35 +21,97 @@ struct Run {
     ended: u64,
 }
 
+/// The words of an answer, or a refusal's number.
+type Answer = Result<[u64; 4], u64>;
+
 /// Plays calls on a fresh run of a table. It writes the answers of the start and of each call, as many as there is room
 /// for, and returns how many it wrote.
 pub fn trace(table: &[u8], calls: &[u8], answers: &mut [u8]) -> u32 {
+    let words = |said: Answer| said.unwrap_or_else(|number| [6, number, 0, 0]);
+    play(table, calls, answers, Run::call, words, |number, place| [6, number, place, 0])
+}
+
+/// Plays calls on a live run. For each it writes the status, the two numbers of the answer buffer, and 0.
+pub fn live(table: &[u8], calls: &[u8], answers: &mut [u8]) -> u32 {
+    let tested = |run: &mut Run, call: &[u8]| if run.sound() { run.call(call) } else { Err(11) };
+    let words = |said: Answer| match said {
+        Ok([2, serial, due, _]) => [34, serial, due, 0],
+        Ok([kind @ 3..=5, serial, _, late]) => [kind + 32, serial, late, 0],
+        Ok([7, _, _, late]) => [38, 0, late, 0],
+        Ok([8, units, ..]) => [39, units, 0, 0],
+        Ok(_) => [33, 0, 0, 0],
+        Err(number) => [number, 0, 0, 0],
+    };
+    play(table, calls, answers, tested, words, |number, place| [number, place, 0, 0])
+}
+
+#[inline]
+fn play(
+    table: &[u8],
+    calls: &[u8],
+    answers: &mut [u8],
+    call_on: impl Fn(&mut Run, &[u8]) -> Answer,
+    words: impl Fn(Answer) -> [u64; 4],
+    refused_start: impl Fn(u64, u64) -> [u64; 4],
+) -> u32 {
     let mut room = answers.chunks_exact_mut(4 * WORD);
     let Some(start) = room.next() else {
         return 0;
     };
     let (timer, sources, answer) = match read_table(table) {
-        Ok(table) => (table.timer, Source::all(&table.rows, &table.servers), [1, 0, 0, 0]),
-        Err(Refused(number, place)) => (Timer { s: 0, p: 1 }, Vec::new(), [6, number.into(), place as u64, 0]),
+        Ok(table) => (table.timer, Source::all(&table.rows, &table.servers), words(Ok([1, 0, 0, 0]))),
+        Err(Refused(number, place)) => (Timer { s: 0, p: 1 }, Vec::new(), refused_start(number.into(), place as u64)),
     };
     put(start, answer);
     let mut run = Run { timer, sources, clock: 0, pending: Vec::new(), next: 0, ended: 0 };
     let mut shown = 1;
     for (call, answer) in calls.chunks_exact(3 * WORD).zip(room) {
-        let said = match word(call, 0) {
-            RELEASE => run.release(word(call, 1), word(call, 2)),
-            END => run.end(word(call, 1)),
-            _ => run.tick(),
-        };
-        put(answer, said.unwrap_or_else(|number| [6, number, 0, 0]));
+        put(answer, words(call_on(&mut run, call)));
         shown += 1;
     }
     shown
 }
 
 impl Run {
+    #[inline]
+    fn call(&mut self, call: &[u8]) -> Answer {
+        match word(call, 0) {
+            RELEASE => self.release(word(call, 1), word(call, 2)),
+            END => self.end(word(call, 1)),
+            _ => self.tick(),
+        }
+    }
+
+    /// Says whether the run is sound: all that the rules ask of a run, whoever made it.
+    fn sound(&self) -> bool {
+        let pending = self.pending.len();
+        self.timer.in_range()
+            && self.clock <= LATEST
+            && pending <= PLACES
+            && self.ended <= LATEST
+            && self.next <= self.clock + pending as u64 + self.ended
+            && self.sources.iter().all(Source::sound)
+            && self.pending.iter().all(|job| self.job_sound(job))
+            && self.serials_differ()
+    }
+
+    #[inline]
+    fn job_sound(&self, job: &Job) -> bool {
+        let most = self.sources.get(job.row).map_or(0, Source::most);
+        let cost = 1 <= job.cost && job.cost <= most;
+        let left = 1 <= job.left && job.left <= job.cost;
+        cost && left && job.release <= self.clock && job.due <= LATEST && job.serial < self.next
+    }
+
+    /// Serials that rise differ. Where they don't rise, each is compared with all after it.
+    fn serials_differ(&self) -> bool {
+        let pending = &self.pending;
+        pending.windows(2).all(|two| two[0].serial < two[1].serial)
+            || (0..pending.len()).all(|i| pending[i + 1..].iter().all(|job| job.serial != pending[i].serial))
+    }
+
     /// Returns the words of the answer, or the refusal's number.
-    fn release(&mut self, row: u64, cost: u64) -> Result<[u64; 4], u64> {
+    fn release(&mut self, row: u64, cost: u64) -> Answer {
         if row >= self.sources.len() as u64 {
             return Err(6);
         }
@@ -67,7 +130,7 @@ impl Run {
     }
 
     /// Returns the words of the answer, or the refusal's number.
-    fn tick(&mut self) -> Result<[u64; 4], u64> {
+    fn tick(&mut self) -> Answer {
         if self.clock == LATEST {
             return Err(10);
         }
@@ -90,7 +153,7 @@ impl Run {
     }
 
     /// Returns the words of the answer, or the refusal's number.
-    fn end(&mut self, serial: u64) -> Result<[u64; 4], u64> {
+    fn end(&mut self, serial: u64) -> Answer {
         let at = self.pending.iter().position(|job| job.serial == serial).ok_or(17u64)?;
         if self.ended == LATEST {
             return Err(18);

@@ -27,6 +27,10 @@ impl Timer {
     pub fn takes(&self, clock: u64) -> bool {
         clock % self.p < self.s
     }
+
+    pub fn in_range(&self) -> bool {
+        (1..=P).contains(&self.p) && self.s < self.p
+    }
 }
 
 #[derive(Clone, Copy)]
@@ -37,11 +41,27 @@ pub struct Row {
     pub c: u64,
 }
 
+impl Row {
+    /// Says whether all four values are in range and the row is not hopeless.
+    #[inline]
+    pub fn in_range(&self) -> bool {
+        let Row { x, y, d, c } = *self;
+        (1..=X).contains(&x) && (1..=Y).contains(&y) && (1..=D).contains(&d) && (1..=C).contains(&c) && c <= d
+    }
+}
+
 /// A server gives its odd jobs a units in b ticks.
 #[derive(Clone, Copy)]
 pub struct Server {
     pub a: u64,
     pub b: u64,
+}
+
+impl Server {
+    #[inline]
+    pub fn in_range(&self) -> bool {
+        1 <= self.a && self.a <= self.b && self.b <= B
+    }
 }
 
 pub struct Table {

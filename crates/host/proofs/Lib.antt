@@ -1,3 +1,4 @@
 pub mod Bytes
 pub mod Verdicts
 pub mod Answering
+pub mod Live

@@ -1,4 +1,4 @@
--- The laws of the host's two calls and of their buffers. (docs/RULES.md, section 9.)
+-- The laws of the verdict, of the replay and of their buffers. (docs/RULES.md, section 9.)
 use Prim.Native.Nat.{ℕ, _*_, _≤_}
 use mathlib.Core.Path.{_≡_}
 use mathlib.Core.Logic.{_⊎_, _≢_, _↔_}

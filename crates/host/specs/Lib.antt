@@ -1,3 +1,4 @@
 pub mod Answer
 pub mod Buffers
 pub mod HostLaws
+pub mod Live

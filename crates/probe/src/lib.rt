@@ -1,4 +1,4 @@
-// The probe, which is for comparisons only: calls by which another program can compare what the host's two calls don't reach. They are the number writer, the
+// The probe, which is for comparisons only: calls by which another program can compare what the host's calls don't reach. They are the number writer, the
 // chooser, a trace of calls on a run, and four calls on a run that is lent. Numbers are lent as words of eight bytes, lowest byte first.
 use jobs::Finished;
 use kinds::Refusal;

@@ -267,7 +267,7 @@ module _ {t : Table} (fits : EveryLengthFits (tableDemand t)) (s : List ℕ) (by
 -- ---- the answer
 
 -- A run is started on every table that is found feasible.
-feasible-starts : (t : Table) (a : TableAnswer) (v : Verdict) → RightOfRead t a v → verdictSays v .number ≡ 20 → startAnswer a ≡ start.Ready
+pub feasible-starts : (t : Table) (a : TableAnswer) (v : Verdict) → RightOfRead t a v → verdictSays v .number ≡ 20 → startAnswer a ≡ start.Ready
 feasible-starts t (table.Accepted period) v right says = refl
 feasible-starts t (table.Refused r) v right says = let refused-so = rw right at says in absurd (no-answer (r .refusal) (omega arith) (omega arith))
 

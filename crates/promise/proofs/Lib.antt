@@ -28,3 +28,4 @@ pub mod BadByte
 pub mod HopelessRows
 pub mod WithoutATimer
 pub mod WithoutServers
+pub mod LiveCalls

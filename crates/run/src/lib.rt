@@ -28,7 +28,7 @@ ghost use Rattle.run.specs.Ticking.{ticked};
 ghost use Rattle.run.specs.Ending.{refusedEnd, ended};
 
 // A run holds its table, which is the timer, the rows and the servers, the clock, the pending jobs, the next serial, the kept due times of each row, the last
-// due time of each server, and how many jobs were ended early. (6.1)
+// due time of each server, and how many jobs were ended early. In memory it is a list of numbers of eight bytes, in this order. (6.1, 9.16)
 #[repr(C)]
 pub struct Run {
     pub table: Table,

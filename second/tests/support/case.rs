@@ -3,6 +3,7 @@
 use super::fenced::Fenced;
 use super::random::Random;
 use second::host;
+use std::collections::BTreeSet;
 use std::fmt;
 
 mod library {
@@ -26,6 +27,17 @@ mod library {
 pub enum Call {
     Verdict,
     Replay,
+}
+
+impl Call {
+    /// Of what has to be met by both calls, by verdicts alone and by replays alone, returns what this call has to meet.
+    pub fn of_both_and_its_own<T: Copy + Ord>(self, by_both: &[T], by_verdict: &[T], by_replay: &[T]) -> BTreeSet<T> {
+        let its_own = match self {
+            Call::Verdict => by_verdict,
+            Call::Replay => by_replay,
+        };
+        by_both.iter().chain(its_own).copied().collect()
+    }
 }
 
 /// A call and the bytes of its buffers beforehand. A verdict lends no script and no log.

@@ -25,6 +25,18 @@ impl Fenced {
         Fenced { bytes: [&before[..start], content, &after].concat(), start, length: content.len(), null }
     }
 
+    /// Puts a fence of any bytes around a buffer at an address that 8 divides, but by turns not 16.
+    pub fn aligned(content: &[u8], random: &mut Random) -> Fenced {
+        let mut bytes = vec![0; content.len() + 2 * FENCE];
+        let past_16 = random.pick(&[0, 8]);
+        let right = |start: &usize| (bytes.as_ptr() as usize + start) % 16 == past_16;
+        let start = (FENCE / 2..FENCE).find(right).unwrap();
+        bytes[..start].copy_from_slice(&random.bytes(start));
+        bytes[start..start + content.len()].copy_from_slice(content);
+        bytes[start + content.len()..].copy_from_slice(&random.bytes(2 * FENCE - start));
+        Fenced { bytes, start, length: content.len(), null: false }
+    }
+
     /// The pointer is mutable even where the library may only read, since the comparison checks that it doesn't write
     /// there.
     pub fn pointer(&mut self) -> *mut u8 {
@@ -40,7 +52,15 @@ impl Fenced {
     }
 
     pub fn content(&self) -> Vec<u8> {
-        self.bytes[self.start..self.start + self.length].to_vec()
+        self.lent().to_vec()
+    }
+
+    pub fn lent(&self) -> &[u8] {
+        &self.bytes[self.start..self.start + self.length]
+    }
+
+    pub fn lent_mut(&mut self) -> &mut [u8] {
+        &mut self.bytes[self.start..self.start + self.length]
     }
 
     pub fn same_whole_as(&self, earlier: &Fenced) -> bool {

@@ -3,6 +3,7 @@
 use super::random::Random;
 use super::servers::{self, Server};
 use super::timers::{self, Timer};
+use super::{damage, hopeless};
 use second::numbers;
 use second::table::{self, MOST_C, MOST_D, MOST_ODD_COST, MOST_P, MOST_ROWS};
 use second::verdict::{verdict, Verdict};
@@ -128,6 +129,39 @@ pub fn to_replay(random: &mut Random) -> Table {
     }
     let p = random.pick(&[1, 1, 1, 2, 4, table.timer[1]]);
     servers::fitting(Table { timer: [0, p], ..table })
+}
+
+/// One table to start a run on in so many has a timer that is refused, or nearly, and one in so many a period that p
+/// makes long.
+const BAD_TIMER: u64 = 40;
+
+/// One in so many has servers that are refused, or nearly, and one in so many a period that b makes long.
+const BAD_SERVERS: u64 = 40;
+
+/// One in so many has a first row whose c is above its d, or about as high.
+const HOPELESS: u64 = 40;
+
+/// Makes a table to start a run on, and its bytes. Most are accepted, and some bytes are damaged.
+pub fn to_start(random: &mut Random) -> (Table, Vec<u8>) {
+    let mut table = to_replay(random);
+    if random.one_in(HOPELESS) {
+        table.rows.iter_mut().take(1).for_each(|row| hopeless::spoil(row, random));
+    }
+    match random.below(BAD_SERVERS) {
+        0 => table = servers::any_bad(random).0,
+        1 => table = servers::long_period(random),
+        _ => {}
+    }
+    match random.below(BAD_TIMER) {
+        0 => table.timer = timers::bad(random),
+        1 => table = long_period_by_p(random),
+        _ => {}
+    }
+    let mut bytes = table.spell();
+    if random.one_in(20) {
+        bytes = damage::mutate(&bytes, random);
+    }
+    (table, bytes)
 }
 
 /// Makes a table to replay on that has servers.

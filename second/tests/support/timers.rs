@@ -109,11 +109,7 @@ pub fn wanted(call: Call) -> BTreeSet<Met> {
         Met::StoppedAfterATakenTick,
         Met::StoppedBeforeATakenTick,
     ];
-    let by_call = match call {
-        Call::Verdict => &by_verdict[..],
-        Call::Replay => &by_replay[..],
-    };
-    by_both.iter().chain(by_call).copied().collect()
+    call.of_both_and_its_own(&by_both, &by_verdict, &by_replay)
 }
 
 /// What a call met of these.

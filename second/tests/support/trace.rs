@@ -1,7 +1,9 @@
-//! A trace of single calls, made to the library.
+//! Releases for random calls, and a trace of single calls, made to the library.
 
 use super::fenced::Fenced;
 use super::random::Random;
+use super::tables::Table;
+use second::table::{MOST_ROWS, MOST_SERVERS};
 use second::trace::{Answer, Call};
 
 /// All that this file knows of the library's side. Numbers take eight bytes each, lowest byte first. A call is three
@@ -44,4 +46,27 @@ pub fn by_library(table: &[u8], calls: &[Call], random: &mut Random) -> (u32, Ve
     assert!(table.same_whole_as(&before[0]) && spelled.same_whole_as(&before[1]));
     assert!(answers.same_fence_as(&before[2]));
     (count, answers.content())
+}
+
+/// Makes a release that is mostly accepted.
+pub fn good_release(table: &Table, random: &mut Random) -> Call {
+    let row = random.below(table.row_numbers().max(1));
+    Call::Release { row, cost: random.within(1, table.most_cost(row).min(9)) }
+}
+
+/// Makes a release with a good row number and a good cost, or now and then a bad one.
+pub fn random_release(table: &Table, random: &mut Random) -> Call {
+    let count = table.row_numbers();
+    let row = if random.one_in(30) {
+        random.pick(&[count, table.rows.len() as u64, MOST_ROWS, MOST_ROWS + MOST_SERVERS, 1 << 32, u64::MAX])
+    } else {
+        random.below(count.max(1))
+    };
+    let most = table.most_cost(row);
+    let cost = if random.one_in(20) {
+        random.pick(&[0, most, most + 1, 1 << 32, u64::MAX])
+    } else {
+        random.within(1, most.min(9))
+    };
+    Call::Release { row, cost }
 }
