@@ -145,7 +145,7 @@ extern "C" {
 
 /*
  * The bytes of stack with which a thread can make verdict() and replay(). Measured on x86-64, with any input: below its
- * caller verdict() takes less than 13,000 bytes, and replay() less than 77,000. With what the system itself puts on a
+ * caller verdict() takes less than 57,000 bytes, and replay() less than 77,000. With what the system itself puts on a
  * thread's stack, a thread needs at most 81,920 bytes. The other 16,384 are room, for the functions that make the call
  * and for signal handlers.
  */
