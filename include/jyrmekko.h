@@ -259,7 +259,7 @@ enum jyrmekko_status {
  * each server one odd job of the cost a * L / b, if that is not 0. This cost may be above JYRMEKKO_MOST_ODD_COST.
  *
  * No demand is worked out in a length above H + the largest d, however large the witness is, and lengths that are known
- * to fit are passed over. On the slowest tables that were measured, with H near its limit, the call answers in some
+ * to fit are passed over. On the slowest tables that were measured, with H near its limit, the call answers in less than 3
  * milliseconds. That the verdict is right is proved. How long it takes is only measured.
  */
 uint32_t verdict(const uint8_t *table, size_t table_len, uint8_t *answer, size_t answer_len);
