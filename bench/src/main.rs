@@ -7,6 +7,7 @@ mod clock;
 mod events;
 mod library;
 mod plain;
+mod quick;
 
 use cases::{Case, Form, Work};
 use std::env;
@@ -68,12 +69,13 @@ impl Said {
 
 fn main() {
     let words: Vec<String> = env::args().skip(1).collect();
-    let rounds = match env::var("JYRMEKKO_ROUNDS") {
-        Ok(said) => said.parse().ok().filter(|&n| n > 0).expect("JYRMEKKO_ROUNDS is a number above 0"),
-        Err(_) => ROUNDS,
-    };
-    if words.first().is_some_and(|word| word == "events") {
-        return events::measure(&words[1..], rounds);
+    let asked = env::var("JYRMEKKO_ROUNDS").ok();
+    let asked = asked.map(|said| said.parse().ok().filter(|&n| n > 0).expect("JYRMEKKO_ROUNDS is a number above 0"));
+    let rounds = asked.unwrap_or(ROUNDS);
+    match words.first().map(String::as_str) {
+        Some("events") => return events::measure(&words[1..], rounds),
+        Some("quick") => return quick::measure(&words[1..], asked.unwrap_or(quick::ROUNDS)),
+        _ => (),
     }
     println!("| | case | size | proved, ms | plain, ms | ratio | at most | |");
     println!("|---|---|---|--:|--:|--:|--:|---|");

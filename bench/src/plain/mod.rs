@@ -27,6 +27,11 @@ pub fn verdict(table: &[u8], answer: &mut [u8]) -> u32 {
     }
 }
 
+/// Says whether the first lengths of a table fit, so many of them.
+pub fn fits_to(table: &[u8], last: u64) -> bool {
+    verdict::fits_to(table, last).is_ok_and(|fits| fits)
+}
+
 pub fn replay(table: &[u8], script: &[u8], log: &mut [u8], answer: &mut [u8]) -> u32 {
     if answer.len() != 16 {
         return 13;

@@ -1,6 +1,6 @@
 //! The verdict looks at the demand in every length, from 1 up, with servers and taken ticks counted.
 
-use super::table::{read_table, Row, Server, Timer};
+use super::table::{read_table, Row, Server, Table, Timer};
 use super::Refused;
 
 /// Returns none where the table is feasible, and else the smallest length whose demand is above it, and that demand.
@@ -15,15 +15,25 @@ pub fn judge(bytes: &[u8]) -> Result<Option<(u64, u64)>, Refused> {
         // Some length fails, so the search comes to its end.
         u64::MAX
     };
+    Ok(scan(&table, last))
+}
+
+/// Says whether the first lengths fit, so many of them. Where a whole search would take too long, this part of it is timed.
+pub fn fits_to(bytes: &[u8], last: u64) -> Result<bool, Refused> {
+    Ok(scan(&read_table(bytes)?, last).is_none())
+}
+
+/// Looks at the lengths from 1 to the last one.
+fn scan(table: &Table, last: u64) -> Option<(u64, u64)> {
     for length in 1..=last {
         let asked: u64 = table.rows.iter().map(|row| row_demand(row, length)).sum();
         let served: u64 = table.servers.iter().map(|server| server_demand(server, length)).sum();
         let demand = taken_ticks(&table.timer, length) + asked + served;
         if demand > length {
-            return Ok(Some((length, demand)));
+            return Some((length, demand));
         }
     }
-    Ok(None)
+    None
 }
 
 /// Returns how many ticks the timer takes in a length from clock 0. No other window of this length has more of them.

@@ -1,5 +1,6 @@
 // The probe, which is for comparisons only: calls by which another program can compare what the host's calls don't reach. They are the number writer, the
-// chooser, a trace of calls on a run, and four calls on a run that is lent. Numbers are lent as words of eight bytes, lowest byte first.
+// chooser, the verdict by every length, a trace of calls on a run, and four calls on a run that is lent. Numbers are lent as words of eight bytes, lowest byte
+// first.
 use jobs::Finished;
 use kinds::Refusal;
 use kinds::RowNumber;
@@ -15,6 +16,7 @@ use run::StartAnswer;
 use run::Ticked;
 use script::Chosen;
 use script::Which;
+use verdict::Verdict;
 use words::WORD;
 ghost use mathlib.Core.Path.{_≡_};
 ghost use Prim.Native.Nat.{_+_, _*_, _≤_};
@@ -24,6 +26,7 @@ ghost use Rattle.numbers.specs.Answers.{writtenSays};
 ghost use Rattle.numbers.specs.Writing.{written, bufferAfter};
 ghost use Rattle.script.specs.Answers.{whichNumber};
 ghost use Rattle.words.specs.Words.{wordLength};
+ghost use Rattle.host.specs.Answer.{VerdictAnswered};
 ghost use Rattle.run.specs.Answers.{startSays, releaseSays, tickSays, endSays};
 ghost use Rattle.probe.specs.Words.{mostWords, wordsBytes};
 ghost use Rattle.probe.specs.Written.{inOneNumber};
@@ -144,6 +147,42 @@ pub extern "C" fn choose<'a>(
             let refusal = at.refusal;
             let script = r.script;
             put_words(answer, 0, [at.place as u64, which_number(script), 0, 0], 2);
+            refusal.number()
+        }
+    }
+}
+
+// ---- the verdict by every length
+
+// The length of the answer buffer of a verdict in bytes: two words. (9.4)
+const VERDICT: usize = 2 * WORD;
+
+// The statuses of a verdict that are no refusal. (1.15)
+const FEASIBLE: u32 = 20;
+
+const OVERLOADED: u32 = 21;
+
+// The verdict on a table, by a look at every length in turn. It returns and writes what the host's verdict does, by the same contract, which one status and one
+// answer buffer only satisfy. (9.2, 9.5, 9.6)
+#[no_mangle]
+pub extern "C" fn verdict_every_length(table: &[u8], answer: &mut [u8]) -> u32
+    ensures { λ r. ⌜ VerdictAnswered (now (table .entry)) (now (answer .entry)) r (now (answer .exit)) ⌝ }
+{
+    if answer.len() != VERDICT {
+        return Refusal::AnswerNot16Bytes.number();
+    }
+    match verdict::judge_every_length(table) {
+        Verdict::Feasible => {
+            put_words(answer, 0, [0, 0, 0, 0], 2);
+            FEASIBLE
+        }
+        Verdict::Overloaded(w) => {
+            put_words(answer, 0, [w.length, w.demand, 0, 0], 2);
+            OVERLOADED
+        }
+        Verdict::Refused(r) => {
+            let refusal = r.refusal;
+            put_words(answer, 0, [r.place as u64, 0, 0, 0], 2);
             refusal.number()
         }
     }

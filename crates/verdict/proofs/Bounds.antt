@@ -161,8 +161,12 @@ module _ {t : Table} (in-range : InRange t) where
       rw (← add-one i)
       (omega (arith, largest-more in-range i h, row-within in-range i h .most-d, largest-at-most i (omega arith)))
 
+  -- The largest d of a table is within the limit of a row's d.
+  pub d-at-most : largestD t ≤ maxD
+  d-at-most = largest-at-most (t .count) (omega arith)
+
   -- The largest length that a verdict looks at is at most `maxLength`.
   pub last-at-most : (period : ℕ) → period ≤ maxPeriod → (largestD t + 1) * period + largestD t ≤ maxLength
   last-at-most period h =
-      let d : largestD t ≤ maxD = largest-at-most (t .count) (omega arith) in
+      let d : largestD t ≤ maxD = d-at-most in
       omega (arith, mul-le-mul (suc-le-suc d) h)

@@ -7,3 +7,10 @@ pub mod Accepted
 pub mod Verdicts
 pub mod Scans
 pub mod RowsAlone
+pub mod HeldTerms
+pub mod FilledTerms
+pub mod TableTerms
+pub mod HeldParts
+pub mod Searches
+pub mod QuickVerdict
+pub mod BlockRises

@@ -1,8 +1,8 @@
 -- The first elements of a list, one after another, as a loop passes the rows or the servers in use: what holds for the first i + 1 elements follows from what
 -- holds for the first i and for element i.
 use Prim.Native.Nat.{ℕ, zero, suc, _+_, _*_, _≤_, _<_}
-use mathlib.Core.Path.{_≡_}
-use mathlib.Core.List.{List, [], _∷_, _++_}
+use mathlib.Core.Path.{_≡_, refl}
+use mathlib.Core.List.{List, [], _∷_, _++_, List·Memᴰ, List·Memᴰ·head, List·Memᴰ·tail}
 use native.Mathlib.Omega.{arith}
 use native.Mathlib.Numerals.{add-one}
 use lib.ListN.{length, take, getD}
@@ -28,6 +28,13 @@ module _ {A : Type 0} where
       let all : i ≡ n = omega (arith, summed .counted) in
       rw all at (summed .so-far)
 
+-- Each of the first n elements stands among them.
+pub stands-among : {A : Type 0} (none : A) (l : List A) (n i : ℕ) → i < n → n ≤ length l → List·Memᴰ (getD l i none) (take n l)
+stands-among none l zero i h places = absurd (omega arith)
+stands-among none [] (suc n) i h places = absurd (omega arith)
+stands-among none (a ∷ l) (suc n) zero h places = List·Memᴰ·head refl
+stands-among none (a ∷ l) (suc n) (suc i) h places = List·Memᴰ·tail (stands-among none l n i (omega arith) (omega arith))
+
 module _ {A : Type 0} (none : A) (l : List A) where
   -- The elements before i + 1 are those before i, and element i.
   pub one-more : (i : ℕ) → i < length l → take (i + 1) l ≡ take i l ++ (getD l i none ∷ [])
@@ -42,7 +49,7 @@ module _ {A : Type 0} (none : A) (l : List A) where
 
   module _ (w : A → ℕ) where
     -- The sum over the elements before i + 1 is the sum over those before i, and the weight of element i.
-    total-more : (i : ℕ) → i < length l → total w (take (i + 1) l) ≡ total w (take i l) + w (getD l i none)
+    pub total-more : (i : ℕ) → i < length l → total w (take (i + 1) l) ≡ total w (take i l) + w (getD l i none)
     unfolding total
     total-more i h = rw (one-more i h, total-append) (omega arith)
 

@@ -21,7 +21,7 @@ use Rattle.verdict.proofs.Rows.{growthIn, rows-within}
 use Rattle.verdict.proofs.Servers.{serverGrowthIn, servers-good}
 
 -- No row's d is above the largest.
-d-at-most-largest : {r : Row} {l : List Row} → List·Memᴰ r l → r .d ≤ largestOf l
+pub d-at-most-largest : {r : Row} {l : List Row} → List·Memᴰ r l → r .d ≤ largestOf l
 unfolding largestOf
 d-at-most-largest (List·Memᴰ·head e) = omega (arith, ap (λ (r : Row). r .d) e)
 d-at-most-largest (List·Memᴰ·tail m) = omega (arith, d-at-most-largest m)

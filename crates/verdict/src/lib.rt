@@ -1,5 +1,12 @@
 // The verdict on a table. It is feasible if no length of time, however long, has more demand than length. Otherwise it is overloaded, and the answer is the
 // smallest length that has, with its demand. (docs/RULES.md, section 5.)
+mod blocks;
+mod classes;
+mod descent;
+mod terms;
+
+use crate::descent::search;
+use crate::terms::terms_of;
 use kinds::RefusedAt;
 use table::Row;
 use table::Server;
@@ -139,9 +146,9 @@ fn largest_d(table: Table) -> u64
     largest
 }
 
-// The answer is the verdict on the table that the bytes spell, or its refusal. Where the demand grows in H ticks by at most H, the lengths up to H + the
-// largest d settle the verdict. Otherwise a length up to (the largest d + 1) · H + the largest d fails. (5.4 to 5.9)
-pub fn judge(bytes: &[u8]) -> Verdict
+// The answer is the verdict on the table that the bytes spell, or its refusal. Every length is looked at in turn. Where the demand grows in H ticks by at most
+// H, the lengths up to H + the largest d settle the verdict. Otherwise a length up to (the largest d + 1) · H + the largest d fails. (5.4 to 5.9)
+pub fn judge_every_length(bytes: &[u8]) -> Verdict
     ensures { λ r. ⌜ Judged (now (bytes .entry)) r ⌝ }
 {
     let read = table::read_table(bytes);
@@ -160,4 +167,38 @@ pub fn judge(bytes: &[u8]) -> Verdict
         Scan::Fits => Verdict::Feasible,
         Scan::Fails(w) => Verdict::Overloaded(w),
     }
+}
+
+// So many lengths are looked at in turn before the quick search begins: tables with a small witness, and small tables, need no more.
+const EARLY: u64 = 64;
+
+// The answer is the verdict on the table that the bytes spell, or its refusal. It is the same as that of `judge_every_length`, and needs far fewer looks at
+// lengths. (5.4 to 5.9)
+pub fn judge(bytes: &[u8]) -> Verdict
+    ensures { λ r. ⌜ Judged (now (bytes .entry)) r ⌝ }
+{
+    let read = table::read_table(bytes);
+    let table = read.table;
+    let answer = read.answer;
+    let period = match answer {
+        TableAnswer::Accepted(h) => h,
+        TableAnswer::Refused(r) => return Verdict::Refused(r),
+    };
+    let d = largest_d(table);
+    let mut early = d + period;
+    if EARLY < early {
+        early = EARLY;
+    }
+    if let Scan::Fails(w) = scan_range(table, 1, early) {
+        return Verdict::Overloaded(w);
+    }
+    let grows = growth(table, period);
+    if d + period <= EARLY {
+        if grows <= period {
+            return Verdict::Feasible;
+        }
+    }
+    let count = table.serving + table.count;
+    let terms = terms_of(table);
+    search(&terms, count, early, d, period, grows)
 }

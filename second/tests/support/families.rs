@@ -6,7 +6,7 @@ use super::{bad_bytes, damage, hopeless, scripts, servers, tables, timers};
 use second::{replay, table};
 
 /// As many lengths as a program that looks at every length can be waited for.
-const PATIENCE: u64 = 20_000;
+pub const PATIENCE: u64 = 20_000;
 
 /// As many records as a script has that is damaged at every byte.
 pub const RECORDS: usize = 5;

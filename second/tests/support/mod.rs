@@ -11,6 +11,7 @@ pub mod damage;
 pub mod definition;
 pub mod edges;
 pub mod ends;
+pub mod engines;
 pub mod families;
 pub mod fenced;
 pub mod hopeless;
