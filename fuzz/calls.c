@@ -4,47 +4,7 @@
  */
 #include "caller.h"
 
-#include <stdio.h>
-#include <stdlib.h>
-
-int LLVMFuzzerInitialize(int *words, char ***word);
-int LLVMFuzzerTestOneInput(const uint8_t *data, size_t size);
-
-enum { STATUSES = 32, BITS = 64 };
-
-/*
- * The library is not compiled for the fuzzer, which can't see what an input reaches inside it. So each answer is
- * reported as if it were code that was reached: its status, and how many bits its first number has.
- */
-__attribute__((section("__libfuzzer_extra_counters"))) static uint8_t reached[STATUSES * BITS];
-
-static unsigned long answered[STATUSES];
-
-static void note(struct answer answer)
-{
-    unsigned bits = 0;
-    for (uint64_t rest = answer.first; rest > 1; rest >>= 1)
-        bits++;
-    reached[answer.status * BITS + bits] = 1;
-    answered[answer.status]++;
-}
-
-/* Says which answers were seen, since a run that only ever saw one refusal has shown little. */
-static void say_answered(void)
-{
-    fputs("answered:", stderr);
-    for (int status = 1; status < STATUSES; status++)
-        if (answered[status] > 0)
-            fprintf(stderr, " %d (%lu times)", status, answered[status]);
-    fputc('\n', stderr);
-}
-
-int LLVMFuzzerInitialize(int *words, char ***word)
-{
-    (void)words;
-    (void)word;
-    return atexit(say_answered);
-}
+#include "answered.h"
 
 int LLVMFuzzerTestOneInput(const uint8_t *data, size_t size)
 {
@@ -58,7 +18,7 @@ int LLVMFuzzerTestOneInput(const uint8_t *data, size_t size)
     struct bytes table = {rest, table_length};
     struct bytes script = {rest + table_length, rest_length - table_length};
     struct answers answers = call_on(table, script, data[0] * script.length / 16);
-    note(answers.verdict);
-    note(answers.replay);
+    note(answers.verdict.status, answers.verdict.first);
+    note(answers.replay.status, answers.replay.first);
     return 0;
 }

@@ -7,18 +7,10 @@
 
 #include "live.h"
 
-#include <stdio.h>
-#include <stdlib.h>
+#include "answered.h"
 
-int LLVMFuzzerInitialize(int *words, char ***word);
-int LLVMFuzzerTestOneInput(const uint8_t *data, size_t size);
+enum { RUN_WORDS = JYRMEKKO_RUN_SIZE / 8 };
 
-enum { STATUSES = 40, BITS = 64, RUN_WORDS = JYRMEKKO_RUN_SIZE / 8 };
-
-/* The library is not compiled for the fuzzer, so each answer is reported as if it were code that was reached. */
-__attribute__((section("__libfuzzer_extra_counters"))) static uint8_t reached[STATUSES * BITS];
-
-static unsigned long answered[STATUSES];
 static struct jyrmekko_run run;
 static struct live wanted;
 
@@ -34,7 +26,6 @@ static void expect(int kept, const char *rule)
 static void hold(uint32_t status, const uint8_t *answer, struct said said)
 {
     uint64_t first = 0, second = 0;
-    unsigned bits = 0;
     for (int i = 7; i >= 0; i--) {
         first = first << 8 | answer[i];
         second = second << 8 | answer[8 + i];
@@ -42,27 +33,7 @@ static void hold(uint32_t status, const uint8_t *answer, struct said said)
     expect(status == said.status, "a live call returns the status that the rules want");
     expect(first == said.first && second == said.second, "a live call answers the two numbers that the rules want");
     expect(memcmp(&run, &wanted, sizeof run) == 0, "a live call leaves the run that the rules want");
-    for (uint64_t rest = first; rest > 1; rest >>= 1)
-        bits++;
-    reached[status * BITS + bits] = 1;
-    answered[status]++;
-}
-
-/* Says which answers were seen, since a run that only ever saw one refusal has shown little. */
-static void say_answered(void)
-{
-    fputs("answered:", stderr);
-    for (int status = 1; status < STATUSES; status++)
-        if (answered[status] > 0)
-            fprintf(stderr, " %d (%lu times)", status, answered[status]);
-    fputc('\n', stderr);
-}
-
-int LLVMFuzzerInitialize(int *words, char ***word)
-{
-    (void)words;
-    (void)word;
-    return atexit(say_answered);
+    note(status, first);
 }
 
 /* Changes a word of the run, to a number or to one near the limits. */
