@@ -1,0 +1,95 @@
+/* What the commands of the technician's program do, and what they share. */
+#ifndef COMMANDS_H
+#define COMMANDS_H
+
+#include "table.h"
+#include "text.h"
+
+/* How a file is read: as bytes or as text, as an option said, or as its content tells. */
+enum form { UNTOLD, AS_BYTES, AS_TEXT };
+
+/* A file that is named in the command, and the form that was told for it. */
+struct named_file {
+    const char *path;
+    enum form form;
+};
+
+/* inputs.c: tables and scripts from files. */
+
+/* A table or a script that was read from a file. */
+struct input {
+    const char *path;
+    enum form form;     /* It was read in this form. */
+    struct bytes bytes; /* This is it, as bytes. */
+    struct text text;   /* Where it was read as text, these are its words. */
+};
+
+/*
+ * Reads a table. A file of bytes is read only up to the length of the longest table. Where the form is not told, it is
+ * the one in which verdict accepts the file, and text where it accepts neither and the file could be one. Where it
+ * accepts both, the program stops. Says on standard error which form it was, where it was not told.
+ */
+struct input read_table(struct named_file file);
+
+/*
+ * Reads a script for a table, as read_table does. A file of bytes is read only up to what replay refuses. *answer is
+ * what replay answers for it without room for a log. The file at out_path will be written later: it must be none of the
+ * files that are read, and the path may be null.
+ */
+struct input read_script(struct named_file file, struct bytes table, const char *out_path, struct answer *answer);
+
+/* Reads a script of which no table is known. Where both forms could be meant, the program stops. */
+struct input read_script_alone(struct named_file file);
+
+/* Makes JSON of how a file was read. */
+void json_input(const char *name, const struct input *input);
+
+/* calls.c: the library's two calls. */
+
+struct answer ask_verdict(struct bytes table);
+struct answer ask_replay(struct bytes table, struct bytes script, struct bytes log);
+
+struct replayed {
+    struct input table, script;
+    struct answer answer;
+    struct bytes log; /* With 22 and 23 this is exactly the log, and else it is empty. */
+};
+
+struct replayed replay_files(struct named_file table, struct named_file script, const char *out_path);
+
+bool is_accepted(uint32_t status);  /* The answer of verdict is 20 or 21. */
+bool is_replayed(uint32_t status);  /* The answer of replay is 22 or 23. */
+
+/* refusals.c: what is refused, for people and in JSON. */
+
+/*
+ * Says a refusal. The script may be null where the call has none. A status that is no refusal stops the program, and so
+ * does one at a place where nothing is refused so.
+ */
+void say_refusal(FILE *out, const char *call, struct answer answer, const struct input *table, const struct input *script);
+
+/* The commands. Each returns the exit status. Paths may be null where the command has none of that kind. */
+
+int judge(struct named_file table);
+int play(struct named_file table, struct named_file script, const char *log_path);
+int explain(struct named_file table, const char *script_path);
+int show_table(struct named_file table);
+int show_script(struct named_file script, struct named_file table);
+int show_log(const char *path, struct named_file table, struct named_file script);
+int spell(const char *text_path, const char *out_path);
+
+/* summary.c: what a log says, row by row. */
+
+enum { LOG_NUMBERS = 5 }; /* Each record of a log has this many numbers. */
+enum { LOG_SERIAL, LOG_ROW, LOG_RELEASE, LOG_DUE, LOG_FINISH };
+
+/* Reads one record. Returns false at the end of the log, and where the record can't be read to its end. */
+bool read_log_record(struct bytes log, size_t *at, uint64_t record[LOG_NUMBERS]);
+
+/* Says how many jobs of each row and server were played, how many were late, and how near they came to it. */
+void say_summary(FILE *out, struct bytes log, const struct content *content);
+
+/* Makes a column at least as wide as a text. */
+void widen(int *width, const char *text);
+
+#endif
