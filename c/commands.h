@@ -31,12 +31,18 @@ struct input {
  */
 struct input read_table(struct named_file file);
 
+/* Reads all of a table's file, as read_table does. */
+struct input read_whole_table(struct named_file file);
+
 /*
  * Reads a script for a table, as read_table does. A file of bytes is read only up to what replay refuses. *answer is
  * what replay answers for it without room for a log. The file at out_path will be written later: it must be none of the
  * files that are read, and the path may be null.
  */
 struct input read_script(struct named_file file, struct bytes table, const char *out_path, struct answer *answer);
+
+/* Reads all of a script's file, as read_script does. */
+struct input read_whole_script(struct named_file file, struct bytes table);
 
 /* Reads a script of which no table is known. Where both forms could be meant, the program stops. */
 struct input read_script_alone(struct named_file file);
@@ -49,24 +55,34 @@ void json_input(const char *name, const struct input *input);
 struct answer ask_verdict(struct bytes table);
 struct answer ask_replay(struct bytes table, struct bytes script, struct bytes log);
 
+/*
+ * Replays a script with room for any log. With 22 and 23 the bytes are exactly the log, and else they are empty. Stops the
+ * program where the log is said to be longer than its buffer.
+ */
+struct bytes log_of(struct bytes table, const struct input *script, struct answer *answer);
+
 struct replayed {
     struct input table, script;
     struct answer answer;
     struct bytes log; /* With 22 and 23 this is exactly the log, and else it is empty. */
 };
 
-struct replayed replay_files(struct named_file table, struct named_file script, const char *out_path);
+/* Replays files. The file at out_path will be written later, as in read_script. */
+const struct replayed *replay_files(struct named_file table, struct named_file script, const char *out_path);
 
 bool is_accepted(uint32_t status);  /* The answer of verdict is 20 or 21. */
 bool is_replayed(uint32_t status);  /* The answer of replay is 22 or 23. */
 
-/* refusals.c: what is refused, for people and in JSON. */
+/* answers.c: what the library answers, for people and in JSON. */
 
 /*
  * Says a refusal. The script may be null where the call has none. A status that is no refusal stops the program, and so
  * does one at a place where nothing is refused so.
  */
 void say_refusal(FILE *out, const char *call, struct answer answer, const struct input *table, const struct input *script);
+
+/* Says the verdict on a table, as judge() does. In JSON the witness is left to the caller. */
+void say_verdict(FILE *out, struct answer answer, const struct input *table);
 
 /* The commands. Each returns the exit status. Paths may be null where the command has none of that kind. */
 

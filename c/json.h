@@ -16,10 +16,10 @@ void json_signed(const char *name, bool negative, uint64_t size);
 void json_text(const char *name, const char *text); /* A text that is null is null in JSON. */
 void json_flag(const char *name, bool flag);
 
-/* Lets stop() say why in JSON too. */
-void start_json(void);
+/* Lets all that is said be one JSON value, which goes to this stream. stop() says why in JSON too. */
+void start_json(FILE *out);
 
 /* Prints the value, which must be whole. */
-void print_json(FILE *out);
+void print_json(void);
 
 #endif

@@ -1,5 +1,7 @@
 #include "rig.h"
 
+#include <inttypes.h>
+
 bool read_number(struct bytes bytes, size_t *at, uint64_t *value)
 {
     uint64_t sum = 0;
@@ -56,6 +58,27 @@ uint64_t count_numbers(struct bytes bytes)
     for (size_t i = 0; i < bytes.length; i++)
         count += bytes.at[i] < 0x80;
     return count;
+}
+
+const char *grouped(uint64_t number)
+{
+    static char texts[8][sizeof "18,446,744,073,709,551,615"]; /* One message groups at most eight numbers. */
+    static size_t next;
+    char digits[sizeof "18446744073709551615"];
+    char *out = texts[next++ % 8], *start = out;
+    size_t count = (size_t)snprintf(digits, sizeof digits, "%" PRIu64, number);
+    for (size_t i = 0; i < count; i++) {
+        if (i > 0 && (count - i) % 3 == 0)
+            *out++ = ',';
+        *out++ = digits[i];
+    }
+    *out = '\0';
+    return start;
+}
+
+const char *plural(uint64_t number)
+{
+    return number == 1 ? "" : "s";
 }
 
 static uint64_t lowest_first(const uint8_t *eight)

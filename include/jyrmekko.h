@@ -136,12 +136,25 @@ extern "C" {
 #define JYRMEKKO_LOG_SIZE(script_len) (10 * (script_len))
 #define JYRMEKKO_RUN_SIZE 47872
 
+/*
+ * The version of this file. A program compares JYRMEKKO_VERSION_NUMBER, with which it was compiled, with
+ * jyrmekko_version_number(), which is the number of the library that it was linked with.
+ */
+#define JYRMEKKO_VERSION_MAJOR 1
+#define JYRMEKKO_VERSION_MINOR 0
+#define JYRMEKKO_VERSION_PATCH 0
+#define JYRMEKKO_VERSION "1.0.0"
+#define JYRMEKKO_VERSION_NUMBER \
+    (1000000 * JYRMEKKO_VERSION_MAJOR + 1000 * JYRMEKKO_VERSION_MINOR + JYRMEKKO_VERSION_PATCH)
+
 /* The limits. */
 #define JYRMEKKO_MOST_ROWS 64           /* A table has no more rows than this. */
 #define JYRMEKKO_MOST_SERVERS 8         /* A table has no more servers than this. */
 #define JYRMEKKO_MOST_SERVER_VALUE 4096 /* A server's a and b are no more than this. */
 #define JYRMEKKO_MOST_ODD_COST 4096     /* An odd job costs no more than this. */
 #define JYRMEKKO_MOST_PENDING 256       /* No more jobs than this are pending at a time. */
+#define JYRMEKKO_NUMBER_SIZE 6          /* The spelling of a number has no more bytes than this. */
+#define JYRMEKKO_LARGEST_NUMBER ((UINT64_C(1) << 42) - 1) /* No larger number can be spelled. */
 
 /*
  * The bytes of stack with which a thread can make verdict() and replay(). Measured on x86-64, with any input: below its
@@ -277,10 +290,8 @@ uint32_t verdict(const uint8_t *table, size_t table_len, uint8_t *answer, size_t
  * buffer, and the bytes past the log's length stay as they were. With every refusal but 13 the whole log buffer is
  * filled with zeros. The table and the script are only read.
  */
-uint32_t replay(const uint8_t *table, size_t table_len,
-                const uint8_t *script, size_t script_len,
-                uint8_t *log, size_t log_len,
-                uint8_t *answer, size_t answer_len);
+uint32_t replay(const uint8_t *table, size_t table_len, const uint8_t *script, size_t script_len,
+    uint8_t *log, size_t log_len, uint8_t *answer, size_t answer_len);
 
 /*
  * A live run. Its words are the scheduler's, and no host needs to know what they say: it reads the answers. A run is
@@ -328,6 +339,39 @@ uint32_t run_tick(struct jyrmekko_run *run, uint8_t *answer, size_t answer_len);
  * leaves the run as it was. Every status but 13 writes the answer buffer.
  */
 uint32_t run_end(struct jyrmekko_run *run, uint64_t serial, uint8_t *answer, size_t answer_len);
+
+/*
+ * The helpers, for a host that makes tables and scripts, reads logs, and says to people what a status means. They are
+ * plain C, in c/jyrmekko.c, which the installed library has in it. They are tested against the proved calls, and are not
+ * proved. They keep no state and take no memory, as the calls do.
+ */
+
+/* Returns the JYRMEKKO_VERSION_NUMBER with which the library was compiled. */
+uint32_t jyrmekko_version_number(void);
+
+/*
+ * Returns a short text for a status, in the words of the rules, such as "feasible" for 20. It begins in lower case and
+ * has no full stop. It is never null: for a number that is no status it says so. Nobody may write to it.
+ */
+const char *jyrmekko_text(uint32_t status);
+
+/* Return the first and the second number of an answer buffer of JYRMEKKO_ANSWER_SIZE bytes, all eight bytes of each. */
+uint64_t jyrmekko_first(const uint8_t *answer);
+uint64_t jyrmekko_second(const uint8_t *answer);
+
+/*
+ * Writes the spelling of a value at the start of out, which has room for so many bytes. Returns the length of the
+ * spelling, 1 to JYRMEKKO_NUMBER_SIZE. Where the value is above JYRMEKKO_LARGEST_NUMBER, or the room is too short, it
+ * writes nothing and returns 0.
+ */
+size_t jyrmekko_write_number(uint8_t *out, size_t room, uint64_t value);
+
+/*
+ * Reads the number that starts at *at, a place in so many bytes. Returns 1, stores the number in *value, and moves *at
+ * past its last byte. Where no number is spelled there, it returns 0, leaves *value as it was, and moves *at to the bad
+ * byte. That is the place which 1 and 14 name: the length where the number is cut off, or where *at was past the end.
+ */
+int jyrmekko_read_number(const uint8_t *bytes, size_t length, size_t *at, uint64_t *value);
 
 #ifdef __cplusplus
 }

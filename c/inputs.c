@@ -1,0 +1,192 @@
+/*
+ * Tables and scripts from files of bytes or of text. The two are told apart by content, unless an option says which it is.
+ * A file of bytes is read only as far as it matters: a table up to the length of the longest table, and a script up to
+ * the first thing in it that is refused.
+ */
+#include "commands.h"
+#include "json.h"
+
+static const struct bytes nothing = {NULL, 0};
+
+/*
+ * Reads on as long as what was read could be text, to the end of the file, and returns whether all of it is. A character
+ * may be cut off at the end of what was read so far, so its last bytes are not looked at before the file ends.
+ */
+static bool read_as_text(struct source *source)
+{
+    enum { LONGEST_CHARACTER = 4 };
+    for (size_t look = 4096;; look = look > SIZE_MAX / 2 ? SIZE_MAX : 2 * look) {
+        read_on(source, look);
+        struct bytes sure = source->content;
+        if (source->ended)
+            return is_text(sure);
+        while (sure.length > 0 && source->content.length - sure.length < LONGEST_CHARACTER &&
+               sure.at[sure.length - 1] >= 0x80)
+            sure.length--;
+        if (!is_text(sure))
+            return false;
+    }
+}
+
+/* A file that is being read, as the text that it could be. */
+struct reading {
+    struct named_file file;
+    struct source source;
+    bool could_be_text;  /* It was told to be text, or its content could be. */
+    struct input text;   /* This is the input then. Its bytes are empty where the text has a problem. */
+};
+
+static struct reading start_reading(struct named_file file, enum kind kind)
+{
+    struct reading reading = {file, open_source(file.path), file.form == AS_TEXT, {file.path, AS_TEXT, nothing, {0}}};
+    if (file.form == UNTOLD)
+        reading.could_be_text = read_as_text(&reading.source);
+    if (reading.could_be_text) {
+        reading.text.text = read_text(&reading.source);
+        reading.text.bytes = spell_text(&reading.text.text, kind);
+    }
+    return reading;
+}
+
+/* Returns whether a file has to be looked at as bytes: it is told to be, or nobody told what it is. */
+static bool could_be_bytes(const struct reading *reading)
+{
+    return reading->file.form != AS_TEXT;
+}
+
+/*
+ * Settles in which form a file is taken: as it was told, or else in the form in which it is accepted, and as text where
+ * it is accepted in neither and could be one. Where it is accepted in both, the program stops.
+ */
+static struct input settle(struct reading *reading, const char *kind, bool accepted_as_bytes, bool accepted_as_text)
+{
+    struct named_file file = reading->file;
+    struct input input = {file.path, AS_BYTES, reading->source.content, {0}};
+    close_source(&reading->source);
+    if (file.form == UNTOLD && reading->could_be_text && accepted_as_bytes && accepted_as_text)
+        stop(RIG_USAGE, "%s is a %s as bytes and another one as text: say --bytes or --text before its name",
+             shown(file.path), kind);
+    if (reading->could_be_text && (file.form == AS_TEXT || !accepted_as_bytes))
+        input = reading->text;
+    if (file.form == UNTOLD && !as_json)
+        fprintf(stderr, "rig: %s is read as %s\n", shown(file.path), input.form == AS_TEXT ? "text" : "bytes");
+    if (input.form == AS_TEXT && input.text.problem != NULL)
+        stop_at_problem(file.path, &input.text);
+    return input;
+}
+
+/* Reads a table. A file of bytes is read up to its first `most` bytes. */
+static struct input read_table_up_to(struct named_file file, size_t most)
+{
+    static struct reading reading;
+    bool accepted_as_bytes = false, accepted_as_text = false;
+    reading = start_reading(file, TABLE);
+    if (could_be_bytes(&reading))
+        read_on(&reading.source, most);
+    if (reading.could_be_text && file.form == UNTOLD) {
+        accepted_as_bytes = is_accepted(ask_verdict(reading.source.content).status);
+        accepted_as_text = reading.text.text.problem == NULL && is_accepted(ask_verdict(reading.text.bytes).status);
+    }
+    return settle(&reading, "table", accepted_as_bytes, accepted_as_text);
+}
+
+struct input read_table(struct named_file file)
+{
+    /* These are s, p, the two counts, and the values of all rows and servers. After them one extra byte is enough. */
+    enum { MOST_NUMBERS = 2 + 2 + 4 * JYRMEKKO_MOST_ROWS + 2 * JYRMEKKO_MOST_SERVERS };
+    return read_table_up_to(file, (size_t)MOST_GROUPS * MOST_NUMBERS + 1);
+}
+
+struct input read_whole_table(struct named_file file)
+{
+    return read_table_up_to(file, SIZE_MAX);
+}
+
+/*
+ * Returns whether the answer for the first bytes of a script holds for the whole script. It does where something that
+ * stands in them is refused. It does not where these bytes only end too early, since more may follow.
+ */
+static bool is_settled(struct answer answer, size_t length)
+{
+    switch (answer.status) {
+    case JYRMEKKO_IN_TIME:
+    case JYRMEKKO_LATE:
+    case JYRMEKKO_NO_ROOM:
+        return false;
+    case JYRMEKKO_TIME_TOO_LATE: /* At the length it only says that jobs are pending after the last record so far. */
+    case JYRMEKKO_SCRIPT_MISSPELLED: /* At the length it only says that a number is cut off so far. */
+        return answer.first < length;
+    default:
+        return true;
+    }
+}
+
+/* Returns whether all of the script can be played: its jobs are in time or late, or only their log has no room. */
+static bool is_played(uint32_t status)
+{
+    return is_replayed(status) || status == JYRMEKKO_NO_ROOM;
+}
+
+/* Replays a script of bytes with no room for a log, which takes no memory and hides no other refusal. Reads on as it must. */
+static struct answer replay_bytes(struct source *source, struct bytes table)
+{
+    for (size_t look = 1 << 16;; look = look > SIZE_MAX / 2 ? SIZE_MAX : 2 * look) {
+        read_on(source, look);
+        struct answer answer = ask_replay(table, source->content, nothing);
+        if (source->ended || is_settled(answer, source->content.length))
+            return answer;
+    }
+}
+
+struct input read_script(struct named_file file, struct bytes table, const char *out_path, struct answer *answer)
+{
+    static struct reading reading;
+    struct answer as_bytes = {0, 0, 0}, as_text = {0, 0, 0};
+    reading = start_reading(file, SCRIPT);
+    if (out_path != NULL)
+        expect_not_read(out_path);
+    if (could_be_bytes(&reading))
+        as_bytes = replay_bytes(&reading.source, table);
+    if (reading.could_be_text && reading.text.text.problem == NULL)
+        as_text = ask_replay(table, reading.text.bytes, nothing);
+    struct input input = settle(&reading, "script", is_played(as_bytes.status), is_played(as_text.status));
+    *answer = input.form == AS_TEXT ? as_text : as_bytes;
+    return input;
+}
+
+/* Returns whether all of a script's bytes are records of three numbers that can be read. */
+static bool has_releases(struct bytes script)
+{
+    uint64_t gap, row, cost;
+    for (size_t at = 0; at < script.length;)
+        if (!read_number(script, &at, &gap) || !read_number(script, &at, &row) || !read_number(script, &at, &cost))
+            return false;
+    return true;
+}
+
+struct input read_whole_script(struct named_file file, struct bytes table)
+{
+    static struct reading reading;
+    reading = start_reading(file, SCRIPT);
+    if (could_be_bytes(&reading))
+        read_on(&reading.source, SIZE_MAX);
+    return settle(&reading, "script", is_played(ask_replay(table, reading.source.content, nothing).status),
+                  reading.text.text.problem == NULL && is_played(ask_replay(table, reading.text.bytes, nothing).status));
+}
+
+struct input read_script_alone(struct named_file file)
+{
+    static struct reading reading;
+    reading = start_reading(file, SCRIPT);
+    if (could_be_bytes(&reading))
+        read_on(&reading.source, SIZE_MAX);
+    return settle(&reading, "script", has_releases(reading.source.content), reading.text.text.problem == NULL);
+}
+
+void json_input(const char *name, const struct input *input)
+{
+    json_begin(name, '{');
+    json_text("file", input->path);
+    json_text("form", input->form == AS_TEXT ? "text" : "bytes");
+    json_end();
+}

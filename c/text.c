@@ -1,0 +1,134 @@
+/* Reads a text: decimal numbers, the word 'server', and comments that start with # and go on to the end of the line. */
+#include "text.h"
+
+static const char server_word[] = "server";
+static const char not_spelled[] = "only decimal numbers, lines 'server a b' after the rows of a table, and comments that "
+                                  "start with #, can be spelled";
+
+static bool is_digit(uint8_t byte)
+{
+    return byte >= '0' && byte <= '9';
+}
+
+static bool is_space(uint8_t byte)
+{
+    return byte == ' ' || (byte >= '\t' && byte <= '\r');
+}
+
+bool is_text(struct bytes content)
+{
+    for (size_t at = 0, size; at < content.length; at += size) {
+        size = is_space(content.at[at]) ? 1 : printable(content.at + at, content.length - at);
+        if (size == 0)
+            return false;
+    }
+    return content.length > 0;
+}
+
+static void set_problem(struct text *text, size_t line, size_t column, const char *problem)
+{
+    text->problem = problem;
+    text->problem_line = line;
+    text->problem_column = column;
+}
+
+static void put_word(struct text *text)
+{
+    if (text->count == text->room) {
+        text->room = 2 * text->room + 64;
+        text->words = resize(text->words, text->room * sizeof text->words[0]);
+    }
+    text->words[text->count++] = text->word;
+}
+
+/* Ends the word that the text is in, if it is in one. */
+static void end_word(struct text *text)
+{
+    if (text->letters > 0 && text->letters < sizeof server_word - 1)
+        set_problem(text, text->word.line, text->word.column, not_spelled);
+    else if (text->letters > 0 || text->in_number)
+        put_word(text);
+    text->letters = 0;
+    text->in_number = false;
+}
+
+static void start_word(struct text *text)
+{
+    text->word = (struct word){0, false, text->line, text->column, SIZE_MAX};
+}
+
+static void take_digit(struct text *text, uint8_t digit)
+{
+    if (!text->in_number)
+        start_word(text);
+    text->in_number = true;
+    text->word.value = 10 * text->word.value + (uint64_t)(digit - '0');
+    if (text->word.value > LARGEST_NUMBER)
+        set_problem(text, text->word.line, text->word.column, "a number is above 2^42 - 1, the largest that can be spelled");
+}
+
+/* Takes a character that is no digit, outside comments. The only word is 'server', and it stands apart from numbers. */
+static void take_letter(struct text *text, uint8_t letter)
+{
+    if (text->letters == 0 && !text->in_number)
+        start_word(text);
+    if (letter == ',' && text->in_number) {
+        set_problem(text, text->line, text->column, "a number is written without separators: 4096, and not 4,096");
+    } else if (text->in_number || text->letters == sizeof server_word - 1 ||
+               letter != (uint8_t)server_word[text->letters]) {
+        set_problem(text, text->word.line, text->word.column, not_spelled);
+    } else {
+        text->letters++;
+        text->word.is_server = true;
+    }
+}
+
+static void take_byte(struct text *text, uint8_t byte)
+{
+    bool ends_line = byte == '\r' || (byte == '\n' && !text->after_cr);
+    if (text->in_comment) {
+        text->in_comment = byte != '\n' && byte != '\r';
+    } else if (is_digit(byte) && text->letters == 0) {
+        take_digit(text, byte);
+    } else if (is_space(byte) || byte == '#') {
+        end_word(text);
+        text->in_comment = byte == '#';
+    } else {
+        take_letter(text, byte);
+    }
+    if (ends_line) {
+        text->line++;
+        text->column = 1;
+    } else if (byte != '\n' && (byte & 0xC0) != 0x80) { /* The later bytes of a character are not counted. */
+        text->column++;
+    }
+    text->after_cr = byte == '\r';
+}
+
+struct text read_text(struct source *source)
+{
+    struct text text = {NULL, 0, 0, 1, 1, {0, false, 0, 0, 0}, 0, false, false, false, NULL, 0, 0};
+    for (size_t at = 0; text.problem == NULL; at++) {
+        if (at == source->content.length)
+            read_on(source, at < 4096 ? 4096 : 2 * at);
+        if (at == source->content.length)
+            break;
+        take_byte(&text, source->content.at[at]);
+    }
+    if (text.problem == NULL)
+        end_word(&text);
+    return text;
+}
+
+void stop_at_problem(const char *path, const struct text *text)
+{
+    stop(RIG_CONTENT, "%s:%zu:%zu: %s", shown(path), text->problem_line, text->problem_column, text->problem);
+}
+
+const struct word *word_at(const struct text *text, uint64_t place)
+{
+    for (size_t i = 0; i < text->count; i++)
+        if (text->words[i].place == place)
+            return &text->words[i];
+    return NULL;
+}
