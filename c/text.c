@@ -1,6 +1,8 @@
 /* Reads a text: decimal numbers, the word 'server', and comments that start with # and go on to the end of the line. */
 #include "text.h"
 
+#include <string.h>
+
 static const char server_word[] = "server";
 static const char not_spelled[] = "only decimal numbers, lines 'server a b' after the rows of a table, and comments that "
                                   "start with #, can be spelled";
@@ -107,8 +109,11 @@ static void take_byte(struct text *text, uint8_t byte)
 
 struct text read_text(struct source *source)
 {
+    static const uint8_t mark[] = {0xEF, 0xBB, 0xBF}; /* Some editors put these bytes in front of a text in UTF-8. */
     struct text text = {NULL, 0, 0, 1, 1, {0, false, 0, 0, 0}, 0, false, false, false, NULL, 0, 0};
-    for (size_t at = 0; text.problem == NULL; at++) {
+    read_on(source, sizeof mark);
+    bool has_mark = source->content.length >= sizeof mark && memcmp(source->content.at, mark, sizeof mark) == 0;
+    for (size_t at = has_mark ? sizeof mark : 0; text.problem == NULL; at++) {
         if (at == source->content.length)
             read_on(source, at < 4096 ? 4096 : 2 * at);
         if (at == source->content.length)
