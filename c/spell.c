@@ -45,6 +45,14 @@ static bool lacks_timer(const struct text *text, size_t numbers)
     return numbers > 0 && (numbers - 1) % PER_ROW == 0 && (numbers - 1) / PER_ROW == text->words[0].value;
 }
 
+/* Returns whether the numbers of a text have the lines of a table: s and p on one, and the row count alone on the next. */
+static bool has_lines_of_table(const struct text *text)
+{
+    const struct word *words = text->words;
+    return text->count >= HEAD && words[0].line == words[1].line && words[1].line != words[COUNT_AT].line &&
+           (text->count == HEAD || words[COUNT_AT].line != words[HEAD].line);
+}
+
 /* Returns whether so many numbers are a table with its server count, and two numbers for each server. */
 static bool has_plain_servers(const struct text *text, size_t numbers)
 {
@@ -72,7 +80,7 @@ static void say_no_timer(struct text *text)
 /* Says where the numbers before the first server are not those that the row count asks for. */
 static void say_wrong_rows(struct text *text, size_t numbers)
 {
-    if (lacks_timer(text, numbers)) {
+    if (lacks_timer(text, numbers) && !has_lines_of_table(text)) {
         say_no_timer(text);
         return;
     }
@@ -170,14 +178,6 @@ static struct bytes spell_script(struct text *text)
                      plural(found));
     }
     return text->problem == NULL ? spell_words(text) : (struct bytes){NULL, 0};
-}
-
-/* Returns whether the numbers of a text have the lines of a table: s and p on one, and the row count alone on the next. */
-static bool has_lines_of_table(const struct text *text)
-{
-    const struct word *words = text->words;
-    return text->count >= HEAD && words[0].line == words[1].line && words[1].line != words[COUNT_AT].line &&
-           (text->count == HEAD || words[COUNT_AT].line != words[HEAD].line);
 }
 
 /*
