@@ -91,15 +91,15 @@ static void say_wrong_rows(struct text *text, size_t numbers)
     }
     uint64_t wanted = text->words[COUNT_AT].value, rows = 0;
     if (numbers > HEAD && text->words[HEAD].line == text->words[COUNT_AT].line) {
-        wrong_at(text, COUNT_AT, "the row count is %s, so %s numbers should follow it, and %zu do", grouped(wanted),
-                 grouped(PER_ROW * wanted), numbers - HEAD);
+        wrong_at(text, COUNT_AT, "the row count is %s, so %s numbers should follow it, and %s do", grouped(wanted),
+                 grouped(PER_ROW * wanted), grouped(numbers - HEAD));
         return;
     }
     for (size_t at = HEAD, found; at < numbers; at += found) {
         found = count_on_line(text, at, numbers);
         if (found % PER_ROW != 0) {
-            wrong_at(text, at, "row %s has %zu number%s; a row has four, x, y, d and c, and a server is a line 'server a b'",
-                     grouped(rows), found, plural(found));
+            wrong_at(text, at, "row %s has %s number%s; a row has four, x, y, d and c, and a server is a line 'server a b'",
+                     grouped(rows), grouped(found), plural(found));
             return;
         }
         rows += found / PER_ROW;
@@ -174,7 +174,7 @@ static struct bytes spell_script(struct text *text)
     for (size_t at = 0, found; text->problem == NULL && text->count % PER_RELEASE != 0; at += found) {
         found = count_on_line(text, at, text->count);
         if (found % PER_RELEASE != 0)
-            wrong_at(text, at, "this line has %zu number%s; a release has three, its gap, row number and cost", found,
+            wrong_at(text, at, "this line has %s number%s; a release has three, its gap, row number and cost", grouped(found),
                      plural(found));
     }
     return text->problem == NULL ? spell_words(text) : (struct bytes){NULL, 0};
