@@ -82,10 +82,12 @@ static void release(struct script *script, const struct jobs *jobs, uint64_t fir
     }
 }
 
-/* Writes a comment that says how many jobs of a row or a server there are. */
+/* Writes a comment that says how many jobs of a row or a server there are, where there are any. */
 static void name_jobs(FILE *text, const struct witness *witness, size_t of)
 {
     const struct jobs *jobs = &witness->jobs[of];
+    if (jobs->count == 0)
+        return;
     fprintf(text, "# row %" PRIu64, jobs->row);
     if (of >= witness->row_count)
         fprintf(text, ", server %zu", of - witness->row_count);
@@ -194,16 +196,17 @@ static struct answer try_script(const struct script *script, struct bytes table)
 
 struct witness_script script_of(const struct witness *witness, struct bytes table)
 {
+    static struct script script, late;
     struct witness_script made = {{NULL, 0}, {0, 0, 0}, ""};
     if (witness->count > MOST_JOBS) {
         snprintf(made.why, sizeof made.why, "the witness has %s jobs, and a script is written for at most %s",
                  grouped(witness->count), grouped(MOST_JOBS));
         return made;
     }
-    struct script script = make_script(witness, false, "");
+    script = make_script(witness, false, "");
     made.answer = try_script(&script, table);
     if (made.answer.status == JYRMEKKO_PLACES_FULL) {
-        struct script late = make_script(witness, true, "");
+        late = make_script(witness, true, "");
         struct answer of_late = try_script(&late, table);
         if (of_late.status == JYRMEKKO_PLACES_FULL) {
             snprintf(made.why, sizeof made.why, "replay refuses this script with %" PRIu32 " at %s", made.answer.status,
@@ -217,6 +220,5 @@ struct witness_script script_of(const struct witness *witness, struct bytes tabl
         script = late;
     }
     made.text = (struct bytes){(uint8_t *)script.text_at, script.text_length};
-    free(script.bytes.at);
     return made;
 }
