@@ -135,11 +135,10 @@ bool print_help(const char *name)
     return true;
 }
 
-void print_usage(const char *name)
+const char *usage_of(const char *name)
 {
     const struct command *command = find_command(name);
-    if (command != NULL)
-        fprintf(stderr, "usage: %s", command->usage);
+    return command != NULL ? command->usage : NULL;
 }
 
 void print_version(void)

@@ -154,12 +154,14 @@ struct input read_script(struct named_file file, struct bytes table, const char 
     return input;
 }
 
-/* Returns whether all of a script's bytes are records of three numbers that can be read. */
+/* Returns whether a script's bytes are records that some table could have: of three numbers, with a row that may be. */
 static bool has_releases(struct bytes script)
 {
+    enum { MOST_ROWS = JYRMEKKO_MOST_ROWS + JYRMEKKO_MOST_SERVERS };
     uint64_t gap, row, cost;
     for (size_t at = 0; at < script.length;)
-        if (!read_number(script, &at, &gap) || !read_number(script, &at, &row) || !read_number(script, &at, &cost))
+        if (!read_number(script, &at, &gap) || !read_number(script, &at, &row) || !read_number(script, &at, &cost) ||
+            row >= MOST_ROWS)
             return false;
     return true;
 }

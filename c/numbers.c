@@ -4,21 +4,7 @@
 
 bool read_number(struct bytes bytes, size_t *at, uint64_t *value)
 {
-    uint64_t sum = 0;
-    for (size_t group = 0; *at < bytes.length; group++, ++*at) {
-        uint8_t byte = bytes.at[*at];
-        if (byte == 0 && group > 0)
-            return false; /* This is a superfluous zero group. */
-        if (byte >= 0x80 && group == MOST_GROUPS - 1)
-            return false; /* This is a sixth group that asks for more. */
-        sum |= (uint64_t)(byte & 0x7F) << 7 * group;
-        if (byte < 0x80) {
-            ++*at;
-            *value = sum;
-            return true;
-        }
-    }
-    return false; /* The number is cut off. */
+    return jyrmekko_read_number(bytes.at, bytes.length, at, value) == 1;
 }
 
 const char *bad_byte(struct bytes bytes, uint64_t place)
@@ -43,13 +29,7 @@ const char *bad_byte(struct bytes bytes, uint64_t place)
 
 size_t write_number(uint8_t *out, uint64_t value)
 {
-    size_t length = 0;
-    while (value >= 0x80) {
-        out[length++] = (uint8_t)(value & 0x7F) | 0x80;
-        value >>= 7;
-    }
-    out[length++] = (uint8_t)value;
-    return length;
+    return jyrmekko_write_number(out, MOST_GROUPS, value);
 }
 
 uint64_t count_numbers(struct bytes bytes)
@@ -81,15 +61,7 @@ const char *plural(uint64_t number)
     return number == 1 ? "" : "s";
 }
 
-static uint64_t lowest_first(const uint8_t *eight)
-{
-    uint64_t value = 0;
-    for (int i = 7; i >= 0; i--)
-        value = value << 8 | eight[i];
-    return value;
-}
-
 struct answer answer_of(uint32_t status, const uint8_t *buffer)
 {
-    return (struct answer){status, lowest_first(buffer), lowest_first(buffer + 8)};
+    return (struct answer){status, jyrmekko_first(buffer), jyrmekko_second(buffer)};
 }

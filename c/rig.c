@@ -23,8 +23,10 @@ struct request {
 __attribute__((noreturn))
 static void stop_at_usage(const char *command)
 {
-    print_usage(command);
-    stop(RIG_USAGE, "there is no such command, or it is used in another way; rig --help lists the commands");
+    const char *usage = usage_of(command);
+    if (usage != NULL)
+        stop(RIG_USAGE, "%s is used in another way:\n%s'rig %s --help' says more", command, usage, command);
+    stop(RIG_USAGE, "there is no such command: rig --help lists the commands");
 }
 
 /* Takes one option. Returns how many more words it takes. */

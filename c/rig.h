@@ -5,6 +5,8 @@
 #ifndef RIG_H
 #define RIG_H
 
+#include "jyrmekko.h"
+
 #include <stdbool.h>
 #include <stddef.h>
 #include <stdint.h>
@@ -81,10 +83,9 @@ bool is_standard(const char *path);
  */
 size_t printable(const uint8_t *bytes, size_t length);
 
-/* numbers.c: numbers as bytes (docs/RULES.md, 2.1 to 2.8 and 9.4), for people to see. The library has its own code. */
+/* numbers.c: numbers as bytes (docs/RULES.md, 2.1 to 2.8 and 9.4), and numbers for people. */
 
-enum { MOST_GROUPS = 6 };
-#define LARGEST_NUMBER ((UINT64_C(1) << 7 * MOST_GROUPS) - 1)
+enum { MOST_GROUPS = JYRMEKKO_NUMBER_SIZE };
 
 /*
  * Reads the number at *at and moves *at past it. Where none is spelled there, returns false and moves *at to the bad
@@ -98,7 +99,7 @@ bool read_number(struct bytes bytes, size_t *at, uint64_t *value);
  */
 const char *bad_byte(struct bytes bytes, uint64_t place);
 
-/* Writes a value of at most LARGEST_NUMBER at the start of out, and returns the length of its spelling. */
+/* Writes a value of at most JYRMEKKO_LARGEST_NUMBER at the start of out, and returns the length of its spelling. */
 size_t write_number(uint8_t *out, uint64_t value);
 
 /* Returns how many numbers well spelled bytes hold. Each number has one byte with a clear top bit. */

@@ -2,7 +2,6 @@
 #ifndef TABLE_H
 #define TABLE_H
 
-#include "jyrmekko.h"
 #include "rig.h"
 
 /* What a number of a table is, in the order of their spelling. */

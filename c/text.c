@@ -63,7 +63,7 @@ static void take_digit(struct text *text, uint8_t digit)
         start_word(text);
     text->in_number = true;
     text->word.value = 10 * text->word.value + (uint64_t)(digit - '0');
-    if (text->word.value > LARGEST_NUMBER)
+    if (text->word.value > JYRMEKKO_LARGEST_NUMBER)
         set_problem(text, text->word.line, text->word.column, "a number is above 2^42 - 1, the largest that can be spelled");
 }
 
