@@ -26,8 +26,7 @@ struct input {
 
 /*
  * Reads a table. A file of bytes is read only up to the length of the longest table. Where the form is not told, it is
- * the one in which verdict accepts the file, and text where it accepts neither and the file could be one. Where it
- * accepts both, the program stops. Says on standard error which form it was, where it was not told.
+ * text if all of the file could be text, and else bytes. Then it is said on standard error which it was.
  */
 struct input read_table(struct named_file file);
 
@@ -35,8 +34,9 @@ struct input read_table(struct named_file file);
 struct input read_whole_table(struct named_file file);
 
 /*
- * Reads a script for a table, as read_table does. A file of bytes is read only up to what replay refuses. *answer is
- * what replay answers for it without room for a log. The file at out_path will be written later: it must be none of the
+ * Reads a script for a table, as read_table does. A file of bytes is read only up to what replay refuses. Where all of the
+ * file could be text, and replay would accept it as bytes too, the program stops and asks for the form. *answer is what
+ * replay answers for the script without room for a log. The file at out_path will be written later: it must be none of the
  * files that are read, and the path may be null.
  */
 struct input read_script(struct named_file file, struct bytes table, const char *out_path, struct answer *answer);
@@ -44,7 +44,7 @@ struct input read_script(struct named_file file, struct bytes table, const char 
 /* Reads all of a script's file, as read_script does. */
 struct input read_whole_script(struct named_file file, struct bytes table);
 
-/* Reads a script of which no table is known. Where both forms could be meant, the program stops. */
+/* Reads a script of which no table is known. Where it could be text, and as bytes some table could accept it, it asks too. */
 struct input read_script_alone(struct named_file file);
 
 /* Makes JSON of how a file was read. */

@@ -55,18 +55,18 @@ static bool could_be_bytes(const struct reading *reading)
 }
 
 /*
- * Settles in which form a file is taken: as it was told, or else in the form in which it is accepted, and as text where
- * it is accepted in neither and could be one. Where it is accepted in both, the program stops.
+ * Settles in which form a file is taken: as it was told, or else as text where it could be one. Where it could be a text
+ * and would be accepted as bytes too, the program stops: nothing that was typed is ever taken for bytes in silence.
  */
-static struct input settle(struct reading *reading, const char *kind, bool accepted_as_bytes, bool accepted_as_text)
+static struct input settle(struct reading *reading, bool accepted_as_bytes)
 {
     struct named_file file = reading->file;
     struct input input = {file.path, AS_BYTES, reading->source.content, {0}};
     close_source(&reading->source);
-    if (file.form == UNTOLD && reading->could_be_text && accepted_as_bytes && accepted_as_text)
-        stop(RIG_USAGE, "%s is a %s as bytes and another one as text: say --bytes or --text before its name",
-             shown(file.path), kind);
-    if (reading->could_be_text && (file.form == AS_TEXT || !accepted_as_bytes))
+    if (file.form == UNTOLD && reading->could_be_text && accepted_as_bytes)
+        stop(RIG_USAGE, "%s could be a text, and would be accepted as bytes too: say --text or --bytes before its name",
+             shown(file.path));
+    if (reading->could_be_text)
         input = reading->text;
     if (file.form == UNTOLD && !as_json)
         fprintf(stderr, "rig: %s is read as %s\n", shown(file.path), input.form == AS_TEXT ? "text" : "bytes");
@@ -75,19 +75,18 @@ static struct input settle(struct reading *reading, const char *kind, bool accep
     return input;
 }
 
-/* Reads a table. A file of bytes is read up to its first `most` bytes. */
+/*
+ * Reads a table. A file of bytes is read up to its first `most` bytes. An accepted table is never a text as well, since
+ * its server count is a byte below the tab, which is the lowest byte of a text.
+ */
 static struct input read_table_up_to(struct named_file file, size_t most)
 {
+    enum { SERVER_COUNTS_ARE_NO_TEXT = 1 / (JYRMEKKO_MOST_SERVERS < '\t') }; /* Where they are, this does not compile. */
     static struct reading reading;
-    bool accepted_as_bytes = false, accepted_as_text = false;
     reading = start_reading(file, TABLE);
     if (could_be_bytes(&reading))
         read_on(&reading.source, most);
-    if (reading.could_be_text && file.form == UNTOLD) {
-        accepted_as_bytes = is_accepted(ask_verdict(reading.source.content).status);
-        accepted_as_text = reading.text.text.problem == NULL && is_accepted(ask_verdict(reading.text.bytes).status);
-    }
-    return settle(&reading, "table", accepted_as_bytes, accepted_as_text);
+    return settle(&reading, false);
 }
 
 struct input read_table(struct named_file file)
@@ -149,7 +148,7 @@ struct input read_script(struct named_file file, struct bytes table, const char 
         as_bytes = replay_bytes(&reading.source, table);
     if (reading.could_be_text && reading.text.text.problem == NULL)
         as_text = ask_replay(table, reading.text.bytes, nothing);
-    struct input input = settle(&reading, "script", is_played(as_bytes.status), is_played(as_text.status));
+    struct input input = settle(&reading, is_played(as_bytes.status));
     *answer = input.form == AS_TEXT ? as_text : as_bytes;
     return input;
 }
@@ -172,8 +171,7 @@ struct input read_whole_script(struct named_file file, struct bytes table)
     reading = start_reading(file, SCRIPT);
     if (could_be_bytes(&reading))
         read_on(&reading.source, SIZE_MAX);
-    return settle(&reading, "script", is_played(ask_replay(table, reading.source.content, nothing).status),
-                  reading.text.text.problem == NULL && is_played(ask_replay(table, reading.text.bytes, nothing).status));
+    return settle(&reading, is_played(ask_replay(table, reading.source.content, nothing).status));
 }
 
 struct input read_script_alone(struct named_file file)
@@ -182,7 +180,7 @@ struct input read_script_alone(struct named_file file)
     reading = start_reading(file, SCRIPT);
     if (could_be_bytes(&reading))
         read_on(&reading.source, SIZE_MAX);
-    return settle(&reading, "script", has_releases(reading.source.content), reading.text.text.problem == NULL);
+    return settle(&reading, has_releases(reading.source.content));
 }
 
 void json_input(const char *name, const struct input *input)

@@ -105,10 +105,18 @@ static void take_byte(struct text *text, uint8_t byte)
     text->after_cr = byte == '\r';
 }
 
+/* Returns how many bytes the mark takes that some editors put in front of a text in UTF-8. */
+static size_t length_of_mark(struct source *source)
+{
+    read_on(source, 3);
+    const uint8_t *at = source->content.at;
+    return source->content.length >= 3 && at[0] == 0xEF && at[1] == 0xBB && at[2] == 0xBF ? 3 : 0;
+}
+
 struct text read_text(struct source *source)
 {
     struct text text = {NULL, 0, 0, 1, 1, {0, false, 0, 0, 0}, 0, false, false, false, NULL, 0, 0};
-    for (size_t at = 0; text.problem == NULL; at++) {
+    for (size_t at = length_of_mark(source); text.problem == NULL; at++) {
         if (at == source->content.length)
             read_on(source, at < 4096 ? 4096 : 2 * at);
         if (at == source->content.length)
