@@ -253,7 +253,7 @@ int show_script(struct named_file script_file, struct named_file table_file)
         json_number("status", RIG_DONE);
         json_script(&reading, counts, &dues);
         if (is_refused)
-            json_refusal(&dues.refused, kind, refused->form == AS_TEXT ? word_at(&refused->text, dues.refused.place) : NULL);
+            json_refusal(&dues.refused, kind, refused->form == AS_TEXT ? word_at(&refused->text, dues.refused.cause) : NULL);
     } else {
         print_script(&reading, counts, &dues);
     }

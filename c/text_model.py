@@ -179,9 +179,10 @@ def is_text(data):
 # ---- tables (rules 3.1 to 3.20 and 5.1 to 5.19)
 
 class Refusal(Exception):
-    def __init__(self, number, place, says, of=None, which=0, **named):
+    def __init__(self, number, place, says, of=None, which=0, cause=None, **named):
         super().__init__(says)
         self.number, self.place, self.named = number, place, named
+        self.cause = place if cause is None else cause # The number that has to be changed starts here.
         self.of = {of: which} if of in ("row", "server", "release") else {}
         self.says = ("the timer: " if of == "timer" else f"{of} {which:,}: " if of else "") + says
 
@@ -196,6 +197,7 @@ class Table:
     """A table that is read from its bytes. It is refused as the rules say, or it is accepted."""
     def __init__(self, data):
         self.data, self.at = data, 0
+        self.lengths = [] # These are the y and b, with their places.
         self.timer()
         row_count = self.count("row count", MOST_ROWS)
         self.rows = [self.row(i) for i in range(row_count)]
@@ -205,9 +207,12 @@ class Table:
         self.servers = [self.server(i) for i in range(server_count)]
         if self.at < len(data):
             raise Refusal(4, self.at, "there are bytes after the last server, or after a server count of 0")
-        self.period = math.lcm(self.p, *(row[1] for row in self.rows), *(server[1] for server in self.servers))
-        if self.period > 1048576:
-            raise Refusal(5, len(data), "H, the least common multiple of p, all y and all b, is above 1,048,576")
+        self.period = self.p
+        for place, of, which, name, length in self.lengths:
+            self.period = math.lcm(self.period, length)
+            if self.period > 1048576:
+                raise Refusal(5, len(data), f"with its {name}, H, the least common multiple of p, all y and all b, is {self.period:,}; it "
+                              "must be 1 to 1,048,576", of, which, cause=place, name="H", value=self.period, least=1, most=1048576)
 
     def number(self):
         place = self.at
@@ -239,6 +244,7 @@ class Table:
             if not 1 <= value <= most:
                 raise out_of_range(place, name, value, 1, most, "row", which)
             row.append(value)
+            self.lengths += [(place, "row", which, "y", value)] * (name == "y")
         if row[3] > row[2]:
             raise Refusal(16, place, f"c is {row[3]:,}; it must be 1 to {row[2]:,}, which is its d: no processor can give {row[3]:,} "
                           f"units within {some(row[2], 'tick')}", "row", which, name="c", value=row[3], least=1, most=row[2])
@@ -251,6 +257,7 @@ class Table:
         place, b = self.number()
         if not a <= b <= 4096:
             raise out_of_range(place, "b", b, a, 4096, "server", which, why=", and not be below its a")
+        self.lengths.append((place, "server", which, "b", b))
         return a, b
 
     def taken(self, length):
@@ -409,7 +416,7 @@ class File:
         """Says a refusal at a place in this file."""
         said.status = said.json["status"] = refusal.number
         said.json.update(answer="refused", refusal=self.json_of(refusal))
-        where = self.where.get(refusal.place)
+        where = self.where.get(refusal.cause)
         number = f"(refusal {refusal.number} at byte {refusal.place:,} of the {self.kind})\n"
         if where:
             said.out = f"{self.path}:{where[0]}:{where[1]}: {refusal.says} {number}"
@@ -421,7 +428,7 @@ class File:
                 said.notes += f"rig: {self.path} could be text: leave out --bytes, or say --text\n"
 
     def json_of(self, refusal):
-        where = self.where.get(refusal.place)
+        where = self.where.get(refusal.cause)
         at = {"line": where[0], "column": where[1]} if where else {}
         return {"number": refusal.number, "file": self.kind, "byte": refusal.place, **at, **refusal.of, **refusal.named,
                 "message": refusal.says}
@@ -965,7 +972,8 @@ def try_cases():
             expect(f"the table {text!r}", verdict, write("table.txt", text), told, in_json=told == TEXT or i % 4 == 0)
     for data, told in itertools.product(NO_TEXTS, (UNTOLD, BYTES)):
         expect(f"the table {data!r}", verdict, write("table.bytes", data), told)
-    for text in "0 1\n0\n", "9 0 0 0", "# 1":
+    # But for its server count, which is a tab, the last of these would be a table of ten rows.
+    for text in "0 1\n0\n", "9 0 0 0", "# 1", "\t \n" + 10 * " 11 " + "\t":
         expect(f"a text as bytes: {text!r}", verdict, write("table.txt", text), BYTES)
         expect(f"a script as bytes: {text!r}", replay, write("row.txt", ROW), TEXT, write("a.txt", text), BYTES)
     for table, text in SCRIPTS:
