@@ -38,6 +38,25 @@ need() {
   fi
 }
 
+# add_test NAME COMMAND..: runs a test of its own, whose last line is 'N passed, M failed', and adds its counts to ours.
+add_test() {
+  local name=$1 said status
+  shift
+  said=$("$@")
+  status=$?
+  printf '%s\n' "$said"
+  if [[ ${said##*$'\n'} =~ ^([0-9]+)\ passed,\ ([0-9]+)\ failed$ ]]; then
+    passed=$((passed + BASH_REMATCH[1]))
+    failed=$((failed + BASH_REMATCH[2]))
+    if [ "$status" -ne 0 ] && [ "${BASH_REMATCH[2]}" -eq 0 ]; then
+      failed=$((failed + 1))
+    fi
+  else
+    echo "$name: the test ended with status $status and without its last line"
+    failed=$((failed + 1))
+  fi
+}
+
 finish() {
   echo "$passed passed, $failed failed"
   [ "$failed" -eq 0 ]
