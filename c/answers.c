@@ -38,9 +38,8 @@ static bool is_refusal(uint32_t status)
     }
 }
 
-static void json_refusal(const struct fault *fault, const char *file, const struct word *word)
+void json_refusal(const struct fault *fault, const char *file, const struct word *word)
 {
-    json_text("answer", "refused");
     json_begin("refusal", '{');
     json_number("number", fault->status);
     json_text("file", file);
@@ -74,16 +73,20 @@ void say_refusal(FILE *out, const char *call, struct answer answer, const struct
         stop(RIG_NO_ANSWER, "the library's %s says %" PRIu32 " at byte %s of the %s, where no %s", call, answer.status,
              grouped(answer.first), file, missing_there(answer.status));
     const struct word *word = input->form == AS_TEXT ? word_at(&input->text, fault.place) : NULL;
-    if (as_json)
+    if (as_json) {
+        json_text("answer", "refused");
         json_refusal(&fault, file, word);
-    else if (word != NULL)
+    } else if (word != NULL) {
         fprintf(out, "%s:%zu:%zu: %s (refusal %" PRIu32 " at byte %s of the %s)\n", shown(input->path), word->line,
                 word->column, fault.says, fault.status, grouped(fault.place), file);
-    else if (input->form == AS_TEXT)
+    } else if (input->form == AS_TEXT) {
         fprintf(out, "%s: %s (refusal %" PRIu32 " at byte %s of the %s)\n", shown(input->path), fault.says, fault.status,
                 grouped(fault.place), file);
-    else
+    } else {
         fprintf(out, "refused %" PRIu32 " at byte %s of the %s: %s\n", fault.status, grouped(fault.place), file, fault.says);
+        if (is_text(input->bytes)) /* It would have been read as text, had --bytes not been said. */
+            fprintf(stderr, "rig: %s could be text: without --bytes it is read as text\n", shown(input->path));
+    }
 }
 
 /* Says how much of a witness's demand is the timer's and how much is the servers', where they have any of it. */

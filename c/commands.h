@@ -81,6 +81,9 @@ bool is_replayed(uint32_t status);  /* The answer of replay is 22 or 23. */
  */
 void say_refusal(FILE *out, const char *call, struct answer answer, const struct input *table, const struct input *script);
 
+/* Makes JSON of what is refused in a table or a script, which `file` says. The word of its text may be null. */
+void json_refusal(const struct fault *fault, const char *file, const struct word *word);
+
 /* Says the verdict on a table, as judge() does. In JSON the witness is left to the caller. */
 void say_verdict(FILE *out, struct answer answer, const struct input *table);
 

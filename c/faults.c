@@ -170,13 +170,14 @@ static void say_row(struct fault *fault, const struct release *release, const st
     uint64_t used = content->row_count + content->server_count;
     if (release->row < used || release->row_place != fault->place)
         return;
+    if (used == 0) { /* There is no range then. */
+        say(fault, "the row number is %s, and the table has no row and no server", grouped(release->row));
+        return;
+    }
     fault->name = "row number";
     fault->value = release->row;
-    fault->most = used > 0 ? used - 1 : 0;
-    if (used > 0)
-        say(fault, "the row number is %s; it must be 0 to %s", grouped(release->row), grouped(fault->most));
-    else
-        say(fault, "the row number is %s, and the table has no row and no server", grouped(release->row));
+    fault->most = used - 1;
+    say(fault, "the row number is %s; it must be 0 to %s", grouped(release->row), grouped(fault->most));
 }
 
 /* Says what the release may cost, where it costs something else. */

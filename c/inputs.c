@@ -9,22 +9,28 @@
 static const struct bytes nothing = {NULL, 0};
 
 /*
- * Reads on as long as what was read could be text, to the end of the file, and returns whether all of it is. A character
- * may be cut off at the end of what was read so far, so its last bytes are not looked at before the file ends.
+ * Returns whether what was read so far could be text. Before the file ends, its last character may be cut off, so the bytes
+ * of that one are not looked at: at most three that go on with a character, and the one that starts it.
  */
+static bool is_text_so_far(const struct source *source)
+{
+    struct bytes sure = source->content;
+    if (source->ended)
+        return is_text(sure);
+    while (sure.length > 0 && source->content.length - sure.length < 3 && (sure.at[sure.length - 1] & 0xC0) == 0x80)
+        sure.length--;
+    if (sure.length > 0 && sure.at[sure.length - 1] >= 0xC0)
+        sure.length--;
+    return is_text(sure);
+}
+
+/* Reads on as long as what was read could be text, to the end of the file, and returns whether all of it is. */
 static bool read_as_text(struct source *source)
 {
-    enum { LONGEST_CHARACTER = 4 };
     for (size_t look = 4096;; look = look > SIZE_MAX / 2 ? SIZE_MAX : 2 * look) {
         read_on(source, look);
-        struct bytes sure = source->content;
-        if (source->ended)
-            return is_text(sure);
-        while (sure.length > 0 && source->content.length - sure.length < LONGEST_CHARACTER &&
-               sure.at[sure.length - 1] >= 0x80)
-            sure.length--;
-        if (!is_text(sure))
-            return false;
+        if (source->ended || !is_text_so_far(source))
+            return is_text_so_far(source);
     }
 }
 
@@ -62,6 +68,7 @@ static struct input settle(struct reading *reading, bool accepted_as_bytes)
 {
     struct named_file file = reading->file;
     struct input input = {file.path, AS_BYTES, reading->source.content, {0}};
+    bool is_no_text = !is_text_so_far(&reading->source) && reading->source.content.length > 0;
     close_source(&reading->source);
     if (file.form == UNTOLD && reading->could_be_text && accepted_as_bytes)
         stop(RIG_USAGE, "%s could be a text, and would be accepted as bytes too: say --text or --bytes before its name",
@@ -70,6 +77,8 @@ static struct input settle(struct reading *reading, bool accepted_as_bytes)
         input = reading->text;
     if (file.form == UNTOLD && !as_json)
         fprintf(stderr, "rig: %s is read as %s\n", shown(file.path), input.form == AS_TEXT ? "text" : "bytes");
+    if (input.form == AS_TEXT && input.text.problem != NULL && is_no_text)
+        stop(RIG_CONTENT, "%s is no text: without --text, or with --bytes, it is read as bytes", shown(file.path));
     if (input.form == AS_TEXT && input.text.problem != NULL)
         stop_at_problem(file.path, &input.text);
     return input;

@@ -18,6 +18,7 @@ struct request {
     const char *script; /* This came with --script, or it is null. */
     bool json, help, version;
     bool told;          /* --bytes or --text was given. */
+    const char *unused; /* This one of them was given after the last file, or it is null. */
 };
 
 __attribute__((noreturn))
@@ -26,7 +27,7 @@ static void stop_at_usage(const char *command)
     const char *usage = usage_of(command);
     if (usage != NULL)
         stop(RIG_USAGE, "%s is used in another way:\n%s'rig %s --help' says more", command, usage, command);
-    stop(RIG_USAGE, "there is no such command: rig --help lists the commands");
+    stop(RIG_USAGE, "there is no command '%s'; rig --help lists the commands", shown(command));
 }
 
 /* Takes one option. Returns how many more words it takes. */
@@ -36,18 +37,19 @@ static int take_option(struct request *request, const char *option, const char *
     if (is_bytes || strcmp(option, "--text") == 0) {
         *form = is_bytes ? AS_BYTES : AS_TEXT;
         request->told = true;
+        request->unused = option;
     } else if (strcmp(option, "--json") == 0) {
         request->json = true;
     } else if (strcmp(option, "--help") == 0 || strcmp(option, "-h") == 0) {
         request->help = true;
     } else if (strcmp(option, "--version") == 0) {
         request->version = true;
-    } else if (strncmp(option, "--script=", 9) == 0) {
+    } else if (strncmp(option, "--script=", 9) == 0 && option[9] != '\0') {
         request->script = option + 9;
     } else if (strcmp(option, "--script") == 0 && next != NULL) {
         request->script = next;
         return 1;
-    } else if (strcmp(option, "--script") == 0) {
+    } else if (strcmp(option, "--script") == 0 || strcmp(option, "--script=") == 0) {
         stop(RIG_USAGE, "the option --script needs the name of a file");
     } else {
         stop(RIG_USAGE, "there is no option '%s'; rig --help lists the options", shown(option));
@@ -57,7 +59,7 @@ static int take_option(struct request *request, const char *option, const char *
 
 static struct request read_request(int words, char **word)
 {
-    struct request request = {{{NULL, UNTOLD}}, 0, NULL, false, false, false, false};
+    struct request request = {{{NULL, UNTOLD}}, 0, NULL, false, false, false, false, NULL};
     enum form form = UNTOLD;
     bool options = true;
     for (int i = 1; i < words; i++) {
@@ -68,8 +70,10 @@ static struct request read_request(int words, char **word)
             i += take_option(&request, word[i], i + 1 < words ? word[i + 1] : NULL, &form);
         else if (request.count == MOST_WORDS)
             stop_at_usage(request.words[0].path);
-        else
+        else {
             request.words[request.count++] = (struct named_file){word[i], form};
+            request.unused = NULL;
+        }
     }
     return request;
 }
@@ -120,6 +124,8 @@ static void expect_options(const struct request *request)
         stop(RIG_USAGE, "spell reads text and writes bytes: --bytes and --text don't belong to it");
     if (request->script != NULL && strcmp(command, "explain") != 0)
         stop(RIG_USAGE, "only explain has the option --script");
+    if (request->unused != NULL)
+        stop(RIG_USAGE, "%s stands after the last file: it belongs before the name of a file", request->unused);
 }
 
 /* Returns where the words go: to standard error where standard output takes a log or a script. */
@@ -137,8 +143,8 @@ static const char *asked_about(const struct request *request)
     bool is_help = request->count > 0 && strcmp(request->words[0].path, "help") == 0;
     if (is_help && request->count <= 2)
         return request->count == 2 ? request->words[1].path : "";
-    if (request->help && request->count <= 1)
-        return request->count == 1 ? request->words[0].path : "";
+    if (request->help)
+        return request->count > 0 ? request->words[0].path : "";
     return NULL;
 }
 
@@ -154,8 +160,10 @@ static int answer(const struct request *request)
         print_version();
         return RIG_DONE;
     }
-    if (request->count == 0 || request->version || request->help)
-        stop_at_usage("");
+    if (request->version)
+        stop(RIG_USAGE, "the option --version stands alone");
+    if (request->count == 0)
+        stop(RIG_USAGE, "no command is given; rig --help lists the commands");
     expect_options(request);
     if (!request->json)
         return run(request);
@@ -168,8 +176,19 @@ static int answer(const struct request *request)
     return status;
 }
 
+/* Returns whether the option --json is given, so that all that is wrong with the other words is said in JSON too. */
+static bool asks_for_json(int words, char **word)
+{
+    for (int i = 1; i < words && strcmp(word[i], "--") != 0; i++)
+        if (strcmp(word[i], "--json") == 0)
+            return true;
+    return false;
+}
+
 int main(int words, char **word)
 {
+    if (asks_for_json(words, word))
+        start_json(stdout);
     struct request request = read_request(words, word);
     int status = answer(&request);
     if (fflush(stdout) != 0 || ferror(stdout))

@@ -188,7 +188,7 @@ static void print_script(struct reading *reading, struct counts counts, const st
     printf("# %s release%s", grouped(reading->count), plural(reading->count));
 }
 
-static void json_script(struct reading *reading, struct counts counts, const struct dues *dues)
+static void json_script(struct reading *reading, const struct input *script, struct counts counts, const struct dues *dues)
 {
     uint64_t time = 0;
     json_begin("releases", '[');
@@ -206,7 +206,7 @@ static void json_script(struct reading *reading, struct counts counts, const str
     }
     json_end();
     if (dues->refused.says[0] != '\0')
-        json_text("refused", dues->refused.says);
+        json_refusal(&dues->refused, "script", script->form == AS_TEXT ? word_at(&script->text, dues->refused.place) : NULL);
 }
 
 /* Reads how many rows and servers a table has. Stops the program where it can't be read. */
@@ -245,7 +245,7 @@ int show_script(struct named_file script_file, struct named_file table_file)
         if (has_table)
             json_input("table", &table);
         json_number("status", RIG_DONE);
-        json_script(&reading, counts, &dues);
+        json_script(&reading, &script, counts, &dues);
     } else {
         print_script(&reading, counts, &dues);
     }

@@ -45,6 +45,14 @@ static bool lacks_timer(const struct text *text, size_t numbers)
     return numbers > 0 && (numbers - 1) % PER_ROW == 0 && (numbers - 1) / PER_ROW == text->words[0].value;
 }
 
+/* Returns whether the numbers of a text have the lines of a table: s and p on one, and the row count alone on the next. */
+static bool has_lines_of_table(const struct text *text)
+{
+    const struct word *words = text->words;
+    return text->count >= HEAD && words[0].line == words[1].line && words[1].line != words[COUNT_AT].line &&
+           (text->count == HEAD || words[COUNT_AT].line != words[HEAD].line);
+}
+
 /* Returns whether so many numbers are a table with its server count, and two numbers for each server. */
 static bool has_plain_servers(const struct text *text, size_t numbers)
 {
@@ -72,7 +80,7 @@ static void say_no_timer(struct text *text)
 /* Says where the numbers before the first server are not those that the row count asks for. */
 static void say_wrong_rows(struct text *text, size_t numbers)
 {
-    if (lacks_timer(text, numbers)) {
+    if (lacks_timer(text, numbers) && !has_lines_of_table(text)) {
         say_no_timer(text);
         return;
     }
@@ -83,15 +91,15 @@ static void say_wrong_rows(struct text *text, size_t numbers)
     }
     uint64_t wanted = text->words[COUNT_AT].value, rows = 0;
     if (numbers > HEAD && text->words[HEAD].line == text->words[COUNT_AT].line) {
-        wrong_at(text, COUNT_AT, "the row count is %s, so %s numbers should follow it, and %zu do", grouped(wanted),
-                 grouped(PER_ROW * wanted), numbers - HEAD);
+        wrong_at(text, COUNT_AT, "the row count is %s, so %s numbers should follow it, and %s do", grouped(wanted),
+                 grouped(PER_ROW * wanted), grouped(numbers - HEAD));
         return;
     }
     for (size_t at = HEAD, found; at < numbers; at += found) {
         found = count_on_line(text, at, numbers);
         if (found % PER_ROW != 0) {
-            wrong_at(text, at, "row %s has %zu number%s; a row has four, x, y, d and c, and a server is a line 'server a b'",
-                     grouped(rows), found, plural(found));
+            wrong_at(text, at, "row %s has %s number%s; a row has four, x, y, d and c, and a server is a line 'server a b'",
+                     grouped(rows), grouped(found), plural(found));
             return;
         }
         rows += found / PER_ROW;
@@ -166,18 +174,10 @@ static struct bytes spell_script(struct text *text)
     for (size_t at = 0, found; text->problem == NULL && text->count % PER_RELEASE != 0; at += found) {
         found = count_on_line(text, at, text->count);
         if (found % PER_RELEASE != 0)
-            wrong_at(text, at, "this line has %zu number%s; a release has three, its gap, row number and cost", found,
+            wrong_at(text, at, "this line has %s number%s; a release has three, its gap, row number and cost", grouped(found),
                      plural(found));
     }
     return text->problem == NULL ? spell_words(text) : (struct bytes){NULL, 0};
-}
-
-/* Returns whether the numbers of a text have the lines of a table: s and p on one, and the row count alone on the next. */
-static bool has_lines_of_table(const struct text *text)
-{
-    const struct word *words = text->words;
-    return text->count >= HEAD && words[0].line == words[1].line && words[1].line != words[COUNT_AT].line &&
-           (text->count == HEAD || words[COUNT_AT].line != words[HEAD].line);
 }
 
 /*
