@@ -200,7 +200,7 @@ def main():
             objects.append((shape, value))
             mistakes += mistakes_in(shapes, shape, value)
         if mistakes:
-            faults.append(f"{command}: {'; '.join(mistakes)}")
+            faults.append(f"{command[:160]}: {'; '.join(mistakes)}")
     fields = sum(len(rows) for rows in shapes.values())
     unseen = never_seen(shapes)
     unnoticed, edits = edits_that_pass(path, objects)
