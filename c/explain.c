@@ -8,7 +8,6 @@
 #include "witness.h"
 
 #include <inttypes.h>
-#include <stdlib.h>
 
 /* Says the verdict. In JSON the status is the exit status, which is another one where a script is not written. */
 static void say_answer(FILE *out, struct answer answer, int status, const struct input *table)
@@ -236,6 +235,7 @@ static int explain_feasible(FILE *out, struct answer answer, const struct input 
 static int explain_overloaded(FILE *out, struct answer answer, const struct input *table, const char *script_path)
 {
     struct content content = content_of(table->bytes);
+    period_of(&content); /* From here on no number that something is divided by is 0. */
     struct witness witness = witness_of(answer, &content);
     struct witness_script script = {{NULL, 0}, {0, 0, 0}, ""};
     int status = (int)answer.status;
@@ -255,7 +255,6 @@ static int explain_overloaded(FILE *out, struct answer answer, const struct inpu
         say_script(out, script_path, &witness, &script);
     else if (as_json)
         json_text("script", NULL);
-    free(script.text.at);
     return status;
 }
 

@@ -1,3 +1,4 @@
+/* The room that a feasible table leaves, worked out from its numbers and from verdicts on tables that are like it. */
 #include "room.h"
 
 #include "commands.h"
@@ -106,7 +107,8 @@ static uint64_t step_up(struct steps all[MOST_STEPS], size_t count, uint64_t *un
 
 /*
  * Finds the smallest of the lengths with the least slack, among those at which the demand of a row or a server steps up.
- * From one of them to the next the slack never falls, since a tick that is taken is one unit and one tick.
+ * Between two of them the slack never falls: a further tick adds one to the length, and to the demand at most one, where it
+ * is taken.
  *
  * The lengths up to H + the largest d are enough. Where the demand steps up at a longer length L, it does at L - H too,
  * which is above every d. From L - H to L it grows by as much as the shares ask for in H ticks. On a feasible table that

@@ -12,7 +12,7 @@
 #include <inttypes.h>
 #include <stdlib.h>
 
-/* A script has no more jobs than this, since a larger one is no help to anybody. */
+/* No script is written for more jobs than this. It would be too long to be of help to anybody. */
 enum { MOST_JOBS = 1000000 };
 
 enum { RELEASE_NUMBERS = 3 };
@@ -69,7 +69,7 @@ struct script {
     uint64_t time;      /* The last release is at this time. */
 };
 
-/* Releases some jobs of a row or a server at a time, from the job with this number on. */
+/* Writes the releases, all at one time, of some jobs of a row or a server. The first of them has this number among them. */
 static void release(struct script *script, const struct jobs *jobs, uint64_t first, uint64_t count, uint64_t time)
 {
     for (uint64_t i = first; i < first + count; i++) {
@@ -82,10 +82,12 @@ static void release(struct script *script, const struct jobs *jobs, uint64_t fir
     }
 }
 
-/* Writes a comment that says how many jobs of a row or a server there are. */
+/* Writes a comment that says how many jobs of a row or a server there are, where there are any. */
 static void name_jobs(FILE *text, const struct witness *witness, size_t of)
 {
     const struct jobs *jobs = &witness->jobs[of];
+    if (jobs->count == 0)
+        return;
     fprintf(text, "# row %" PRIu64, jobs->row);
     if (of >= witness->row_count)
         fprintf(text, ", server %zu", of - witness->row_count);
@@ -93,9 +95,8 @@ static void name_jobs(FILE *text, const struct witness *witness, size_t of)
 }
 
 /*
- * Writes the comments at the top of a script. In each of the words with three or more small letters, one letter would be
- * the row number of a release where the text were taken for bytes. No row has such a number, so that no script as bytes
- * could be meant.
+ * Writes the comment at the top of a script. Its words keep the text from being taken for bytes: of three small letters in
+ * a row one would be the row number of a release, and it would be above that of every row and server.
  */
 static void write_head(FILE *text, const struct witness *witness)
 {
@@ -139,8 +140,10 @@ static void write_late(struct script *script, const struct witness *witness)
         uint64_t time = 0;
         for (size_t i = 0; i < witness->row_count + witness->server_count; i++) {
             const struct jobs *jobs = &witness->jobs[i];
+            if (released[i] == jobs->count)
+                continue;
             uint64_t then = released[i] / jobs->group * jobs->apart;
-            if (released[i] < jobs->count && (next == NULL || then < time)) {
+            if (next == NULL || then < time) {
                 next = jobs;
                 time = then;
             }
@@ -194,16 +197,17 @@ static struct answer try_script(const struct script *script, struct bytes table)
 
 struct witness_script script_of(const struct witness *witness, struct bytes table)
 {
+    static struct script script, late;
     struct witness_script made = {{NULL, 0}, {0, 0, 0}, ""};
     if (witness->count > MOST_JOBS) {
         snprintf(made.why, sizeof made.why, "the witness has %s jobs, and a script is written for at most %s",
                  grouped(witness->count), grouped(MOST_JOBS));
         return made;
     }
-    struct script script = make_script(witness, false, "");
+    script = make_script(witness, false, "");
     made.answer = try_script(&script, table);
     if (made.answer.status == JYRMEKKO_PLACES_FULL) {
-        struct script late = make_script(witness, true, "");
+        late = make_script(witness, true, "");
         struct answer of_late = try_script(&late, table);
         if (of_late.status == JYRMEKKO_PLACES_FULL) {
             snprintf(made.why, sizeof made.why, "replay refuses this script with %" PRIu32 " at %s", made.answer.status,
@@ -217,6 +221,5 @@ struct witness_script script_of(const struct witness *witness, struct bytes tabl
         script = late;
     }
     made.text = (struct bytes){(uint8_t *)script.text_at, script.text_length};
-    free(script.bytes.at);
     return made;
 }

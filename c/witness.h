@@ -23,7 +23,7 @@ struct witness {
     uint64_t taken; /* The timer takes so many ticks of the length. */
     uint64_t count; /* So many jobs are named by rows and servers together. */
     size_t row_count, server_count;
-    struct jobs jobs[JYRMEKKO_MOST_ROWS + JYRMEKKO_MOST_SERVERS]; /* First come the rows, and then the servers. */
+    struct jobs jobs[JYRMEKKO_MOST_ROWS + JYRMEKKO_MOST_SERVERS]; /* They are in the order of their row numbers. */
 };
 
 /* Finds the jobs of the witness that verdict answers. Stops the program where they don't ask for its demand. */
