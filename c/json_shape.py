@@ -12,7 +12,10 @@ checks that
 
 At the end it checks that the document says no more than the commands do: each field, and each value and type that a
 field may have, was seen, and a field that is not always there was missing at least once. Then each row of each table is
-left out, and given another type, to see that this is noticed. The last line is 'N passed, M failed'."""
+left out, and given another type, to see that this is noticed. The last line is 'N passed, M failed'.
+
+json_shape.py --one SHAPE DOCUMENT: holds the one line of standard input to a shape. Says what is wrong, and exits with 1
+then."""
 import json
 import re
 import subprocess
@@ -186,7 +189,18 @@ def edits_that_pass(path, objects):
     return unnoticed, count
 
 
+def hold_one(shape, path):
+    try:
+        mistakes = mistakes_in(read_document(path), shape, parse(sys.stdin.buffer.read()))
+    except ValueError as why:
+        mistakes = [str(why)]
+    print("".join(f"json: {mistake}\n" for mistake in mistakes), end="")
+    sys.exit(1 if mistakes else 0)
+
+
 def main():
+    if sys.argv[1] == "--one":
+        hold_one(*sys.argv[2:])
     path, cases = sys.argv[1:]
     shapes = read_document(path)
     objects, faults, tried = [], [], 0
