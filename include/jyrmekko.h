@@ -16,19 +16,28 @@
  * can make verdict() and replay(), and one whose stack has JYRMEKKO_RUN_STACK_SIZE bytes every call, whatever is handed
  * in.
  *
- * Library. The calls are proved, and compiled for x86-64 with the calling convention of System V, which Linux uses. They
- * need memcpy() and memset() of the C library, and nothing else. The package that ./install makes has this file, and has
- * the calls in libjyrmekko.a. In it the names of the six calls begin with jyrmekko_, so that they meet no other name of a
- * program. In the repository, where target/staticlib/libhost.a has the calls, their names stand without it. The code is
- * the same, byte for byte. Beside the calls there are helpers in plain C, which are declared at the end of this file.
+ * Library. The calls are proved, and compiled for x86-64 with the calling convention of System V, which Linux uses.
+ * They need memcpy() and memset() of the C library, and nothing else. The package that ./install makes has this file,
+ * and has the calls in libjyrmekko.a. In it the names of the six calls begin with jyrmekko_, so that they meet no
+ * other name of a program. In the repository, where target/staticlib/libhost.a has the calls, their names stand
+ * without it. The code is the same, byte for byte. Beside the calls there are helpers in plain C, which are declared
+ * at the end of this file.
  *
- * Time. How long a call takes is measured, and not proved. These are the medians of 1,000 calls, and for replay() of 50,
- * on an AMD EPYC processor with some other work beside it, on the slowest inputs that were found (bench/worst.c):
- *   - verdict(): 3.2 milliseconds, on a table with H near its limit. A small table takes 1 or 2 microseconds.
- *   - replay(): 0.35 microseconds for each job where 255 other jobs wait and the new one goes before them, so that each
- *     has to be passed, and otherwise 0.03. The time grows with the number of jobs, and not with the ticks between them.
- *   - run_start(): 4 microseconds. run_tick(): 9. run_end(): 10. run_release(): 11. These hardly depend on the run.
- * The slowest single calls took 4.5 milliseconds, 0.45 microseconds for each job, and 0.09 milliseconds.
+ * Time and stack. Both are measured, and not proved. The times are microseconds on an AMD EPYC processor with much
+ * other work beside it, on the slowest inputs that were found for each call (bench/worst.c). For replay() they are
+ * microseconds for each job. The stack is the most bytes that a call takes below its caller, with any input
+ * (c/test_stack.c). The numbers are the highest median of nine runs, the slowest of all calls in them, and the stack:
+ *
+ *     verdict()        3,600     6,600    57,000
+ *     replay()           0.4       0.6    77,000
+ *     run_start()          5       131   105,000
+ *     run_release()       15       161   286,000
+ *     run_tick()          13       148   221,000
+ *     run_end()           15       146   262,000
+ *
+ * A verdict on a small table takes 1 or 2 microseconds. The times of replay() are for jobs of which each goes before
+ * 255 others that wait. Where each goes behind those that wait, or none waits, it takes 0.02 to 0.06 microseconds for
+ * each job. Its time grows with the number of jobs, and not with the ticks between them.
  *
  * Numbers. A number in a table, a script or a log is spelled in groups of seven bits, one group a byte, the lowest
  * group first. The top bit of a byte is set when another byte of the same number follows. A number has at most 6
@@ -110,8 +119,8 @@
  * the table 00 01 00, which has no server count, with 1 at place 3, its length. On a table with a row, the script 00 00
  * is refused with 14 at place 2, its length.
  *
- * Examples. stop(), wait_for_timer() and give_the_processor_to() are the host's own functions here. A table is judged, a
- * script is replayed on it, and its log is read:
+ * Examples. stop(), wait_for_timer() and give_the_processor_to() are the host's own functions here. A table is judged,
+ * a script is replayed on it, and its log is read:
  *
  *     uint8_t table[] = {0, 1, 1, 1, 2, 6, 1, 0}, script[] = {0, 0, 1, 4, 0, 1};
  *     uint8_t log[JYRMEKKO_LOG_SIZE(sizeof script)], answer[JYRMEKKO_ANSWER_SIZE];
@@ -185,18 +194,16 @@ extern "C" {
 #define JYRMEKKO_LARGEST_NUMBER ((UINT64_C(1) << 42) - 1) /* No larger number can be spelled. */
 
 /*
- * The bytes of stack with which a thread can make verdict() and replay(). Measured on x86-64, with any input: below its
- * caller verdict() takes less than 57,000 bytes, and replay() less than 77,000. With what the system itself puts on a
- * thread's stack, a thread needs at most 81,920 bytes. The other 16,384 are room, for the functions that make the call
- * and for signal handlers.
+ * The bytes of stack with which a thread can make verdict() and replay(). With what the system itself puts on a
+ * thread's stack, a thread needs at most 81,920 bytes for them. The other 16,384 are room, for the functions that make
+ * the call and for signal handlers.
  */
 #define JYRMEKKO_STACK_SIZE 98304
 
 /*
- * The bytes of stack with which a thread can make every call. A live call works on copies of the run, and they stand on
- * the stack. Measured on x86-64, with any run: below its caller run_start() takes less than 105,000 bytes, run_tick()
- * less than 221,000, run_end() less than 262,000 and run_release() less than 286,000. With what the system itself puts
- * on a thread's stack, a thread needs at most 290,816 bytes. The other 16,384 are room, as above.
+ * The bytes of stack with which a thread can make every call. A live call works on copies of the run, and they stand
+ * on the stack. With what the system itself puts on a thread's stack, a thread needs at most 290,816 bytes. The other
+ * 16,384 are room, as above.
  */
 #define JYRMEKKO_RUN_STACK_SIZE 307200
 
@@ -369,8 +376,8 @@ uint32_t run_end(struct jyrmekko_run *run, uint64_t serial, uint8_t *answer, siz
 
 /*
  * The helpers, for a host that makes tables and scripts, reads logs, and says to people what a status means. They are
- * plain C, in c/jyrmekko.c, which the installed library has in it. They are tested against the proved calls, and are not
- * proved. They keep no state and take no memory, as the calls do.
+ * plain C, in c/jyrmekko.c, which the installed library has in it. They are tested against the proved calls, and are
+ * not proved. They keep no state and take no memory, as the calls do.
  */
 
 /* Returns the JYRMEKKO_VERSION_NUMBER with which the library was compiled. */
