@@ -14,6 +14,8 @@ static const char *missing_there(uint32_t status)
         return "number is out of its range";
     case JYRMEKKO_HOPELESS_ROW:
         return "c of a hopeless row starts";
+    case JYRMEKKO_PERIOD_TOO_LONG:
+        return "H is above its limit";
     case JYRMEKKO_MISSPELLED:
     case JYRMEKKO_SCRIPT_MISSPELLED:
         return "number goes wrong";
@@ -72,7 +74,7 @@ void say_refusal(FILE *out, const char *call, struct answer answer, const struct
     if (fault.says[0] == '\0')
         stop(RIG_NO_ANSWER, "the library's %s says %" PRIu32 " at byte %s of the %s, where no %s", call, answer.status,
              grouped(answer.first), file, missing_there(answer.status));
-    const struct word *word = input->form == AS_TEXT ? word_at(&input->text, fault.place) : NULL;
+    const struct word *word = input->form == AS_TEXT ? word_at(&input->text, fault.cause) : NULL;
     if (as_json) {
         json_text("answer", "refused");
         json_refusal(&fault, file, word);
@@ -121,6 +123,7 @@ void say_verdict(FILE *out, struct answer answer, const struct input *table)
     }
     struct content content = content_of(table->bytes);
     uint64_t odd = 0;
+    period_of(&content); /* This stops the program where no library may accept the table. */
     for (size_t server = 0; server < content.server_count; server++)
         odd += server_demand(content.servers[server], answer.first);
     fprintf(out, "overloaded %" PRIu32 ": the demand in %s tick%s is %s units", answer.status, grouped(answer.first),

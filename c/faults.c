@@ -33,7 +33,7 @@ static void say(struct fault *fault, const char *format, ...)
 static struct fault out_of_range(uint32_t status, size_t place, const char *of, uint64_t number, const char *name,
                                  uint64_t value, uint64_t least, uint64_t most)
 {
-    return (struct fault){status, place, of, number, name, value, least, most, ""};
+    return (struct fault){status, place, place, of, number, name, value, least, most, ""};
 }
 
 /* Says that a number is out of its range. The words `why` come after the range, and may be empty. */
@@ -45,7 +45,7 @@ static void say_range(struct fault *fault, const char *why)
 
 static struct fault none(void)
 {
-    return (struct fault){0, 0, NULL, 0, NULL, 0, 0, 0, ""};
+    return (struct fault){0, 0, 0, NULL, 0, NULL, 0, 0, 0, ""};
 }
 
 static struct fault fault_of_timer(const struct table *table)
@@ -136,6 +136,25 @@ static struct fault fault_of_number(struct answer answer, struct bytes table)
     return fault.status == answer.status && fault.place == answer.first ? fault : none();
 }
 
+/* Finds the first number with which H is too long, in a table that is refused with 5. */
+static struct fault fault_of_period(struct answer answer, struct bytes bytes)
+{
+    struct table table = start_table(bytes);
+    uint64_t period = 1;
+    while (period > 0 && period <= LARGEST_PERIOD && read_part(&table))
+        if (table.part == TIMER_P || table.part == ROW_Y || table.part == SERVER_B)
+            period = common_multiple(period, table.values[table.part]);
+    if (period <= LARGEST_PERIOD || answer.first != bytes.length)
+        return none();
+    bool of_row = table.part == ROW_Y;
+    struct fault fault = out_of_range(answer.status, bytes.length, of_row ? "row" : "server", table.of, "H", period, 1,
+                                      LARGEST_PERIOD);
+    fault.cause = table.start;
+    say(&fault, "with its %c, H, the least common multiple of p, all y and all b, is %s; it must be 1 to %s",
+        of_row ? 'y' : 'b', grouped(period), grouped(LARGEST_PERIOD));
+    return fault;
+}
+
 /* A release of a script that is being looked for. */
 struct release {
     uint64_t number;
@@ -202,7 +221,7 @@ static void say_cost(struct fault *fault, const struct release *release, const s
 /* Finds what is wrong with the release of a script that is refused with 6 to 10 at this place. */
 static struct fault fault_of_release(struct answer answer, struct bytes table, struct bytes script)
 {
-    struct fault fault = {answer.status, answer.first, "release", 0, NULL, 0, 0, 0, ""};
+    struct fault fault = {answer.status, answer.first, answer.first, "release", 0, NULL, 0, 0, 0, ""};
     struct release release = {0, 0, 0, 0, 0, 0};
     struct content content = content_of(table);
     if (answer.status == JYRMEKKO_TIME_TOO_LATE && answer.first == script.length) {
@@ -242,7 +261,7 @@ bool is_of_table(uint32_t status)
 
 struct fault fault_of(struct answer answer, struct bytes table, struct bytes script)
 {
-    struct fault fault = {answer.status, answer.first, NULL, 0, NULL, 0, 0, 0, ""};
+    struct fault fault = {answer.status, answer.first, answer.first, NULL, 0, NULL, 0, 0, 0, ""};
     const char *bad = NULL;
     switch (answer.status) {
     case JYRMEKKO_MISSPELLED:
@@ -255,8 +274,7 @@ struct fault fault_of(struct answer answer, struct bytes table, struct bytes scr
         bad = "there are bytes after the last server, or after a server count of 0";
         break;
     case JYRMEKKO_PERIOD_TOO_LONG:
-        bad = "H, the least common multiple of p, all y and all b, is above 1,048,576";
-        break;
+        return fault_of_period(answer, table);
     case JYRMEKKO_NO_ROOM:
         bad = "the log is longer than its buffer";
         break;

@@ -26,8 +26,9 @@ static const struct command {
      "they ask for. How much of that the timer takes and the servers ask for is said too. 'rig explain' says more.\n"},
     {"explain", "rig explain [--bytes|--text] [--json] [--script FILE] TABLE\n",
      "rig explain TABLE                says why: how near a table is to its limits, or which jobs are too much for it\n",
-     "For a feasible table: the share of the processor that rows, servers and timer ask for, the least slack, which is the\n"
-     "smallest number of ticks that any length of time has to spare, and how far the c of each row could grow by itself.\n"
+     "For a feasible table: the share of the processor that rows, servers and timer ask for, how far the c of each row could\n"
+     "grow by itself, and the least slack: how many ticks a length of time has to spare at the least, among the lengths at\n"
+     "which the demand of a row or a server steps up.\n"
      "For an overloaded table: the jobs and units of each row and server in the witness, and the taken ticks. With\n"
      "'--script FILE' the script of these jobs is written, as text. 'rig replay' then shows the late job.\n"},
     {"replay", "rig replay [--bytes|--text] [--json] TABLE SCRIPT [LOG]\n",

@@ -27,10 +27,4 @@ struct room {
 /* Finds the room that a feasible table leaves. Stops the program where the table is not feasible. */
 struct room room_of(const struct content *content);
 
-/*
- * Returns H, the least common multiple of p, all y and all b (docs/RULES.md, 3.4). Stops the program where that is 0 or
- * above its limit, or where a server's a is 0, since no library may accept such a table.
- */
-uint64_t period_of(const struct content *content);
-
 #endif

@@ -53,10 +53,24 @@ uint64_t row_demand(struct row row, uint64_t length);
 uint64_t server_demand(struct server server, uint64_t length);
 uint64_t taken_ticks(const struct content *content, uint64_t length);
 
+uint64_t common_divisor(uint64_t one, uint64_t other);
+
+/* Takes one more number into a least common multiple. Returns 0 where one of the two is 0 or above LARGEST_PERIOD. */
+uint64_t common_multiple(uint64_t multiple, uint64_t number);
+
+enum { LARGEST_PERIOD = 1048576 }; /* H is at most this (docs/RULES.md, 3.4). */
+
+/*
+ * Returns H, the least common multiple of p, all y and all b (docs/RULES.md, 3.4). Stops the program where that is 0 or
+ * above its limit, or where a server's a is 0, since no library may accept such a table.
+ */
+uint64_t period_of(const struct content *content);
+
 /* What a refusal refuses, in the words of the rules (docs/RULES.md, 10.3). */
 struct fault {
     uint32_t status;
     uint64_t place;
+    uint64_t cause;        /* The number that has to be changed starts here. It is the place, but for a H that is too long. */
     const char *of;        /* This is "row", "server", "timer" or "release", or null where it is none of them. */
     uint64_t number;       /* It is the one with this number. The timer's is 0. */
     const char *name;      /* This is the name of the number that is refused, or null where none is out of its range. */
