@@ -88,7 +88,7 @@ void say_refusal(FILE *out, const char *call, struct answer answer, const struct
         fprintf(out, "refused %" PRIu32 " at byte %s of the %s: %s\n", fault.status, grouped(fault.place), file, fault.says);
         fflush(out); /* It comes first where both streams go to one place. */
         if (is_text(input->bytes)) /* It would have been read as text, had --bytes not been said. */
-            fprintf(stderr, "rig: %s could be text: without --bytes it is read as text\n", shown(input->path));
+            fprintf(stderr, "rig: %s could be text: leave out --bytes, or say --text\n", shown(input->path));
     }
 }
 

@@ -78,7 +78,7 @@ static struct input settle(struct reading *reading, bool accepted_as_bytes)
     if (file.form == UNTOLD && !as_json)
         fprintf(stderr, "rig: %s is read as %s\n", shown(file.path), input.form == AS_TEXT ? "text" : "bytes");
     if (input.form == AS_TEXT && input.text.problem != NULL && is_no_text)
-        stop(RIG_CONTENT, "%s is no text: without --text, or with --bytes, it is read as bytes", shown(file.path));
+        stop(RIG_CONTENT, "%s is no text: leave out --text, or say --bytes", shown(file.path));
     if (input.form == AS_TEXT && input.text.problem != NULL)
         stop_at_problem(file.path, &input.text);
     return input;

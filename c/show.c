@@ -6,6 +6,7 @@
 #include "json.h"
 
 #include <inttypes.h>
+#include <stdlib.h>
 #include <string.h>
 
 enum { RELEASE_NUMBERS = 3, MOST_NUMBERS = LOG_NUMBERS };
@@ -153,10 +154,12 @@ static struct dues find_dues(struct bytes table, struct input script)
         while (read_record(&reading) && reading.at <= answer.first)
             before = reading.at;
         script.bytes.length = before;
+        free(log.at);
         log = log_of(table, &script, &answer);
     }
     if (is_replayed(answer.status))
         take_dues(&dues, log);
+    free(log.at);
     return dues;
 }
 

@@ -410,7 +410,7 @@ class File:
         else:
             said.out = f"refused {refusal.number} at byte {refusal.place:,} of the {self.kind}: {refusal.says}\n"
             if is_text(self.data):
-                said.notes += f"rig: {self.path} could be text: without --bytes it is read as text\n"
+                said.notes += f"rig: {self.path} could be text: leave out --bytes, or say --text\n"
 
     def json_of(self, refusal):
         where = self.where.get(refusal.place)
@@ -893,7 +893,7 @@ ROOMY = "0 1\n64\n" + 64 * "1 4096 4096 64\n"
 
 TABLES = [
     "", " ", "#", "\n", "0", "0 1", "0 1\n", "0 1\n0", "0 1\r\n0\r\n", "0 1\r0\r", "0 1\n\r0\n\r", "0 1\n0\n0", "0 1\n0\n1 1 4",
-    "0 1 0", "0 1\n0\nserver 1 4", "\ufeff0 1\n0\n", "\ufeff", "0 \ufeff1\n0\n", "0 1\n1\n1 4 4 2", "0 1\n1\n1 4 4 2\n0",
+    "0 1 0", "0 1 # ä日", "0 1\n# \U0001F600", "0 1\n0\nserver 1 4", "\ufeff0 1\n0\n", "\ufeff", "0 \ufeff1\n0\n", "0 1\n1\n1 4 4 2", "0 1\n1\n1 4 4 2\n0",
     "1 10\n1\n1 4\n", "1 10\n2\n1 4 4 2\n", "1\n1 4 4 2\n", "1 1 4 4 2", "2\n1 4 4 2\n1 6 6 3\n", "0 1\n2\n1 4 4 2\n",
     "0 1\n1\n1 4 4 2\n1 6 6 3\n", "0 1\n1\n1 4 4\n", "0 1\n1\n1 4 4 2 7\n", "0 1\n3\n1 4 4 2\n1 6 6\n1 8 8 1\n", "0 1 2 1 4 4 2",
     "0 1\n2 1 4 4 2\n1 6 6", "0 1\n1000\n1 4 4 2\n", "0 1\n0\nserver\n", "0 1\n0\nserver 1\n", "0 1\n0\nserver 1 4 5\n",
@@ -1028,7 +1028,7 @@ def try_stops():
             (64, "* is a file that is read here: it is not written over", ["replay", text, releases, releases]),
             (64, f"{both} could be a text, and would be accepted as bytes too: *", ["replay", roomy, both]),
             (65, f"{text}:4:1: a script has no servers: *", ["replay", text, text]),
-            (65, f"{data} is no text: without --text, or with --bytes, it is read as bytes", ["verdict", "--text", data]),
+            (65, f"{data} is no text: leave out --text, or say --bytes", ["verdict", "--text", data]),
             (65, f"{text} is no table: *", ["show", "table", "--bytes", text]), (65, f"{data} is no log: *", ["show", "log", data]),
             (65, f"{data} is no script: *", ["show", "script", data]),
             (65, "*: rig show table says where *", ["show", "script", data, log]),
