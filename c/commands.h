@@ -44,7 +44,10 @@ struct input read_script(struct named_file file, struct bytes table, const char 
 /* Reads all of a script's file, as read_script does. */
 struct input read_whole_script(struct named_file file, struct bytes table);
 
-/* Reads a script of which no table is known. Where it could be text, and as bytes some table could accept it, it asks too. */
+/*
+ * Reads a script of which no table is known. Where it could be text, but is no text of a script or has no release, and some
+ * table could accept it as bytes, the program asks too.
+ */
 struct input read_script_alone(struct named_file file);
 
 /* Makes JSON of how a file was read. */

@@ -61,6 +61,22 @@ static bool could_be_bytes(const struct reading *reading)
 }
 
 /*
+ * Says how a file is read whose form was not told. A file of bytes that starts with a digit or a comment, and with some more
+ * text, may be a text that has only a wrong byte, so this byte is named.
+ */
+static void say_form(const struct input *input)
+{
+    enum { SHORTEST = 4 };
+    struct bytes bytes = input->form == AS_BYTES ? input->bytes : nothing;
+    size_t length = length_of_text(bytes);
+    fprintf(stderr, "rig: %s is read as %s", shown(input->path), input->form == AS_TEXT ? "text" : "bytes");
+    if (length >= SHORTEST && (bytes.at[0] == '#' || (bytes.at[0] >= '0' && bytes.at[0] <= '9')))
+        fprintf(stderr, ", since its byte %s is %02X, which is no text in UTF-8: say --text if it is a text", grouped(length),
+                bytes.at[length]);
+    fputc('\n', stderr);
+}
+
+/*
  * Settles in which form a file is taken: as it was told, or else as text where it could be one. Where it could be a text
  * and would be accepted as bytes too, the program stops: nothing that was typed is ever taken for bytes in silence.
  */
@@ -76,7 +92,7 @@ static struct input settle(struct reading *reading, bool accepted_as_bytes)
     if (reading->could_be_text)
         input = reading->text;
     if (file.form == UNTOLD && !as_json)
-        fprintf(stderr, "rig: %s is read as %s\n", shown(file.path), input.form == AS_TEXT ? "text" : "bytes");
+        say_form(&input);
     if (input.form == AS_TEXT && input.text.problem != NULL && is_no_text)
         stop(RIG_CONTENT, "%s is no text: leave out --text, or say --bytes", shown(file.path));
     if (input.form == AS_TEXT && input.text.problem != NULL)
@@ -189,7 +205,8 @@ struct input read_script_alone(struct named_file file)
     reading = start_reading(file, SCRIPT);
     if (could_be_bytes(&reading))
         read_on(&reading.source, SIZE_MAX);
-    return settle(&reading, has_releases(reading.source.content));
+    bool is_good_text = reading.could_be_text && reading.text.bytes.length > 0;
+    return settle(&reading, !is_good_text && has_releases(reading.source.content));
 }
 
 void json_input(const char *name, const struct input *input)

@@ -127,7 +127,7 @@ static void expect_read(const struct reading *reading, const char *path)
 struct dues {
     uint64_t *due;
     uint64_t count;
-    struct fault refused; /* This is what replay refuses in the script, or it says nothing. */
+    struct fault refused; /* This is what replay refuses in the table or the script, or it says nothing. */
 };
 
 /* Puts the due time of each job of a log at its serial. */
@@ -191,7 +191,7 @@ static void print_script(struct reading *reading, struct counts counts, const st
     printf("# %s release%s", grouped(reading->count), plural(reading->count));
 }
 
-static void json_script(struct reading *reading, const struct input *script, struct counts counts, const struct dues *dues)
+static void json_script(struct reading *reading, struct counts counts, const struct dues *dues)
 {
     uint64_t time = 0;
     json_begin("releases", '[');
@@ -208,8 +208,6 @@ static void json_script(struct reading *reading, const struct input *script, str
         json_end();
     }
     json_end();
-    if (dues->refused.says[0] != '\0')
-        json_refusal(&dues->refused, "script", script->form == AS_TEXT ? word_at(&script->text, dues->refused.place) : NULL);
 }
 
 /* Reads how many rows and servers a table has. Stops the program where it can't be read. */
@@ -240,7 +238,12 @@ int show_script(struct named_file script_file, struct named_file table_file)
         dues = find_dues(table.bytes, script);
     } else {
         script = read_script_alone(script_file);
+        if (has_table)
+            dues.refused = fault_of(ask_verdict(table.bytes), table.bytes, script.bytes);
     }
+    bool is_refused = dues.refused.says[0] != '\0', of_table = is_of_table(dues.refused.status);
+    const struct input *refused = of_table ? &table : &script;
+    const char *kind = of_table ? "table" : "script";
     struct reading reading = start_reading(&script_records, script.bytes);
     if (as_json) {
         json_text("kind", "script");
@@ -248,15 +251,17 @@ int show_script(struct named_file script_file, struct named_file table_file)
         if (has_table)
             json_input("table", &table);
         json_number("status", RIG_DONE);
-        json_script(&reading, &script, counts, &dues);
+        json_script(&reading, counts, &dues);
+        if (is_refused)
+            json_refusal(&dues.refused, kind, refused->form == AS_TEXT ? word_at(&refused->text, dues.refused.cause) : NULL);
     } else {
         print_script(&reading, counts, &dues);
     }
     expect_read(&reading, script_file.path);
     if (!as_json) {
         puts(", as far as the file goes");
-        if (dues.refused.says[0] != '\0')
-            printf("# replay refuses this script, %" PRIu32 " at byte %s: %s\n", dues.refused.status,
+        if (is_refused)
+            printf("# replay refuses this %s, %" PRIu32 " at byte %s: %s\n", kind, dues.refused.status,
                    grouped(dues.refused.place), dues.refused.says);
     }
     return RIG_DONE;

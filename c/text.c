@@ -15,14 +15,17 @@ static bool is_space(uint8_t byte)
     return byte == ' ' || (byte >= '\t' && byte <= '\r');
 }
 
+size_t length_of_text(struct bytes content)
+{
+    size_t at = 0;
+    for (size_t size = 1; size > 0 && at < content.length; at += size)
+        size = is_space(content.at[at]) ? 1 : printable(content.at + at, content.length - at);
+    return at;
+}
+
 bool is_text(struct bytes content)
 {
-    for (size_t at = 0, size; at < content.length; at += size) {
-        size = is_space(content.at[at]) ? 1 : printable(content.at + at, content.length - at);
-        if (size == 0)
-            return false;
-    }
-    return content.length > 0;
+    return content.length > 0 && length_of_text(content) == content.length;
 }
 
 static void set_problem(struct text *text, size_t line, size_t column, const char *problem)

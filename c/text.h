@@ -28,7 +28,10 @@ struct text {
 
 enum kind { TABLE, SCRIPT, EITHER };
 
-/* Returns whether bytes could be a text: printable characters and white space, in UTF-8, and at least one of them. */
+/* Returns how many bytes at the start could be a text: printable characters and white space, in UTF-8. */
+size_t length_of_text(struct bytes content);
+
+/* Returns whether all bytes could be a text, and there is at least one. */
 bool is_text(struct bytes content);
 
 /* Reads the words of a source, to its end or to the first problem. */

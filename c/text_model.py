@@ -163,20 +163,26 @@ def spell_text(kind, data):
     return content, where
 
 
-def is_text(data):
-    """Whether bytes could be a text: characters that can be seen, and white space."""
+def length_of_text(data):
+    """How many bytes at the start could be a text: characters that can be seen, and white space."""
     try:
-        return data != b"" and all(char in "\t\n\v\f\r" or not (ord(char) < 32 or 127 <= ord(char) < 160) for char in data.decode())
-    except UnicodeDecodeError:
-        return False
+        chars = data.decode()
+    except UnicodeDecodeError as error:
+        chars = data[:error.start].decode()
+    return len(re.match("[\t\n\v\f\r\x20-\x7e\xa0-\U0010ffff]*", chars).group().encode())
+
+
+def is_text(data):
+    return data != b"" and length_of_text(data) == len(data)
 
 
 # ---- tables (rules 3.1 to 3.20 and 5.1 to 5.19)
 
 class Refusal(Exception):
-    def __init__(self, number, place, says, of=None, which=0, **named):
+    def __init__(self, number, place, says, of=None, which=0, cause=None, **named):
         super().__init__(says)
         self.number, self.place, self.named = number, place, named
+        self.cause = place if cause is None else cause # The number that has to be changed starts here.
         self.of = {of: which} if of in ("row", "server", "release") else {}
         self.says = ("the timer: " if of == "timer" else f"{of} {which:,}: " if of else "") + says
 
@@ -191,6 +197,7 @@ class Table:
     """A table that is read from its bytes. It is refused as the rules say, or it is accepted."""
     def __init__(self, data):
         self.data, self.at = data, 0
+        self.lengths = [] # These are the y and b, with their places.
         self.timer()
         row_count = self.count("row count", MOST_ROWS)
         self.rows = [self.row(i) for i in range(row_count)]
@@ -200,9 +207,12 @@ class Table:
         self.servers = [self.server(i) for i in range(server_count)]
         if self.at < len(data):
             raise Refusal(4, self.at, "there are bytes after the last server, or after a server count of 0")
-        self.period = math.lcm(self.p, *(row[1] for row in self.rows), *(server[1] for server in self.servers))
-        if self.period > 1048576:
-            raise Refusal(5, len(data), "H, the least common multiple of p, all y and all b, is above 1,048,576")
+        self.period = self.p
+        for place, of, which, name, length in self.lengths:
+            self.period = math.lcm(self.period, length)
+            if self.period > 1048576:
+                raise Refusal(5, len(data), f"with its {name}, H, the least common multiple of p, all y and all b, is {self.period:,}; it "
+                              "must be 1 to 1,048,576", of, which, cause=place, name="H", value=self.period, least=1, most=1048576)
 
     def number(self):
         place = self.at
@@ -234,6 +244,7 @@ class Table:
             if not 1 <= value <= most:
                 raise out_of_range(place, name, value, 1, most, "row", which)
             row.append(value)
+            self.lengths += [(place, "row", which, "y", value)] * (name == "y")
         if row[3] > row[2]:
             raise Refusal(16, place, f"c is {row[3]:,}; it must be 1 to {row[2]:,}, which is its d: no processor can give {row[3]:,} "
                           f"units within {some(row[2], 'tick')}", "row", which, name="c", value=row[3], least=1, most=row[2])
@@ -246,6 +257,7 @@ class Table:
         place, b = self.number()
         if not a <= b <= 4096:
             raise out_of_range(place, "b", b, a, 4096, "server", which, why=", and not be below its a")
+        self.lengths.append((place, "server", which, "b", b))
         return a, b
 
     def taken(self, length):
@@ -388,7 +400,10 @@ class File:
         if told == UNTOLD and text and accepted is not None and accepted(data):
             raise Stop(64, f"{path} could be a text, and would be accepted as bytes too: say --text or --bytes before its name")
         if told == UNTOLD:
-            said.notes += f"rig: {path} is read as {'text' if text else 'bytes'}\n"
+            length = length_of_text(data)
+            wrong = "" if text or length < 4 or data[:1] not in b"#0123456789" else \
+                f", since its byte {length:,} is {data[length]:02X}, which is no text in UTF-8: say --text if it is a text"
+            said.notes += f"rig: {path} is read as {'text' if text else 'bytes'}{wrong}\n"
         self.form, self.data, self.where = "text" if text else "bytes", data, {}
         try:
             if text:
@@ -401,7 +416,7 @@ class File:
         """Says a refusal at a place in this file."""
         said.status = said.json["status"] = refusal.number
         said.json.update(answer="refused", refusal=self.json_of(refusal))
-        where = self.where.get(refusal.place)
+        where = self.where.get(refusal.cause)
         number = f"(refusal {refusal.number} at byte {refusal.place:,} of the {self.kind})\n"
         if where:
             said.out = f"{self.path}:{where[0]}:{where[1]}: {refusal.says} {number}"
@@ -413,7 +428,7 @@ class File:
                 said.notes += f"rig: {self.path} could be text: leave out --bytes, or say --text\n"
 
     def json_of(self, refusal):
-        where = self.where.get(refusal.place)
+        where = self.where.get(refusal.cause)
         at = {"line": where[0], "column": where[1]} if where else {}
         return {"number": refusal.number, "file": self.kind, "byte": refusal.place, **at, **refusal.of, **refusal.named,
                 "message": refusal.says}
@@ -548,14 +563,40 @@ def could_be_releases(data):
     return len(numbers) % 3 == 0 and all(row < MOST_ROWS + MOST_SERVERS for row in numbers[1::3])
 
 
+def could_be_bytes_alone(data):
+    """As could_be_releases, for a script without a table. Where its text is good and has releases, it is taken for text."""
+    try:
+        return could_be_releases(data) and spell_text("script", data)[0] == b""
+    except Mistake:
+        return True
+
+
+def counts_of(data):
+    """How many rows and servers a table has, whatever its values are."""
+    numbers, at = [], 0
+    while at < len(data):
+        number, at = number_at(data, at)
+        numbers.append(number)
+    return numbers[2], numbers[3 + 4 * numbers[2]]
+
+
 def show_script(path, told, table_path=None, table_told=UNTOLD):
-    """Shows a script whose numbers can be read, alone or beside a table that is accepted."""
+    """Shows a script whose numbers can be read, alone or beside a table whose numbers can be read."""
     said = Said("show", "script", *told, path, *table_told, *[table_path] * (table_path is not None))
     table = File(said, "table", table_path, table_told or told) if table_path else None
-    accepted = Table(table.data) if table else None
-    script = File(said, "script", path, told, is_played(table.data) if table else could_be_releases)
-    played = Replay(accepted, script.data) if table else None
-    dues = known_dues(played) if played else []
+    rows, servers = counts_of(table.data) if table else (0, 0)
+    refusal, played, dues = None, None, []
+    try:
+        accepted = Table(table.data) if table else None
+    except Refusal as refused:
+        refusal, accepted = table.json_of(refused), None
+        refused_in = "table", refused
+    script = File(said, "script", path, told, is_played(table.data) if accepted else could_be_bytes_alone)
+    if accepted:
+        played = Replay(accepted, script.data)
+        dues = known_dues(played)
+        if played.refusal:
+            refusal, refused_in = script.json_of(played.refusal), ("script", played.refusal)
     said.status = said.json["status"] = 60
     said.json.update(kind="script", releases=[])
     lines, at, time = [["gap", "row", "cost"]], 0, 0
@@ -572,10 +613,10 @@ def show_script(path, told, table_path=None, table_told=UNTOLD):
             release["due"] = dues[len(ends)]
             end += f", due {release['due']:,}"
         end += f", byte {start:,}"
-        if accepted and cells[1] >= len(accepted.rows):
-            server = cells[1] - len(accepted.rows)
-            end += f", server {server:,}" if server < len(accepted.servers) else ", no such row"
-            if server < len(accepted.servers):
+        if table and cells[1] >= rows:
+            server = cells[1] - rows
+            end += f", server {server:,}" if server < servers else ", no such row"
+            if server < servers:
                 release["server"] = server
         said.json["releases"].append(release)
         lines.append([str(cell) for cell in cells])
@@ -584,10 +625,10 @@ def show_script(path, told, table_path=None, table_told=UNTOLD):
     for line, end in zip(lines, [""] + ends):
         said.out += ("   " if end else "#  ") + "  ".join(cell.rjust(width) for cell, width in zip(line, widths)) + end + "\n"
     said.out += f"# {some(len(ends), 'release')}, as far as the file goes\n"
-    if played and played.refusal:
-        refusal = played.refusal
-        said.json["refusal"] = script.json_of(refusal)
-        said.out += f"# replay refuses this script, {refusal.number} at byte {refusal.place:,}: {refusal.says}\n"
+    if refusal:
+        kind, refused = refused_in
+        said.json["refusal"] = refusal
+        said.out += f"# replay refuses this {kind}, {refused.number} at byte {refused.place:,}: {refused.says}\n"
     return said
 
 
@@ -910,7 +951,7 @@ TABLES = [
     "0 1\n0\n\v\fserver\t1\v4", "00 01\n00\n",
 ]
 NO_TEXTS = [b"", b"\0\1\0\0", b"\0\1\0\1\1\x80 ", b"\1\4\0\1\4\5", b"0 1\0", b"0 1\n0\n\xff", b"0 1\n0\n\x7f", b"0 1\n0\n#\xc2\x85",
-            b"0 1\n0\n#\xed\xa0\x80", b"0 1\n0\n#\xe2\x82"]
+            b"0 1\n0\n#\xed\xa0\x80", b"0 1\n0\n#\xe2\x82", b"# Pr\xfcfstand\n0 1\n0\n", b"# \xfc\n0 1\n", b" 0 1\n0\n#\xfc", b"0 1\0", b"0 1"]
 
 ROW = "0 1\n1\n1 4 4 2\nserver 1 4\n"
 SCRIPTS = [(ROW, text) for text in (
@@ -922,7 +963,7 @@ SCRIPTS = [(ROW, text) for text in (
 SCRIPTS += [("0 1\n0\n", "0 0 1"), ("0 1\n0\n", ""), ("0 1\n1\n1 4 4 2", 3 * "0 0 2\n"), ("1 2\n1\n1 4 2 2", "0 0 2\n0 0 1\n"),
             ("3 4\n1\n1 4 4 1\n", "0 0 1\n1 0 1\n"), ("0 1\n2\n1 2 2 2\n1 2 2 2", 30 * "0 0 2\n0 1 2\n0 0 2\n0 1 2\n"),
             ("0 1\n1\n1 4 4 2\nserver 1 1", "0 1 4096\n0 0 2\n0 1 1000"), ("0 1\n1\n1 4096 4096 1", "0 0 1\n5000 0 1\n")]
-REFUSED_TABLES = [("0 0\n0\n", "0 0 1"), ("0 1\n2\n", "0 0 1"), ("0 0\n0\n", "0 0 x")]
+SCRIPTS += [("0 0\n0\n", "0 0 1"), ("0 1\n2\n", "0 0 1"), ("0 0\n0\n", "0 0 x"), ("0 1\n1\n1 4 4 5\nserver 1 4", "0 0 1\n0 1 1\n0 2 1\n")]
 
 
 def try_cases():
@@ -931,14 +972,15 @@ def try_cases():
             expect(f"the table {text!r}", verdict, write("table.txt", text), told, in_json=told == TEXT or i % 4 == 0)
     for data, told in itertools.product(NO_TEXTS, (UNTOLD, BYTES)):
         expect(f"the table {data!r}", verdict, write("table.bytes", data), told)
-    for text in "0 1\n0\n", "9 0 0 0", "# 1":
+    # But for its server count, which is a tab, the last of these would be a table of ten rows.
+    for text in "0 1\n0\n", "9 0 0 0", "# 1", "\t \n" + 10 * " 11 " + "\t":
         expect(f"a text as bytes: {text!r}", verdict, write("table.txt", text), BYTES)
         expect(f"a script as bytes: {text!r}", replay, write("row.txt", ROW), TEXT, write("a.txt", text), BYTES)
-    for table, text in SCRIPTS + REFUSED_TABLES:
+    for table, text in SCRIPTS:
         paths = write("table.txt", table), write("script.txt", text)
         expect(f"the script {text!r}", replay, paths[0], UNTOLD, paths[1], UNTOLD)
-        if (table, text) in SCRIPTS:
-            expect(f"the script {text!r}", show_script, paths[1], UNTOLD, paths[0])
+        expect(f"the script {text!r}", show_script, paths[1], UNTOLD, paths[0])
+        expect(f"the script {text!r}", show_script, paths[1], UNTOLD, words=False)
 
 
 def try_both_forms():
