@@ -61,7 +61,7 @@ static const struct command {
 
 static const char options[] =
     "  --bytes, --text  say how the files after them are to be read. Without them the content tells, and the program says\n"
-    "                   which it took. Where a file would be accepted as both, it asks for one of these options.\n"
+    "                   which it took. Where a text would be accepted as bytes too, it asks for one of these options.\n"
     "  --json           says everything as one JSON object, for programs\n"
     "  --script FILE    explain: writes the script that shows the overload\n"
     "  --               ends the options\n"
