@@ -48,6 +48,15 @@ def number_at(data, at):
     return sum((data[i] & 127) << 7 * (i - at) for i in range(at, end + 1)), end + 1
 
 
+def numbers_of(data):
+    """The numbers of bytes that are well spelled."""
+    at, numbers = 0, []
+    while at < len(data):
+        number, at = number_at(data, at)
+        numbers.append(number)
+    return numbers
+
+
 # ---- texts: words with their lines and columns, and the bytes that they stand for
 
 class Mistake(Exception):
@@ -285,13 +294,6 @@ class Table:
 
     def most_cost(self, row):
         return self.rows[row][3] if row < len(self.rows) else 4096
-
-
-def is_accepted(data):
-    try:
-        return Table(data) is not None
-    except Refusal:
-        return False
 
 
 # ---- replay (rules 4.1 to 4.9, 6.5 to 6.15 and 8.1 to 8.7)
@@ -533,11 +535,7 @@ def show_table(path, told):
     """Shows a table whose numbers can be read, whatever they are."""
     said = Said("show", "table", *told, path)
     file = File(said, "table", path, told)
-    at, numbers = 0, []
-    while at < len(file.data):
-        number, at = number_at(file.data, at)
-        numbers.append(number)
-    s, p, count, rest = *numbers[:3], numbers[3:]
+    s, p, count, *rest = numbers_of(file.data)
     rows, servers = [rest[4 * i:4 * i + 4] for i in range(count)], rest[4 * count + 1:]
     servers = [servers[i:i + 2] for i in range(0, len(servers), 2)]
     said.status = said.json["status"] = 60
@@ -560,11 +558,8 @@ def show_table(path, told):
 
 def could_be_releases(data):
     """Returns whether some table could accept these bytes as a script."""
-    at, numbers = 0, []
     try:
-        while at < len(data):
-            number, at = number_at(data, at)
-            numbers.append(number)
+        numbers = numbers_of(data)
     except BadByte:
         return False
     return len(numbers) % 3 == 0 and all(row < MOST_ROWS + MOST_SERVERS for row in numbers[1::3])
@@ -580,10 +575,7 @@ def could_be_bytes_alone(data):
 
 def counts_of(data):
     """How many rows and servers a table has, whatever its values are."""
-    numbers, at = [], 0
-    while at < len(data):
-        number, at = number_at(data, at)
-        numbers.append(number)
+    numbers = numbers_of(data)
     return numbers[2], numbers[3 + 4 * numbers[2]]
 
 
@@ -765,8 +757,8 @@ def large_table(rng):
     return lines
 
 
-STRAY = ["sample", "servers", "server1", "serv", "SERVER", "x", "-3", "0x10", "1.5", "+1", ";", "ä", "サーバ", "4,096", "1,", ",", "12a",
-         "1,000,000", "4398046511104", "99999999999999999999", "4398046511104,", "99999999999999x"]
+STRAY = ["sample", "servers", "server1", "serv", "SERVER", "x", "-3", "0x10", "1.5", "+1", ";", "ä", "サーバ", "4,096", "1,", ",",
+         "12a", "1,000,000", "4398046511104", "99999999999999999999", "4398046511104,", "99999999999999x"]
 
 
 def with_mistake(rng, lines):
@@ -946,7 +938,8 @@ ROOMY = "0 1\n64\n" + 64 * "1 4096 4096 64\n"
 
 TABLES = [
     "", " ", "#", "\n", "0", "0 1", "0 1\n", "0 1\n0", "0 1\r\n0\r\n", "0 1\r0\r", "0 1\n\r0\n\r", "0 1\n0\n0", "0 1\n0\n1 1 4",
-    "0 1 0", "0 1 # ä日", "0 1\n# \U0001F600", "0 1\n0\nserver 1 4", "\ufeff0 1\n0\n", "\ufeff", "0 \ufeff1\n0\n", "0 1\n1\n1 4 4 2", "0 1\n1\n1 4 4 2\n0",
+    "0 1 0", "0 1 # ä日", "0 1\n# \U0001F600",
+    "0 1\n0\nserver 1 4", "\ufeff0 1\n0\n", "\ufeff", "0 \ufeff1\n0\n", "0 1\n1\n1 4 4 2", "0 1\n1\n1 4 4 2\n0",
     "1 10\n1\n1 4\n", "1 10\n2\n1 4 4 2\n", "1\n1 4 4 2\n", "1 1 4 4 2", "2\n1 4 4 2\n1 6 6 3\n", "0 1\n2\n1 4 4 2\n",
     "0 1\n1\n1 4 4 2\n1 6 6 3\n", "0 1\n1\n1 4 4\n", "0 1\n1\n1 4 4 2 7\n", "0 1\n3\n1 4 4 2\n1 6 6\n1 8 8 1\n", "0 1 2 1 4 4 2",
     "0 1\n2 1 4 4 2\n1 6 6", "0 1\n1000\n1 4 4 2\n", "0 1\n0\nserver\n", "0 1\n0\nserver 1\n", "0 1\n0\nserver 1 4 5\n",
@@ -963,7 +956,8 @@ TABLES = [
     "0 1\n0\n\v\fserver\t1\v4", "00 01\n00\n",
 ]
 NO_TEXTS = [b"", b"\0\1\0\0", b"\0\1\0\1\1\x80 ", b"\1\4\0\1\4\5", b"0 1\0", b"0 1\n0\n\xff", b"0 1\n0\n\x7f", b"0 1\n0\n#\xc2\x85",
-            b"0 1\n0\n#\xed\xa0\x80", b"0 1\n0\n#\xe2\x82", b"# Pr\xfcfstand\n0 1\n0\n", b"# \xfc\n0 1\n", b" 0 1\n0\n#\xfc", b"0 1\0", b"0 1"]
+            b"0 1\n0\n#\xed\xa0\x80", b"0 1\n0\n#\xe2\x82",
+            b"# Pr\xfcfstand\n0 1\n0\n", b"# \xfc\n0 1\n", b" 0 1\n0\n#\xfc", b"0 1\0", b"0 1"]
 
 ROW = "0 1\n1\n1 4 4 2\nserver 1 4\n"
 SCRIPTS = [(ROW, text) for text in (
@@ -1025,11 +1019,13 @@ def try_long_texts():
     expect("a long script", replay, write("table.txt", ROW), TEXT, write("script.txt", text), UNTOLD)
 
 
-def in_json(name):
+def name_in_json(name):
     """Returns a name of a file as it stands in JSON: bytes that are no text, and control characters beyond ASCII, as \\xNN."""
-    shown = name.decode(errors="surrogateescape").encode(errors="surrogateescape").decode(errors="backslashreplace")
-    shown = re.sub(r"\\x([0-9a-f]{2})", lambda found: "\\x" + found[1].upper(), shown) if b"\\" not in name else shown
-    return re.sub("[\x80-\x9f]", lambda found: "".join(f"\\x{byte:02X}" for byte in found[0].encode()), shown)
+    shown = ""
+    for char in name.decode(errors="surrogateescape"):
+        is_odd = "\x80" <= char <= "\x9f" or "\udc80" <= char <= "\udcff"
+        shown += "".join(f"\\x{byte:02X}" for byte in char.encode(errors="surrogateescape")) if is_odd else char
+    return shown
 
 
 def try_names():
@@ -1038,7 +1034,7 @@ def try_names():
         path = os.path.join(FOLDER.encode(), name)
         with open(path, "wb") as file:
             file.write(b"0 1\n0\n")
-        wanted = {"file": os.path.join(FOLDER, in_json(name)), "form": "text"}
+        wanted = {"file": os.path.join(FOLDER, name_in_json(name)), "form": "text"}
         for words in ["verdict", "--json", path], ["show", "table", "--json", path], ["explain", "--json", "--", path]:
             got = parsed(run(*words).stdout)
             check(f"the name {name!r}", isinstance(got, dict) and got["table"] == wanted, got)
