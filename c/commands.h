@@ -97,7 +97,7 @@ int play(struct named_file table, struct named_file script, const char *log_path
 int explain(struct named_file table, const char *script_path);
 int show_table(struct named_file table);
 int show_script(struct named_file script, struct named_file table);
-int show_log(const char *path, struct named_file table, struct named_file script);
+int show_log(struct named_file log, struct named_file table, struct named_file script);
 int spell(const char *text_path, const char *out_path);
 
 /* summary.c: what a log says, row by row. */

@@ -65,7 +65,7 @@ void *resize(void *block, size_t size)
 {
     void *resized = realloc(block, size > 0 ? size : 1);
     if (resized == NULL)
-        stop(RIG_NO_MEMORY, "there is no memory for %zu bytes", size);
+        stop(RIG_NO_MEMORY, "there is no memory for %s bytes", grouped(size));
     return resized;
 }
 

@@ -88,7 +88,7 @@ static int show(const struct named_file *words, size_t count)
     if (strcmp(kind, "script") == 0 && (count == 2 || count == 3))
         return show_script(words[1], count == 3 ? words[2] : none);
     if (strcmp(kind, "log") == 0 && (count == 2 || count == 4))
-        return show_log(words[1].path, count == 4 ? words[2] : none, count == 4 ? words[3] : none);
+        return show_log(words[1], count == 4 ? words[2] : none, count == 4 ? words[3] : none);
     if (count == 2 && strcmp(kind, "table") != 0 && strcmp(kind, "script") != 0 && strcmp(kind, "log") != 0)
         stop(RIG_USAGE, "show takes a table, a script or a log, and not '%s'", shown(kind));
     stop_at_usage("show");

@@ -322,12 +322,15 @@ static void hold_to_replay(const char *path, struct bytes log, struct bytes whol
         stop(RIG_CONTENT, "%s is not the log of this replay: from byte %s on they differ", shown(path), grouped(at));
 }
 
-int show_log(const char *path, struct named_file table, struct named_file script)
+int show_log(struct named_file file, struct named_file table, struct named_file script)
 {
     static struct bytes log;
+    const char *path = file.path;
     const struct replayed *replayed = NULL;
     struct counts counts = {false, 0, 0};
     log = read_file(path, SIZE_MAX);
+    if (file.form == AS_TEXT || (file.form == UNTOLD && is_text(log))) /* A log has a job with the serial 0, which is no text. */
+        stop(RIG_CONTENT, "%s is text, and a log is bytes, as replay writes it", shown(path));
     if (table.path != NULL) {
         replayed = replay_files(table, script, NULL);
         struct content content = content_of(replayed->table.bytes);
@@ -337,9 +340,14 @@ int show_log(const char *path, struct named_file table, struct named_file script
     if (as_json) {
         json_text("kind", "log");
         json_text("log", path);
+        if (replayed != NULL) {
+            json_input("table", &replayed->table);
+            json_input("script", &replayed->script);
+        }
         json_number("status", RIG_DONE);
         json_log(&reading, counts);
-        json_flag("whole", counts.known); /* Where it is not the whole log of the replay, the program stops below. */
+        if (replayed != NULL)
+            json_flag("whole", true); /* Where it is not the whole log of the replay, the program stops below. */
     } else {
         print_log(&reading, counts);
     }

@@ -89,6 +89,10 @@ static void say_wrong_rows(struct text *text, size_t numbers)
                  "there", numbers, plural(numbers), numbers == 1 ? "s" : "");
         return;
     }
+    if (text->words[1].line != text->words[COUNT_AT].line && count_on_line(text, COUNT_AT, numbers) == PER_ROW) {
+        wrong_at(text, COUNT_AT, "the row count is missing: it stands on a line of its own, before the rows");
+        return;
+    }
     uint64_t wanted = text->words[COUNT_AT].value, rows = 0;
     if (numbers > HEAD && text->words[HEAD].line == text->words[COUNT_AT].line) {
         wrong_at(text, COUNT_AT, "the row count is %s, so %s numbers should follow it, and %s do", grouped(wanted),

@@ -2,8 +2,7 @@
 #include "text.h"
 
 static const char server_word[] = "server";
-static const char not_spelled[] = "only decimal numbers, lines 'server a b' after the rows of a table, and comments that "
-                                  "start with #, can be spelled";
+static const char no_word[] = "is no number"; /* What follows is said when the whole word has been read. */
 
 static bool is_digit(uint8_t byte)
 {
@@ -48,7 +47,7 @@ static void put_word(struct text *text)
 static void end_word(struct text *text)
 {
     if (text->letters > 0 && text->letters < sizeof server_word - 1)
-        set_problem(text, text->word.line, text->word.column, not_spelled);
+        set_problem(text, text->word.line, text->word.column, no_word);
     else if (text->letters > 0 || text->in_number)
         put_word(text);
     text->letters = 0;
@@ -58,6 +57,7 @@ static void end_word(struct text *text)
 static void start_word(struct text *text)
 {
     text->word = (struct word){0, false, text->line, text->column, SIZE_MAX};
+    text->word_at = text->at;
 }
 
 static void take_digit(struct text *text, uint8_t digit)
@@ -79,7 +79,7 @@ static void take_letter(struct text *text, uint8_t letter)
         set_problem(text, text->line, text->column, "a number is written without separators: 4096, and not 4,096");
     } else if (text->in_number || text->letters == sizeof server_word - 1 ||
                letter != (uint8_t)server_word[text->letters]) {
-        set_problem(text, text->word.line, text->word.column, not_spelled);
+        set_problem(text, text->word.line, text->word.column, no_word);
     } else {
         text->letters++;
         text->word.is_server = true;
@@ -116,18 +116,46 @@ static size_t length_of_mark(struct source *source)
     return source->content.length >= 3 && at[0] == 0xEF && at[1] == 0xBB && at[2] == 0xBF ? 3 : 0;
 }
 
+/* Returns whether a word that started before this byte goes on there. */
+static bool goes_on(struct bytes content, size_t at)
+{
+    return at < content.length && !is_space(content.at[at]) && content.at[at] != '#';
+}
+
+/* Says which word is no number, as far as it can be shown on a line. The word starts at this byte. */
+static const char *name_word(struct source *source, size_t at)
+{
+    enum { MOST_SHOWN = 24 };
+    static char says[256];
+    size_t length = (size_t)snprintf(says, sizeof says, "'"), end = at + MOST_SHOWN;
+    read_on(source, end + 4); /* The last character that is shown may be as long as four bytes. */
+    struct bytes content = source->content;
+    while (at < end && goes_on(content, at)) {
+        size_t size = printable(content.at + at, content.length - at);
+        if (size == 0)
+            length += (size_t)snprintf(says + length, sizeof says - length, "\\x%02X", content.at[at++]);
+        for (; size > 0; size--)
+            says[length++] = (char)content.at[at++];
+    }
+    snprintf(says + length, sizeof says - length, "%s' %s: a text has decimal numbers, lines 'server a b' after the rows of a "
+             "table, and comments that start with #", goes_on(content, at) ? ".." : "", no_word);
+    return says;
+}
+
 struct text read_text(struct source *source)
 {
-    struct text text = {NULL, 0, 0, 1, 1, {0, false, 0, 0, 0}, 0, false, false, false, NULL, 0, 0};
-    for (size_t at = length_of_mark(source); text.problem == NULL; at++) {
-        if (at == source->content.length)
-            read_on(source, at < 4096 ? 4096 : 2 * at);
-        if (at == source->content.length)
+    struct text text = {NULL, 0, 0, 1, 1, 0, 0, {0, false, 0, 0, 0}, 0, false, false, false, NULL, 0, 0};
+    for (text.at = length_of_mark(source); text.problem == NULL; text.at++) {
+        if (text.at == source->content.length)
+            read_on(source, text.at < 4096 ? 4096 : 2 * text.at);
+        if (text.at == source->content.length)
             break;
-        take_byte(&text, source->content.at[at]);
+        take_byte(&text, source->content.at[text.at]);
     }
     if (text.problem == NULL)
         end_word(&text);
+    if (text.problem == no_word)
+        text.problem = name_word(source, text.word_at);
     return text;
 }
 

@@ -18,6 +18,8 @@ struct text {
     size_t count;
     size_t room;
     size_t line, column;        /* The text has been read up to here. */
+    size_t at;                  /* So many of its bytes have been read. */
+    size_t word_at;             /* The word that the text is in starts at this byte. */
     struct word word;           /* This is the word that the text is in. */
     size_t letters;             /* It is in the word 'server', after so many of its letters. */
     bool in_number, in_comment;

@@ -66,7 +66,7 @@ class Mistake(Exception):
         self.where, self.says = where, says
 
 
-NOT_SPELLED = "only decimal numbers, lines 'server a b' after the rows of a table, and comments that start with #, can be spelled"
+NO_WORD = "is no number: a text has decimal numbers, lines 'server a b' after the rows of a table, and comments that start with #"
 NO_TIMER = ("a table starts with s and p of its timer: put them on a line in front of the row count, '0 1' where the rig has no "
             "timer")
 
@@ -92,8 +92,13 @@ class Words:
         if digits and word[len(digits):].startswith(","):
             raise Mistake((line, column + len(digits)), "a number is written without separators: 4096, and not 4,096")
         if digits != word:
-            raise Mistake((line, column), NOT_SPELLED)
+            raise Mistake((line, column), f"'{self.shortened(word)}' {NO_WORD}")
         return int(digits)
+
+    def shortened(self, word):
+        """The characters that start in the first 24 bytes of a word."""
+        end = next((i for i in range(len(word)) if len(word[:i].encode()) >= 24), len(word))
+        return word if end == len(word) else word[:end] + ".."
 
     def at(self, word):
         return self.where[word] if word < len(self.where) else self.end
@@ -116,6 +121,8 @@ def expect_row_count(text, front):
     if front < 3:
         raise Mistake(text.at(front), "a table starts with s and p of its timer and its row count, and only "
                       f"{some(front, 'number')} stand{'s' if front == 1 else ''} there")
+    if line[1] != line[2] and [line[word] for word in range(front)].count(line[2]) == 4:
+        raise Mistake(text.at(2), "the row count is missing: it stands on a line of its own, before the rows")
     if front > 3 and line[3] == line[2]:
         raise Mistake(text.at(2), f"the row count is {words[2]:,}, so {4 * words[2]:,} numbers should follow it, and {front - 3:,} do")
     rows = 0
@@ -640,7 +647,12 @@ def show_log(path, log, table):
         if table and job[1] >= len(table[2].rows):
             shown["server"] = job[1] - len(table[2].rows)
         jobs.append(shown)
-    said.json.update(kind="log", log=path, jobs=jobs, late=sum(job["late"] for job in jobs), whole=bool(table))
+    said.json.update(kind="log", log=path, jobs=jobs, late=sum(job["late"] for job in jobs))
+    for kind, file in zip(("table", "script"), table or ()):
+        with open(file, "rb") as content:
+            said.json[kind] = {"file": file, "form": "text" if is_text(content.read()) else "bytes"}
+    if table:
+        said.json["whole"] = True
     return said
 
 
