@@ -302,13 +302,14 @@ fn choose(terms: &[u64; ROOM], count: usize, d: u64, period: u64, growth: u64) -
     Choice { step, looks }
 }
 
-// So many terms and more are searched by blocks where the other ways are thought to need many looks: the cost of a block does not grow with the terms.
+// So many terms and more are searched by blocks where a 24th of the period's lengths or more would be looked at: the cost of a block does not grow with the
+// terms. Looks at fewer terms are cheaper, so that these are searched by blocks where a 7th or more would be looked at.
 const MANY: usize = 12;
 
-// Whether the lengths are searched by blocks: there are many terms, and more looks than a 24th of the period's lengths would be needed.
+// Whether the lengths are searched by blocks. Nothing rests on the answer.
 fn by_blocks(count: usize, period: u64, looks: u64) -> bool {
     if count < MANY {
-        return false;
+        return period / 7 < looks;
     }
     period / 24 < looks
 }
