@@ -4,19 +4,21 @@
 // to 5.8.)
 use crate::blocks::blocks;
 use crate::descent::first;
+use crate::lifts::lowered;
+use crate::lifts::turn_of;
 use crate::terms::GROUP;
 use crate::terms::ROOM;
 use crate::terms::held_demand;
 use crate::terms::past;
 use crate::terms::put_term;
 ghost use mathlib.Core.Path.{_≡_};
-ghost use Prim.Native.Nat.{_+_, _≤_};
+ghost use Prim.Native.Nat.{_+_, _≤_, _<_};
 ghost use Rattle.theory.specs.Curves.{Curve, FitsUpTo};
 ghost use Rattle.theory.specs.Descent.{raised};
 ghost use Rattle.theory.specs.Parts.{takenIn, leftOut, partAndLine};
 ghost use Rattle.table.specs.Limits.{maxD, maxPeriod};
 ghost use Rattle.verdict.specs.HeldTerms.{maxSearched, heldDemand, Held};
-ghost use Rattle.verdict.specs.HeldParts.{Repeats, IsPart, GoodLine, WalkFound, maxOver};
+ghost use Rattle.verdict.specs.HeldParts.{Repeats, IsPart, GoodLine, LooksSettle, SettledFrom, WalkFound, maxOver};
 ghost use Rattle.verdict.specs.QuickVerdict.{LargestOrNone, SmallestOrNone};
 
 // A period below this is searched by descent alone.
@@ -28,6 +30,9 @@ const MOST_OVER: u64 = 64;
 // A period is divided into at most so many parts.
 const MOST_PARTS: u64 = 4096;
 
+// About so many lengths of a class are looked at to see from which one on all of them fit.
+const LOOKS_IN_CLASS: u64 = 32;
+
 // The part of a demand that repeats itself every P, as an array of terms, and the line above the rest. In a length L the line's height is (slope · L + lift)/H.
 struct Part {
     terms: [u64; ROOM],
@@ -36,9 +41,11 @@ struct Part {
     lift: u64,
 }
 
-// The P that was chosen, or 0 if none was, and about how many looks at lengths the search will need.
+// The P that was chosen, or 0 if none was; the lengths after which what its part leaves out repeats itself, or 0 where its line is not lowered; and about how
+// many looks at lengths the search will need.
 struct Choice {
     step: u64,
+    turn: u64,
     looks: u64,
 }
 
@@ -168,8 +175,74 @@ fn walk(terms: &[u64; ROOM], count: usize, step: u64, from: u64, best: u64) -> u
     best
 }
 
-// The smallest length of the period after d that fails, or 0 if none does, by the classes of a step. (5.8)
-fn classes(terms: &[u64; ROOM], count: usize, d: u64, period: u64, growth: u64, step: u64) -> u64
+// The first length of some of a class, from its smallest length on, at which a look shows that it and the later ones fit, or `best` if none is below `best`.
+fn settled_from(
+    terms: &[u64; ROOM],
+    count: usize,
+    slope: u64,
+    lift: u64,
+    period: u64,
+    extra: u64,
+    step: u64,
+    from: u64,
+    best: u64,
+) -> u64
+    requires { ⌜ (Held (now terms) count) × (GoodLine slope lift period) × (period ≤ maxPeriod) × (extra ≤ maxSearched) × (1 ≤ step) × (step ≤ period)
+        × (best ≤ maxSearched + 1) ⌝ }
+    ensures { λ r. ⌜ SettledFrom (raised (partAndLine (heldDemand (now (terms .entry)) count) period slope lift) extra) step from best r ⌝ }
+{
+    let jump = (period / step / LOOKS_IN_CLASS + 1) * step;
+    let mut at = from;
+    while at < best {
+        let demand = part_demand(terms, count, slope, lift, period, at) + extra;
+        if demand <= at {
+            return at;
+        }
+        at += jump;
+    }
+    best
+}
+
+// The smallest length of a class that is below `best` and fails, or `best` if none does. Only the lengths before one at which a look settles the later ones are
+// walked along.
+fn walk_class(
+    terms: &[u64; ROOM],
+    count: usize,
+    part: &[u64; ROOM],
+    size: usize,
+    slope: u64,
+    lift: u64,
+    period: u64,
+    extra: u64,
+    d: u64,
+    step: u64,
+    from: u64,
+    best: u64,
+) -> u64
+    requires { ⌜ (Held (now terms) count) × (Held (now part) size) × (GoodLine slope lift period) × (period ≤ maxPeriod) × (extra ≤ maxSearched)
+        × (d ≤ maxD) × (1 ≤ step) × (step ≤ period) × (d < from) × (best ≤ d + period + 1)
+        × (LooksSettle (heldDemand (now terms) count) (raised (partAndLine (heldDemand (now part) size) period slope lift) extra) d step period) ⌝ }
+    ensures { λ r. ⌜ WalkFound (heldDemand (now (terms .entry)) count) step from best r ⌝ }
+{
+    let end = settled_from(part, size, slope, lift, period, extra, step, from, best);
+    let found = walk(terms, count, step, from, end);
+    if found < end {
+        return found;
+    }
+    best
+}
+
+// The smallest length of the period after d that fails, or 0 if none does, by the classes of a step. The line of its part is lowered by looks at the lengths up
+// to d + turn. (5.8)
+fn classes(
+    terms: &[u64; ROOM],
+    count: usize,
+    d: u64,
+    period: u64,
+    growth: u64,
+    step: u64,
+    turn: u64,
+) -> u64
     requires { ⌜ (Held (now terms) count) × (d ≤ maxD) × (1 ≤ period) × (period ≤ maxPeriod) × (growth ≤ period + maxOver) × (1 ≤ step) × (step ≤ period)
         × (Repeats (now terms) count d period) × (Curve (heldDemand (now terms) count) d period growth) ⌝ }
     ensures { λ r. ⌜ SmallestOrNone (heldDemand (now (terms .entry)) count) (d + 1) (d + period) r ⌝ }
@@ -178,7 +251,19 @@ fn classes(terms: &[u64; ROOM], count: usize, d: u64, period: u64, growth: u64, 
     let taken = part.terms;
     let size = part.count;
     let slope = part.slope;
-    let lift = part.lift;
+    let line = part.lift;
+    let lift = lowered(
+        terms,
+        count,
+        &taken,
+        size,
+        slope,
+        line,
+        period,
+        d,
+        step,
+        turn,
+    );
     let extra = past(growth, period);
     let mut best = d + period + 1;
     let mut top = d + step;
@@ -187,7 +272,20 @@ fn classes(terms: &[u64; ROOM], count: usize, d: u64, period: u64, growth: u64, 
         if found == 0 {
             top = d;
         } else {
-            best = walk(terms, count, step, found, best);
+            best = walk_class(
+                terms,
+                count,
+                &taken,
+                size,
+                slope,
+                lift,
+                period,
+                extra,
+                d,
+                step,
+                found,
+                best,
+            );
             top = found - 1;
         }
     }
@@ -216,8 +314,8 @@ fn share(length: u64, demand: u64) -> u64
     64 / (length - demand + 1)
 }
 
-// About how many looks a search of a period needs with a part that repeats itself every `step`. Samples of its lengths tell how far one look reaches, and how
-// many classes have to be walked along. Nothing rests on the answer.
+// About how many looks a search of a period needs with a part that repeats itself every `step`. Samples of the first `range` lengths after d tell how far one
+// look reaches, and how many lengths have to be walked along. Nothing rests on the answer.
 fn guess(
     terms: &[u64; ROOM],
     count: usize,
@@ -227,9 +325,10 @@ fn guess(
     extra: u64,
     d: u64,
     step: u64,
+    range: u64,
 ) -> u64
-    requires { ⌜ (Held (now terms) count) × (GoodLine slope lift period) × (64 ≤ period) × (period ≤ maxPeriod) × (extra ≤ maxOver) × (d ≤ maxD) × (1 ≤ step)
-        × (step ≤ period) ⌝ }
+    requires { ⌜ (Held (now terms) count) × (GoodLine slope lift period) × (64 ≤ period) × (period ≤ maxPeriod) × (extra ≤ maxOver) × (d ≤ maxD) × (step ≤ period)
+        × (1 ≤ range) × (range ≤ period) ⌝ }
 {
     let mut samples = period / 64;
     if 1024 < samples {
@@ -241,7 +340,7 @@ fn guess(
     let mut n: u64 = 0;
     while n < samples {
         x = (x * 1103515245 + 12345) % 2147483648;
-        let length = sample(x, d, step);
+        let length = sample(x, d, range);
         let demand = part_demand(terms, count, slope, lift, period, length) + extra;
         n += 1;
         sum += share(length, demand);
@@ -255,28 +354,51 @@ fn guess(
     step * sum / 64 / n + (bad + 1) * period / n
 }
 
-// About how many looks a search by the classes of a step needs. Nothing rests on the answer.
-fn guess_part(terms: &[u64; ROOM], count: usize, d: u64, period: u64, growth: u64, step: u64) -> u64
+// About how many looks a search by the classes of a step needs, with the line of its part lowered by looks at the lengths up to d + turn. Nothing rests on the
+// answer.
+fn guess_part(
+    terms: &[u64; ROOM],
+    count: usize,
+    d: u64,
+    period: u64,
+    growth: u64,
+    step: u64,
+    turn: u64,
+    range: u64,
+) -> u64
     requires { ⌜ (Held (now terms) count) × (d ≤ maxD) × (64 ≤ period) × (period ≤ maxPeriod) × (growth ≤ period + maxOver) × (1 ≤ step) × (step ≤ period)
-        × (Repeats (now terms) count d period) × (Curve (heldDemand (now terms) count) d period growth) ⌝ }
+        × (Repeats (now terms) count d period) × (Curve (heldDemand (now terms) count) d period growth) × (1 ≤ range) × (range ≤ period) ⌝ }
 {
     let part = part_of(terms, count, step, period);
     let taken = part.terms;
     let size = part.count;
     let slope = part.slope;
-    let lift = part.lift;
+    let line = part.lift;
+    let lift = lowered(
+        terms,
+        count,
+        &taken,
+        size,
+        slope,
+        line,
+        period,
+        d,
+        step,
+        turn,
+    );
     let extra = past(growth, period);
-    guess(&taken, size, slope, lift, period, extra, d, step)
+    guess(&taken, size, slope, lift, period, extra, d, step, range)
 }
 
-// The step with which a search by classes is thought to need the fewest looks, or 0 where a descent over all lengths is thought to need no more.
+// The step with which a search by classes is thought to need the fewest looks, or 0 where a descent over all lengths is thought to need no more. No line is
+// lowered.
 fn choose(terms: &[u64; ROOM], count: usize, d: u64, period: u64, growth: u64) -> Choice
     requires { ⌜ (Held (now terms) count) × (d ≤ maxD) × (64 ≤ period) × (period ≤ maxPeriod) × (growth ≤ period + maxOver)
         × (Repeats (now terms) count d period) × (Curve (heldDemand (now terms) count) d period growth) ⌝ }
     ensures { λ r. ⌜ r .step ≤ period ⌝ }
 {
     let extra = past(growth, period);
-    let mut looks = guess(terms, count, 0, 0, period, extra, d, period);
+    let mut looks = guess(terms, count, 0, 0, period, extra, d, period, period);
     let mut step: u64 = 0;
     let mut parts = period / 64;
     if MOST_PARTS < parts {
@@ -284,14 +406,18 @@ fn choose(terms: &[u64; ROOM], count: usize, d: u64, period: u64, growth: u64) -
     }
     while 2 <= parts {
         if looks <= period / 32 {
-            return Choice { step, looks };
+            return Choice {
+                step,
+                turn: 0,
+                looks,
+            };
         }
         let shorter = period / parts;
         let rest = period % parts;
         parts -= 1;
         if rest == 0 {
             if shorter / 8 < looks {
-                let fewer = guess_part(terms, count, d, period, growth, shorter);
+                let fewer = guess_part(terms, count, d, period, growth, shorter, 0, shorter);
                 if fewer < looks {
                     looks = fewer;
                     step = shorter;
@@ -299,17 +425,71 @@ fn choose(terms: &[u64; ROOM], count: usize, d: u64, period: u64, growth: u64) -
             }
         }
     }
-    Choice { step, looks }
+    Choice {
+        step,
+        turn: 0,
+        looks,
+    }
+}
+
+// The choice among the steps with lowered lines, where the ones without need many looks. Looks at lengths are spent on lowering lines, but no more than `room`
+// of them.
+fn choose_lowered(
+    terms: &[u64; ROOM],
+    count: usize,
+    d: u64,
+    period: u64,
+    growth: u64,
+    step0: u64,
+    looks0: u64,
+) -> Choice
+    requires { ⌜ (Held (now terms) count) × (d ≤ maxD) × (64 ≤ period) × (period ≤ maxPeriod) × (growth ≤ period + maxOver)
+        × (Repeats (now terms) count d period) × (Curve (heldDemand (now terms) count) d period growth) × (step0 ≤ period) ⌝ }
+    ensures { λ r. ⌜ r .step ≤ period ⌝ }
+{
+    let mut step = step0;
+    let mut turn: u64 = 0;
+    let mut looks = looks0;
+    let mut room = period / 8 / (count as u64 + 8);
+    let mut parts = period / 64;
+    if MOST_PARTS < parts {
+        parts = MOST_PARTS;
+    }
+    while 2 <= parts {
+        if looks <= period / 32 {
+            return Choice { step, turn, looks };
+        }
+        let shorter = period / parts;
+        let rest = period % parts;
+        let number = parts;
+        parts -= 1;
+        if rest == 0 {
+            if shorter / 8 < looks {
+                let left = past(room, d);
+                let found = turn_of(terms, count, shorter, number, left);
+                if 0 < found {
+                    room = past(left, found);
+                    let fewer = guess_part(terms, count, d, period, growth, shorter, found, period);
+                    if fewer < looks {
+                        looks = fewer;
+                        step = shorter;
+                        turn = found;
+                    }
+                }
+            }
+        }
+    }
+    Choice { step, turn, looks }
 }
 
 // So many terms and more are searched by blocks where a 24th of the period's lengths or more would be looked at: the cost of a block does not grow with the
-// terms. Looks at fewer terms are cheaper, so that these are searched by blocks where a 7th or more would be looked at.
+// terms. Looks at fewer terms are cheaper, so that these are searched by blocks where a 5th or more would be looked at.
 const MANY: usize = 12;
 
 // Whether the lengths are searched by blocks. Nothing rests on the answer.
 fn by_blocks(count: usize, period: u64, looks: u64) -> bool {
     if count < MANY {
-        return period / 7 < looks;
+        return period / 5 < looks;
     }
     period / 24 < looks
 }
@@ -320,10 +500,12 @@ fn choose_way(terms: &[u64; ROOM], count: usize, d: u64, period: u64, growth: u6
         × (Repeats (now terms) count d period) × (Curve (heldDemand (now terms) count) d period growth) ⌝ }
     ensures { λ r. ⌜ r .step ≤ period ⌝ }
 {
-    let choice = choose(terms, count, d, period, growth);
+    let early = choose(terms, count, d, period, growth);
+    let choice = choose_lowered(terms, count, d, period, growth, early.step, early.looks);
     if by_blocks(count, period, choice.looks) {
         return Choice {
             step: 0,
+            turn: 0,
             looks: choice.looks,
         };
     }
@@ -379,5 +561,5 @@ pub(crate) fn period_search(
     if 0 < sooner {
         return sooner;
     }
-    classes(terms, count, d, period, growth, choice.step)
+    classes(terms, count, d, period, growth, choice.step, choice.turn)
 }

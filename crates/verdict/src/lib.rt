@@ -3,6 +3,7 @@
 mod blocks;
 mod classes;
 mod descent;
+mod lifts;
 mod terms;
 
 use crate::descent::search;

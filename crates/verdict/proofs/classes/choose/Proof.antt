@@ -27,6 +27,7 @@ guess-requires c κs =
       p .1,
       omega arith,
       omega arith,
+      omega arith,
     )
 
 loop-holds : tie.Need-loop-holds Inv-loop μ-loop
@@ -52,7 +53,7 @@ guess-part-requires c κs =
     let two : 1 ≤ k .parts = omega arith in
     let whole : 1 * k .parts ≤ a .period = omega (arith, k .inv .1) in
     let some : 1 ≤ a .period / k .parts = le-div-iff-mul-le two .1 whole in
-    (p .0, p .1, p .2, p .3, p .4, some, div-le-self (a .period) (k .parts), p .5, p .6)
+    (p .0, p .1, p .2, p .3, p .4, some, div-le-self (a .period) (k .parts), p .5, p .6, some, div-le-self (a .period) (k .parts))
 
 loop-less : tie.Need-loop-less Inv-loop μ-loop
 loop-less c = omega arith
