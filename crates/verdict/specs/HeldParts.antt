@@ -14,7 +14,7 @@ use Rattle.table.specs.declared.Server.{Server}
 use Rattle.table.specs.declared.Table.{Table}
 use Rattle.table.specs.Tables.{rowsOf, serversOf}
 use Rattle.table.specs.Limits.{maxY, maxPeriod}
-use Rattle.verdict.specs.declared.classes.Part.{Part}
+use Rattle.verdict.specs.declared.parts.Part.{Part}
 use Rattle.verdict.specs.HeldTerms.{groupOf, heldS, heldP, sumBelow, heldDemand, Held}
 
 -- The w of term i.

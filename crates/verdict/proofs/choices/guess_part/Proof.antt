@@ -3,8 +3,8 @@ use borrow.Author.Needs.{needs}
 use native.Mathlib.Omega.{arith}
 use Rattle.verdict.proofs.HeldParts.{made-in-parts, made-good-line}
 use Rattle.verdict.proofs.LowerLines.{lower-good-line}
-use Rattle.verdict.proofs.classes.guess_part.Statement.{statement}
-use Rattle.verdict.proofs.classes.guess_part.Tie as tie
+use Rattle.verdict.proofs.choices.guess_part.Statement.{statement}
+use Rattle.verdict.proofs.choices.guess_part.Tie as tie
 
 part-of-requires : tie.Need-part-of-requires
 part-of-requires c κs = search needs

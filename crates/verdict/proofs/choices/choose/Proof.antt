@@ -4,8 +4,8 @@ use native.Mathlib.Omega.{arith}
 use Prim.Native.Nat.{_*_, _/_, _≤_}
 use mathlib.Core.Logic.{⊎-elim}
 use native.Mathlib.Nat.{div-le-self, le-div-iff-mul-le}
-use Rattle.verdict.proofs.classes.choose.Statement.{statement}
-use Rattle.verdict.proofs.classes.choose.Tie as tie
+use Rattle.verdict.proofs.choices.choose.Statement.{statement}
+use Rattle.verdict.proofs.choices.choose.Tie as tie
 
 abbrev Inv-loop : tie.InvT-loop
 Inv-loop terms count d period growth extra looks₀ step₀ parts₀ looks step parts = (step ≤ period) × (parts ≤ period)

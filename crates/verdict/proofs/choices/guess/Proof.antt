@@ -6,8 +6,8 @@ use mathlib.Core.Logic.{⊎-elim}
 use native.Mathlib.Nat.{div-le-self, le-trans, mul-le-mul}
 use Rattle.table.specs.Limits.{maxPeriod}
 use Rattle.verdict.proofs.HeldParts.{part-at-most}
-use Rattle.verdict.proofs.classes.guess.Statement.{statement}
-use Rattle.verdict.proofs.classes.guess.Tie as tie
+use Rattle.verdict.proofs.choices.guess.Statement.{statement}
+use Rattle.verdict.proofs.choices.guess.Tie as tie
 
 abbrev Inv-loop : tie.InvT-loop
 Inv-loop terms count slope lift period extra d step range samples₀ bad₀ sum₀ x₀ n₀ samples bad sum x n =

@@ -4,8 +4,8 @@ use native.Mathlib.Omega.{arith}
 use Prim.Native.Nat.{_+_, _*_, _/_, _≤_}
 use mathlib.Core.Logic.{⊎-elim}
 use native.Mathlib.Nat.{div-le-self, le-div-iff-mul-le}
-use Rattle.verdict.proofs.classes.choose_lowered.Statement.{statement}
-use Rattle.verdict.proofs.classes.choose_lowered.Tie as tie
+use Rattle.verdict.proofs.choices.choose_lowered.Statement.{statement}
+use Rattle.verdict.proofs.choices.choose_lowered.Tie as tie
 
 abbrev Inv-loop : tie.InvT-loop
 Inv-loop terms count d period growth step0 looks0 step₀ turn₀ looks₀ room₀ parts₀ step turn looks room parts =
