@@ -1,5 +1,5 @@
--- Lower lines above what a part leaves out. What is left out repeats itself every Q, higher by as much as the line rises in Q. So a line that is above it in the
--- lengths below d + Q is above it in every length. (docs/RULES.md, 5.3 and 5.7.)
+-- Lower lines above what a part leaves out. What is left out repeats itself every Q, higher by as much as the line rises in Q. So a line that is above it in
+-- the lengths below d + Q is above it in every length. (docs/RULES.md, 5.3 and 5.7.)
 use Prim.Native.Nat.{ℕ, zero, suc, _+_, _-_, _*_, _/_, _%_, _≤_, _<_, _∣_}
 use mathlib.Core.Path.{_≡_, ap}
 use mathlib.Core.Logic.{_≢_}

@@ -211,7 +211,8 @@ module _ {f : ℕ → ℕ} {P x best end found : ℕ} (walked : WalkFound f P x 
         let before : end < best = omega (arith, walked .at-most) in
         let n = settled .turn in
         let here : end ≡ x + n * P = settled .here before in
-        let reached : n ≤ k = by-lt k n (λ less. absurd (let next : k + 1 ≤ n = omega arith in let more : (k + 1) * P ≤ n * P = mul-le-mul-right P next in omega arith)) (λ h. h) in
+        let reached : n ≤ k = by-lt k n (λ less. absurd (let next : k + 1 ≤ n = omega arith in let more :
+        (k + 1) * P ≤ n * P = mul-le-mul-right P next in omega arith)) (λ h. h) in
         let whole : k ≡ n + (k - n) = omega arith in
         let turns : k * P ≡ (n + (k - n)) * P = ap (λ (m : ℕ). m * P) whole in
         rest-fits (k - n) k n here turns (settled .looked before) (omega arith));

@@ -55,8 +55,8 @@ fn guess(
     step: u64,
     range: u64,
 ) -> u64
-    requires { ⌜ (Held (now terms) count) × (GoodLine slope lift period) × (64 ≤ period) × (period ≤ maxPeriod) × (extra ≤ maxOver) × (d ≤ maxD) × (step ≤ period)
-        × (1 ≤ range) × (range ≤ period) ⌝ }
+    requires { ⌜ (Held (now terms) count) × (GoodLine slope lift period) × (64 ≤ period) × (period ≤ maxPeriod) × (extra ≤ maxOver) × (d ≤ maxD)
+        × (step ≤ period) × (1 ≤ range) × (range ≤ period) ⌝ }
 {
     let mut samples = period / 64;
     if 1024 < samples {

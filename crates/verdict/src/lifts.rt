@@ -1,6 +1,6 @@
 // Lower lines above what a part leaves out. The line of a part is the sum of its terms' lines, and may be far above the sum of the terms. What is left out
-// repeats itself every Q, where Q is a multiple of the b of each term that is left out. So looks at the lengths up to d + Q tell the lowest line of the same slope
-// that is above it in every length. (docs/RULES.md, 5.3 and 5.7.)
+// repeats itself every Q, where Q is a multiple of the b of each term that is left out. So looks at the lengths up to d + Q tell the lowest line of the same
+// slope that is above it in every length. (docs/RULES.md, 5.3 and 5.7.)
 use crate::terms::GROUP;
 use crate::terms::ROOM;
 use crate::terms::held_demand;

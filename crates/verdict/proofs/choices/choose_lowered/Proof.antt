@@ -43,7 +43,8 @@ past-requires : tie.Need-past-requires Inv-loop μ-loop
 past-requires c κs = search needs
 
 turn-of-requires : tie.Need-turn-of-requires Inv-loop μ-loop
-turn-of-requires c κs = let p = c .before .before .before .before .before .before .before .before .pre in (p .0, omega arith, omega arith, omega (arith, c .past .ensures))
+turn-of-requires c κs = let p = c .before .before .before .before .before .before .before .before .pre in
+    (p .0, omega arith, omega arith, omega (arith, c .past .ensures))
 
 past-requires-2 : tie.Need-past-requires-2 Inv-loop μ-loop
 past-requires-2 c κs = search needs
@@ -62,19 +63,35 @@ loop-less : tie.Need-loop-less Inv-loop μ-loop
 loop-less c = omega arith
 
 loop-again : tie.Need-loop-again Inv-loop μ-loop
-loop-again c = (div-le-self (c .before .before .before .before .before .before .before .before .before .before .before .before .before .args .period) (c .before .before .before .before .before .before .before .before .before .before .before .loop .parts), omega arith, omega (arith, c .before .before .before .before .before .past .ensures, c .before .before .past2 .ensures))
+loop-again c = (
+  div-le-self (c .before .before .before .before .before .before .before .before .before .before .before .before .before .args .period)
+      (c .before .before .before .before .before .before .before .before .before .before .before .loop .parts),
+  omega arith,
+  omega
+      (arith, c .before .before .before .before .before .past .ensures, c .before .before .past2 .ensures),
+)
 
 loop-less-2 : tie.Need-loop-less-2 Inv-loop μ-loop
 loop-less-2 c = omega arith
 
 loop-again-2 : tie.Need-loop-again-2 Inv-loop μ-loop
-loop-again-2 c = (c .before .before .before .before .before .before .before .before .before .before .before .loop .inv .0, omega arith, omega (arith, c .before .before .before .before .before .past .ensures, c .before .before .past2 .ensures))
+loop-again-2 c = (
+  c .before .before .before .before .before .before .before .before .before .before .before .loop .inv .0,
+  omega arith,
+  omega
+      (arith, c .before .before .before .before .before .past .ensures, c .before .before .past2 .ensures),
+)
 
 loop-less-3 : tie.Need-loop-less-3 Inv-loop μ-loop
 loop-less-3 c = omega arith
 
 loop-again-3 : tie.Need-loop-again-3 Inv-loop μ-loop
-loop-again-3 c = (c .before .before .before .before .before .before .before .before .loop .inv .0, omega arith, c .before .before .before .before .before .before .before .before .loop .inv .2)
+loop-again-3 c = (
+  c .before .before .before .before .before .before .before .before .loop .inv .0,
+  omega arith,
+  c .before .before .before .before .before
+      .before .before .before .loop .inv .2,
+)
 
 loop-less-4 : tie.Need-loop-less-4 Inv-loop μ-loop
 loop-less-4 c = omega arith

@@ -32,7 +32,8 @@ guess-requires c κs =
     let p = c .before .before .before .before .before .before .pre in
     let is = c .before .before .before .before .before .part-of .ensures in (
       is .held,
-      lower-good-line (made-good-line (p .0) (p .7) (c .before .before .before .before .before .before .args .step) (p .8) is (omega arith) (p .3) (p .4)) (c .before .before .lowered .ensures .0),
+      lower-good-line (made-good-line (p .0) (p .7) (c .before .before .before .before .before .before .args .step) (p .8) is (omega arith) (p .3) (p .4))
+          (c .before .before .lowered .ensures .0),
       p .2,
       p .3,
       omega (arith, c .before .past .ensures),

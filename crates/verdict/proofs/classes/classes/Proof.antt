@@ -56,8 +56,14 @@ descend-part-requires : tie.Need-descend-part-requires Inv-loop μ-loop
 descend-part-requires c κs =
     let p = c .before .before .before .before .before .before .before .before .pre in
     let is = c .before .before .before .before .before .before .before .part-of .ensures in
-    let line = made-good-line (p .0) (p .7) (c .before .before .before .before .before .before .before .before .args .step) (p .8) is (p .2) (p .3) (p .4) in
-    (is .held, lower-good-line line (c .before .before .before .before .lowered .ensures .0), omega (arith, c .before .before .before .past .ensures), omega arith, omega arith)
+    let line = made-good-line (p .0) (p .7) (c .before .before .before .before .before .before .before .before .args .step) (p .8) is (p .2) (p .3) (p .4) in (
+      is .held,
+      lower-good-line line (c .before .before .before .before .lowered .ensures .0),
+      omega
+          (arith, c .before .before .before .past .ensures),
+      omega arith,
+      omega arith,
+    )
 
 loop-less : tie.Need-loop-less Inv-loop μ-loop
 loop-less c = omega arith
@@ -65,18 +71,23 @@ loop-less c = omega arith
 loop-again : tie.Need-loop-again Inv-loop μ-loop
 loop-again c =
     let p = c .before .before .before .before .before .before .before .before .before .before .pre in
-    let made = made-in-parts (p .0) (p .7) (c .before .before .before .before .before .before .before .before .before .before .args .step) (p .8) (c .before .before .before .before .before .before .before .before .before .part-of .ensures) in (
+    let made = made-in-parts (p .0) (p .7) (c .before .before .before .before .before .before .before .before .before .before .args .step) (p .8)
+    (c .before .before .before .before .before .before .before .before .before .part-of .ensures) in (
       omega arith,
       omega arith,
-      all-classes-done (c .before .before .before .before .before .past .result) (lower-in-parts (c .before .before .before .before .before .before .lowered .result) made (c .before .before .before .before .before .before .lowered .ensures .1)) (p .2) (p .5)
-          (omega (arith, c .before .before .before .before .before .past .ensures)) (c .before .before .before .before .loop .inv .2) (c .before .descend-part .ensures .none (c .if1 .taken)),
+      all-classes-done (c .before .before .before .before .before .past .result)
+          (lower-in-parts (c .before .before .before .before .before .before .lowered .result) made
+          (c .before .before .before .before .before .before .lowered .ensures .1)) (p .2) (p .5)
+          (omega (arith, c .before .before .before .before .before .past .ensures)) (c .before .before .before .before .loop .inv .2)
+          (c .before .descend-part .ensures .none (c .if1 .taken)),
     )
 
 walk-class-requires : tie.Need-walk-class-requires Inv-loop μ-loop
 walk-class-requires c κs =
     let p = c .before .before .before .before .before .before .before .before .before .before .before .pre in
     let is = c .before .before .before .before .before .before .before .before .before .before .part-of .ensures in
-    let line = made-good-line (p .0) (p .7) (c .before .before .before .before .before .before .before .before .before .before .before .args .step) (p .8) is (p .2) (p .3) (p .4) in
+    let line = made-good-line (p .0) (p .7) (c .before .before .before .before .before .before .before .before .before .before .before .args .step)
+    (p .8) is (p .2) (p .3) (p .4) in
     let made = made-in-parts (p .0) (p .7) (c .before .before .before .before .before .before .before .before .before .before .before .args .step) (p .8) is in
     let some = c .before .before .descend-part .ensures .some (omega arith) in (
       p .0,
@@ -89,7 +100,10 @@ walk-class-requires c κs =
       p .6,
       omega (arith, some .from-lo),
       c .before .before .before .before .before .loop .inv .2 .at-most,
-      looks-settle (c .before .before .before .before .before .before .past .result) (lower-in-parts (c .before .before .before .before .before .before .before .lowered .result) made (c .before .before .before .before .before .before .before .lowered .ensures .1)) (p .2) (omega (arith, c .before .before .before .before .before .before .past .ensures)),
+      looks-settle (c .before .before .before .before .before .before .past .result)
+          (lower-in-parts (c .before .before .before .before .before .before .before .lowered .result) made
+          (c .before .before .before .before .before .before .before .lowered .ensures .1)) (p .2)
+          (omega (arith, c .before .before .before .before .before .before .past .ensures)),
     )
 
 sub-top : tie.Need-sub-top Inv-loop μ-loop
@@ -103,12 +117,16 @@ loop-less-2 c =
 loop-again-2 : tie.Need-loop-again-2 Inv-loop μ-loop
 loop-again-2 c =
     let p = c .before .before .before .before .before .before .before .before .before .before .before .before .pre in
-    let made = made-in-parts (p .0) (p .7) (c .before .before .before .before .before .before .before .before .before .before .before .before .args .step) (p .8) (c .before .before .before .before .before .before .before .before .before .before .before .part-of .ensures) in
+    let made = made-in-parts (p .0) (p .7) (c .before .before .before .before .before .before .before .before .before .before .before .before .args .step)
+    (p .8) (c .before .before .before .before .before .before .before .before .before .before .before .part-of .ensures) in
     let some = c .before .before .before .descend-part .ensures .some (omega arith) in (
       omega (arith, some .from-lo),
       omega (arith, some .to-hi),
-      class-done (c .before .before .before .before .before .before .before .past .result) (lower-in-parts (c .before .before .before .before .before .before .before .before .lowered .result) made (c .before .before .before .before .before .before .before .before .lowered .ensures .1)) (p .2) (p .5)
-          (omega (arith, c .before .before .before .before .before .before .before .past .ensures)) (c .before .before .before .before .before .before .loop .inv .2) some (c .walk-class .ensures),
+      class-done (c .before .before .before .before .before .before .before .past .result)
+          (lower-in-parts (c .before .before .before .before .before .before .before .before .lowered .result) made
+          (c .before .before .before .before .before .before .before .before .lowered .ensures .1)) (p .2) (p .5)
+          (omega (arith, c .before .before .before .before .before .before .before .past .ensures))
+          (c .before .before .before .before .before .before .loop .inv .2) some (c .walk-class .ensures),
     )
 
 add-if2 : tie.Need-add-if2 Inv-loop μ-loop

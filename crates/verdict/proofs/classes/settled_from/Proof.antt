@@ -35,7 +35,12 @@ part-demand-requires : tie.Need-part-demand-requires Inv-loop μ-loop
 part-demand-requires c κs = (c .before .before .pre .0, c .before .before .pre .1, omega arith)
 
 add-demand : tie.Need-add-demand Inv-loop μ-loop
-add-demand c = omega (arith, c .part-demand .ensures, part-at-most (c .before .before .before .pre .0) (c .before .before .before .pre .1) (c .before .before .loop .at) (omega arith))
+add-demand c = omega (
+  arith,
+  c .part-demand .ensures,
+  part-at-most (c .before .before .before .pre .0) (c .before .before .before .pre .1)
+      (c .before .before .loop .at) (omega arith),
+)
 
 returns : tie.Need-returns Inv-loop μ-loop
 returns c = record {
@@ -52,7 +57,12 @@ loop-less : tie.Need-loop-less Inv-loop μ-loop
 loop-less c = omega arith
 
 loop-again : tie.Need-loop-again Inv-loop μ-loop
-loop-again c = record { turn = c .before .before .before .loop .inv .turn + (c .before .before .before .before .args .period / c .before .before .before .before .args .step / 32 + 1); here = omega (arith, c .before .before .before .loop .inv .here) }
+loop-again c = record {
+  turn = c .before .before .before .loop .inv .turn +
+      (c .before .before .before .before .args .period / c .before .before .before .before .args .step / 32 + 1);
+  here = omega
+      (arith, c .before .before .before .loop .inv .here);
+}
 
 returns-2 : tie.Need-returns-2 Inv-loop μ-loop
 returns-2 c = record { at-most = omega arith; turn = 0; here = λ h. absurd (omega arith); looked = λ h. absurd (omega arith) }

@@ -44,7 +44,11 @@ mul-past c =
     )
 
 mul-past-2 : tie.Need-mul-past-2 Inv-loop μ-loop
-mul-past-2 c = omega (arith, line-product-at-most (c .before .before .before .before .before .pre .2) (c .before .before .before .before .loop .at) (omega arith))
+mul-past-2 c = omega (
+  arith,
+  line-product-at-most (c .before .before .before .before .before .pre .2) (c .before .before .before .before .loop .at)
+      (omega arith),
+)
 
 past-requires-2 : tie.Need-past-requires-2 Inv-loop μ-loop
 past-requires-2 c κs = search needs
@@ -61,7 +65,8 @@ loop-again c =
     let k = c .before .before .before .before .before .before .loop in
     let f = heldDemand (a .terms .now) (a .count) (k .at) in
     let part = heldDemand (a .part .now) (a .size) (k .at) in
-    let is : c .before .before .past .result ≡ f - part = omega (arith, c .before .before .past .ensures, c .before .before .before .before .held-demand .ensures, c .before .before .before .held-demand2 .ensures) in
+    let is : c .before .before .past .result ≡ f - part = omega
+    (arith, c .before .before .past .ensures, c .before .before .before .before .held-demand .ensures, c .before .before .before .held-demand2 .ensures) in
     (omega arith, lift-raised (k .inv .1) (c .before .before .before .before .before .before .before .pre .4) is (c .before .past2 .ensures) (c .if1 .taken))
 
 loop-less-2 : tie.Need-loop-less-2 Inv-loop μ-loop
@@ -73,7 +78,8 @@ loop-again-2 c =
     let k = c .before .before .before .before .before .before .loop in
     let f = heldDemand (a .terms .now) (a .count) (k .at) in
     let part = heldDemand (a .part .now) (a .size) (k .at) in
-    let is : c .before .before .past .result ≡ f - part = omega (arith, c .before .before .past .ensures, c .before .before .before .before .held-demand .ensures, c .before .before .before .held-demand2 .ensures) in
+    let is : c .before .before .past .result ≡ f - part = omega
+    (arith, c .before .before .past .ensures, c .before .before .before .before .held-demand .ensures, c .before .before .before .held-demand2 .ensures) in
     (omega arith, lift-stays (k .inv .1) (c .before .before .before .before .before .before .before .pre .4) is (c .before .past2 .ensures) (c .if1 .left))
 
 returns : tie.Need-returns Inv-loop μ-loop

@@ -70,7 +70,8 @@ loop-again c =
     )
 
 returns-3 : tie.Need-returns-3 Inv-loop μ-loop
-returns-3 c = λ said. (let e : c .before .loop .i ≡ c .before .before .before .before .before .args .count = omega (arith, c .before .loop .inv .0) in rw e at (c .before .loop .inv .1))
+returns-3 c = λ said. (let e : c .before .loop .i ≡ c .before .before .before .before .before .args .count = omega
+    (arith, c .before .loop .inv .0) in rw e at (c .before .loop .inv .1))
 
 pub repeats-every-spec : {M : Type 1} → statement M
 repeats-every-spec =
