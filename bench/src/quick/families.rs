@@ -1,7 +1,7 @@
 //! The families of tables whose verdicts are measured beside the plain program. Each table of a family is random, from a
 //! fixed seed. In the names h is the period, and a family is tight where each d is as small as still fits.
 
-use super::tables::{pick, random_rows, row_of, rows_of_cost_1, Period, Table, MOST, MOST_D};
+use super::tables::{pick, random_rows, row_of, rows_of_cost_1, rows_of_cost_to, Period, Table, MOST, MOST_D};
 use crate::cases::{Random, Timer, NO_TIMER};
 use std::ops::RangeInclusive;
 
@@ -59,7 +59,17 @@ pub fn all() -> Vec<Family> {
         large("c 1 and 2 servers, 1 to 1 - 5/h, tight: to 62 rows, y to 128", 12, |random| {
             cost_1(random, 24, 62, 16..=128)
         }),
+        large("c to 4 and 2 servers, 1 to 1 - 5/h, tight: 16 rows, y to 200", 30, cost_to_4),
         large("3 rows and 2 servers, h = 1019 * 1021, 1 to 1 - 5/h, tight", 40, |random| few_divisors(random)?.tight()),
+        large("witness from d + h/64 to h: 16 rows, sum 1 or 1 - 1/h", 20, |random| {
+            one_tick_less(random, |random| full_or_nearly(random, 16)?.tight())
+        }),
+        large("witness from d + h/64 to h: c 1 and 2 servers, 8 rows", 20, |random| {
+            one_tick_less(random, |random| cost_1(random, 8, 8, 8..=64))
+        }),
+        large("witness from d + h/64 to h: 3 rows and 2 servers, h = 1019 * 1021", 20, |random| {
+            one_tick_less(random, |random| few_divisors(random)?.tight())
+        }),
     ];
     for (goal, said) in [(1_000_000, "10^6"), (100_000_000, "10^8"), (16_000_000_000, "1.6 * 10^10")] {
         for rows in [1, 2, 16, 64] {
@@ -71,6 +81,11 @@ pub fn all() -> Vec<Family> {
             let name = format!("late witness, about {said}: {terms}");
             families.push(family(name, LATE, (6, 1), move |random| late(random, goal, rows)));
         }
+    }
+    families.push(family("late witness, sum 1 + 10/h to 1 + 1000/h: 16 rows", LATE, (12, 1), late_and_steep));
+    for (most, longest) in [(8, 64), (62, 128)] {
+        let name = format!("late witness, sum 1 + 1/h: to {most} rows of c 1 and 2 servers, small d");
+        families.push(family(name, LATE, (12, 1), move |random| late_and_dense(random, most, longest)));
     }
     let v8 = |_: &mut Random| Some(Table::new(NO_TIMER, vec![[1, 2, 10, 3]], vec![]));
     families.extend([
@@ -178,6 +193,56 @@ fn cost_1(random: &mut Random, least: usize, most: u64, lengths: RangeInclusive<
     }
     let short = random.below(6);
     filled_by_servers(random, period, Table::new(NO_TIMER, rows, vec![]), short)?.tight()
+}
+
+fn cost_to_4(random: &mut Random) -> Option<Table> {
+    let period = Period::large(random);
+    let rows = rows_of_cost_to(random, 4, &period.divisors(16, 200), 16, 950)?;
+    let short = random.below(6);
+    filled_by_servers(random, period, Table::new(NO_TIMER, rows, vec![]), short)?.tight()
+}
+
+/// The d of one row is one tick less than it has to be, and no length up to D + h/64 shows that.
+fn one_tick_less(random: &mut Random, make: impl Fn(&mut Random) -> Option<Table>) -> Option<Table> {
+    let mut table = make(random)?;
+    let row = random.below(table.rows.len() as u64) as usize;
+    let [_, _, d, c] = table.rows[row];
+    if d == c {
+        return None;
+    }
+    table.rows[row][2] -= 1;
+    let h = table.period();
+    let witness = table.witness()?;
+    (witness > table.largest_d() + h / 64 && witness <= h).then_some(table)
+}
+
+/// The slack falls by 10 to 1,000 in every period.
+fn late_and_steep(random: &mut Random) -> Option<Table> {
+    let period = Period::large(random);
+    let over = 10 + random.below(991);
+    let thousandths = 300 + random.below(600);
+    let rows = random_rows(random, &period.divisors(32, 1_100), 14, thousandths)?;
+    let mut table = Table::new(NO_TIMER, rows, vec![]);
+    let rest = period.rest(random, &table, period.h + over)?;
+    table.rows.extend(rest.map(row_of));
+    let later = over * (2 + random.below(8));
+    for row in &mut table.rows {
+        row[2] = (row[1] + later).min(MOST_D);
+    }
+    table.fits().then_some(table)
+}
+
+/// The slack is small in all lengths, and falls by 1 in every period.
+fn late_and_dense(random: &mut Random, most: u64, longest: u64) -> Option<Table> {
+    let period = Period::large(random);
+    let mut rows = rows_of_cost_1(random, &period.divisors(2, longest), most, 950)?;
+    for row in &mut rows {
+        row[2] += 16 + random.below(8);
+    }
+    let mut table = Table::new(NO_TIMER, rows, vec![]);
+    let rest = period.rest(random, &table, period.h + 1)?;
+    table.servers.extend(rest);
+    table.fits().then_some(table)
 }
 
 fn few_divisors(random: &mut Random) -> Option<Table> {

@@ -72,6 +72,11 @@ impl Table {
         self.slack().iter().all(|&slack| slack >= 0)
     }
 
+    /// Returns the smallest length to H + the largest d that does not fit.
+    pub fn witness(&self) -> Option<u64> {
+        self.slack().iter().position(|&slack| slack < 0).map(|length| length as u64)
+    }
+
     /// Returns the least slack in the period of lengths past the largest d.
     pub fn least_slack(&self) -> i64 {
         self.slack().into_iter().skip(self.largest_d() as usize + 1).min().unwrap_or(0)
@@ -186,13 +191,25 @@ pub fn random_rows(random: &mut Random, lengths: &[u64], count: u64, thousandths
 
 /// Returns rows of cost 1 with y from some lengths, and d = y, at most so many. Their sum is at most so many thousandths.
 pub fn rows_of_cost_1(random: &mut Random, lengths: &[u64], count: u64, thousandths: u64) -> Option<Vec<Row>> {
+    rows_of_cost_to(random, 1, lengths, count, thousandths)
+}
+
+/// Returns rows like these of costs from 1 to `most`.
+pub fn rows_of_cost_to(
+    random: &mut Random,
+    most: u64,
+    lengths: &[u64],
+    count: u64,
+    thousandths: u64,
+) -> Option<Vec<Row>> {
     let mut rows = Vec::new();
     let mut parts = 0.0;
     for _ in 0..count {
         let y = pick(random, lengths)?;
-        if parts + 1.0 / y as f64 <= thousandths as f64 / 1_000.0 {
-            parts += 1.0 / y as f64;
-            rows.push([1, y, y, 1]);
+        let c = if most == 1 { 1 } else { 1 + random.below(most) };
+        if parts + c as f64 / y as f64 <= thousandths as f64 / 1_000.0 {
+            parts += c as f64 / y as f64;
+            rows.push([1, y, y, c]);
         }
     }
     Some(rows)

@@ -23,7 +23,7 @@ use Rattle.theory.proofs.TermCurves.{term-is-a-curve, no-demand-without-weight}
 use Rattle.theory.proofs.Parts.{term-in-parts, timer-in-parts, two-in-parts, part-and-line-never-fall}
 use Rattle.table.specs.Limits.{maxSources, maxX, maxY, maxC, maxPeriod}
 use Rattle.table.specs.Timer.{GoodTimer}
-use Rattle.verdict.specs.declared.classes.Part.{Part}
+use Rattle.verdict.specs.declared.parts.Part.{Part}
 use Rattle.verdict.specs.HeldTerms.{parts, maxSearched, heldEntries, heldS, heldP, heldTerm, sumBelow, heldDemand, withTerm}
 use Rattle.verdict.specs.HeldTerms.{GoodTerm, GoodHeader, Held}
 use Rattle.verdict.specs.HeldParts.{heldW, heldUp, heldDown, heldB, heldA, heldGrowth, timerGrowth, partDemand, lineSlope, lineLift}

@@ -11,6 +11,7 @@ pub mod HeldTerms
 pub mod FilledTerms
 pub mod TableTerms
 pub mod HeldParts
+pub mod LowerLines
 pub mod Searches
 pub mod QuickVerdict
 pub mod BlockRises

@@ -1,15 +1,16 @@
 -- What the loops of the quick search keep: which lengths are known to fit, and which is known to fail. (docs/RULES.md, 5.4 to 5.9.)
-use Prim.Native.Nat.{ℕ, _+_, _-_, _≤_, _<_}
-use mathlib.Core.Path.{_≡_}
+use Prim.Native.Nat.{ℕ, _+_, _-_, _*_, _≤_, _<_}
+use mathlib.Core.Path.{_≡_, ap}
 use native.Mathlib.Omega.{arith}
+use native.Mathlib.Nat.{mul-le-mul-right}
 use Rattle.theory.specs.Curves.{SmallestFailing, FitsUpTo}
 use Rattle.theory.specs.Descent.{NeverFalls, raised, FitsBetween, LargestFrom, SmallestFrom, LeastSlack}
 use Rattle.theory.specs.Parts.{InParts, partAndLine}
 use Rattle.theory.specs.Classes.{SettledAbove, Walked}
 use Rattle.theory.proofs.Cases.{by-lt}
 use Rattle.theory.proofs.Descent.{descent}
-use Rattle.theory.proofs.Classes.{nothing-to-settle, settled-by-looks, settled-by-a-walk, none-found, best-is-smallest, walk-finds, walk-ends}
-use Rattle.verdict.specs.HeldParts.{WalkFound}
+use Rattle.theory.proofs.Classes.{class-fits, nothing-to-settle, settled-by-looks, settled-by-a-walk, none-found, best-is-smallest, walk-finds, walk-ends}
+use Rattle.verdict.specs.HeldParts.{LooksSettle, SettledFrom, WalkFound}
 use Rattle.verdict.specs.QuickVerdict.{LargestOrNone, SmallestOrNone}
 
 -- ---- from the end of a stretch down
@@ -181,6 +182,47 @@ module _ {f : ℕ → ℕ} {P x at best : ℕ} (walked : Walked f P x at best) w
   -- A walk that comes to `best` has found no other.
   pub walk-ended : best ≤ at → WalkFound f P x best best
   walk-ended past = record { at-most = omega arith; smaller-fit = walk-ends f P x at best walked past; fails = λ h. absurd (omega arith) }
+
+-- A look at any length of a class settles the later ones, where f is in parts.
+pub looks-settle : {f part : ℕ → ℕ} {start P H growth slope lift : ℕ} (K : ℕ) → InParts f part start P H growth slope lift → 1 ≤ H → growth ≤ H + K
+    → LooksSettle f (raised (partAndLine part H slope lift) K) start P H
+looks-settle {f} {part} {start} {P} {H} {growth} {slope} {lift} K parts some grows c k from looked turns =
+    class-fits f part start P H growth slope lift K c k parts some grows from looked turns
+
+-- The length `at` is in the class of x.
+pub record InTurn (P x at : ℕ) : Type 0 where
+  pub turn : ℕ
+  pub here : at ≡ x + turn * P
+
+module _ {f : ℕ → ℕ} {P x best end found : ℕ} (walked : WalkFound f P x end found) where
+  -- A failing length before `end` is before `best`.
+  pub found-before-end : found < end → end ≤ best → WalkFound f P x best found
+  found-before-end sooner within =
+      record { at-most = omega arith; smaller-fit = walked .smaller-fit; fails = λ h. walked .fails sooner }
+
+  -- Where none fails before `end`, and a look at `end` settles the later lengths of the class, none fails before `best`.
+  pub none-before-best : (u : ℕ → ℕ) (start H : ℕ) → LooksSettle f u start P H → 1 ≤ P → start < x → best ≤ start + H + 1 → SettledFrom u P x best end
+      → end ≤ found → WalkFound f P x best best
+  none-before-best u start H settles step above within settled none = record {
+    at-most = omega arith;
+    smaller-fit = λ k sooner. by-lt (x + k * P) found
+        (λ early. walked .smaller-fit k early)
+        (λ late.
+        let before : end < best = omega (arith, walked .at-most) in
+        let n = settled .turn in
+        let here : end ≡ x + n * P = settled .here before in
+        let reached : n ≤ k = by-lt k n (λ less. absurd (let next : k + 1 ≤ n = omega arith in let more :
+        (k + 1) * P ≤ n * P = mul-le-mul-right P next in omega arith)) (λ h. h) in
+        let whole : k ≡ n + (k - n) = omega arith in
+        let turns : k * P ≡ (n + (k - n)) * P = ap (λ (m : ℕ). m * P) whole in
+        rest-fits (k - n) k n here turns (settled .looked before) (omega arith));
+    fails = λ h. absurd (omega arith);
+  }
+    where
+      rest-fits : (j k n : ℕ) → end ≡ x + n * P → k * P ≡ (n + j) * P → u end ≤ end → x + k * P < best → f (x + k * P) ≤ x + k * P
+      rest-fits j k n here turns looked sooner =
+          let there : x + k * P ≡ end + j * P = omega arith in
+          rw there (settles end j (omega arith) looked (omega arith))
 
 -- What a search by classes keeps: the classes above `top` are settled, and `best` fails, or none was found and it is past the period.
 pub record ClassesDone (f : ℕ → ℕ) (start P H top best : ℕ) : Type 0 where

@@ -1,7 +1,8 @@
 -- The part of a held demand that repeats itself every P, and the straight line above the rest of it. P is a number of lengths, and may be much shorter than the
 -- period. (docs/RULES.md, 5.3 and 5.7.)
-use Prim.Native.Nat.{ℕ, _+_, _-_, _*_, _/_, _≤_, _<_, _∣_}
+use Prim.Native.Nat.{ℕ, _+_, _-_, _*_, _/_, _%_, _≤_, _<_, _∣_}
 use mathlib.Core.Path.{_≡_}
+use mathlib.Core.Logic.{_≢_}
 use mathlib.Core.List.{List, List·Memᴰ}
 use lib.ListN.{getD}
 use Rattle.theory.specs.Ticks.{timerTakes}
@@ -13,7 +14,7 @@ use Rattle.table.specs.declared.Server.{Server}
 use Rattle.table.specs.declared.Table.{Table}
 use Rattle.table.specs.Tables.{rowsOf, serversOf}
 use Rattle.table.specs.Limits.{maxY, maxPeriod}
-use Rattle.verdict.specs.declared.classes.Part.{Part}
+use Rattle.verdict.specs.declared.parts.Part.{Part}
 use Rattle.verdict.specs.HeldTerms.{groupOf, heldS, heldP, sumBelow, heldDemand, Held}
 
 -- The w of term i.
@@ -94,3 +95,33 @@ pub record WalkFound (f : ℕ → ℕ) (P x best r : ℕ) : Type 0 where
   pub at-most : r ≤ best
   pub smaller-fit : (k : ℕ) → x + k * P < r → f (x + k * P) ≤ x + k * P
   pub fails : r < best → (x ≤ r) × (r < f r)
+
+-- ---- lower lines
+
+-- The b of each term that is left out of the part for P divides Q, and so does the timer's p if the timer is left out. So what is left out repeats itself every
+-- Q.
+pub record LeftOutRepeats (l : List ℕ) (count P Q : ℕ) : Type 0 where
+  pub p-divides : P % heldP l ≢ 0 → heldP l ∣ Q
+  pub b-divides : (i : ℕ) → i < count → P % heldB l i ≢ 0 → heldB l i ∣ Q
+
+-- A line is above what a part leaves out of f, in every length.
+abbrev pub LineAbove : (f part : ℕ → ℕ) (H slope lift : ℕ) → Type 0
+LineAbove f part H slope lift = (L : ℕ) → H * f L ≤ H * part L + (slope * L + lift)
+
+-- The lift r is no larger, and with it the line is above what a part leaves out of f in each length below `end`.
+pub record LowerLift (f part : ℕ → ℕ) (H slope lift end r : ℕ) : Type 0 where
+  pub at-most : r ≤ lift
+  pub above : (L : ℕ) → L < end → H * f L ≤ H * part L + (slope * L + r)
+
+-- ---- the rest of a class
+
+-- A look at any length of a class can show that this length and the later ones of the class fit. Here u is the part, the line and what they are raised by.
+abbrev pub LooksSettle : (f u : ℕ → ℕ) (start P H : ℕ) → Type 0
+LooksSettle f u start P H = (c k : ℕ) → start ≤ c → u c ≤ c → k * P ≤ H → f (c + k * P) ≤ c + k * P
+
+-- A look at r, which is a length of the class of x, shows that it and the later ones fit, or r is `best`.
+pub record SettledFrom (u : ℕ → ℕ) (P x best r : ℕ) : Type 0 where
+  pub at-most : r ≤ best
+  pub turn : ℕ
+  pub here : r < best → r ≡ x + turn * P
+  pub looked : r < best → u r ≤ r

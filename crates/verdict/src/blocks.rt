@@ -1,6 +1,7 @@
 // The quick search for many terms. From one length to the next the demand rises only at the terms' steps and where the timer takes a tick. So the rises at the
 // lengths of a block are filled into an array from each term's steps, and then one pass adds them up and compares each sum with its length. A length costs the
 // same however many terms there are. (docs/RULES.md, 5.4 to 5.9.)
+use crate::terms::GROUP;
 use crate::terms::ROOM;
 use crate::terms::held_demand;
 ghost use mathlib.Core.Path.{_≡_};
@@ -13,9 +14,6 @@ ghost use Rattle.verdict.specs.Blocks.{blockSize, termsDemand, InBlock, 
 
 // The lengths of one block.
 const BLOCK: usize = 4096;
-
-// The numbers of one term's group in the array of terms.
-const GROUP: usize = 6;
 
 // A term's v in a length: the length + up − down, or 0 if that is below 0.
 fn reach(length: u64, up: u64, down: u64) -> u64

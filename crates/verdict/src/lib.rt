@@ -1,8 +1,11 @@
 // The verdict on a table. It is feasible if no length of time, however long, has more demand than length. Otherwise it is overloaded, and the answer is the
 // smallest length that has, with its demand. (docs/RULES.md, section 5.)
 mod blocks;
+mod choices;
 mod classes;
 mod descent;
+mod lifts;
+mod parts;
 mod terms;
 
 use crate::descent::search;

@@ -4,19 +4,35 @@ use native.Mathlib.Omega.{arith}
 use Prim.Native.Nat.{_+_, _≤_}
 use Rattle.verdict.specs.HeldTerms.{heldDemand}
 use Rattle.verdict.proofs.HeldParts.{made-in-parts, made-good-line}
-use Rattle.verdict.proofs.Searches.{ClassesDone, no-class-done, all-classes-done, class-done, no-class-fails, class-fails}
+use Rattle.verdict.proofs.LowerLines.{lower-good-line, lower-in-parts}
+use Rattle.verdict.proofs.Searches.{ClassesDone, looks-settle, no-class-done, all-classes-done, class-done, no-class-fails, class-fails}
 use Rattle.verdict.proofs.classes.classes.Statement.{statement}
 use Rattle.verdict.proofs.classes.classes.Tie as tie
 
 abbrev Inv-loop : tie.InvT-loop
-Inv-loop terms count d period growth step taken size slope lift extra best₀ top₀ best top =
+Inv-loop terms count d period growth step turn taken size slope line lift extra best₀ top₀ best top =
     (d ≤ top) × (top ≤ d + step) × ClassesDone (heldDemand terms count) d step period top best
 
 abbrev μ-loop : tie.MeasureT-loop
-μ-loop terms count d period growth step taken size slope lift extra best₀ top₀ best top = top
+μ-loop terms count d period growth step turn taken size slope line lift extra best₀ top₀ best top = top
 
 part-of-requires : tie.Need-part-of-requires Inv-loop μ-loop
 part-of-requires c κs = search needs
+
+lowered-requires : tie.Need-lowered-requires Inv-loop μ-loop
+lowered-requires c κs =
+    let p = c .before .before .before .pre in
+    let is = c .before .before .part-of .ensures in (
+      p .0,
+      is .held,
+      made-good-line (p .0) (p .7) (c .before .before .before .args .step) (p .8) is (p .2) (p .3) (p .4),
+      p .3,
+      p .1,
+      p .7,
+      made-in-parts (p .0) (p .7) (c .before .before .before .args .step) (p .8) is .rest-below,
+      is .demands,
+      is .is-slope,
+    )
 
 past-requires : tie.Need-past-requires Inv-loop μ-loop
 past-requires c κs = search needs
@@ -31,60 +47,86 @@ add-top : tie.Need-add-top Inv-loop μ-loop
 add-top c = omega arith
 
 loop-holds : tie.Need-loop-holds Inv-loop μ-loop
-loop-holds c = (omega arith, omega arith, no-class-done (c .before .before .before .pre .5))
+loop-holds c = (omega arith, omega arith, no-class-done (c .before .before .before .before .before .pre .5))
 
 add-descend-part : tie.Need-add-descend-part Inv-loop μ-loop
 add-descend-part c = omega arith
 
 descend-part-requires : tie.Need-descend-part-requires Inv-loop μ-loop
 descend-part-requires c κs =
-    let p = c .before .before .before .before .before .before .pre in
-    let is = c .before .before .before .before .before .part-of .ensures in
-    let line = made-good-line (p .0) (p .7) (c .before .before .before .before .before .before .args .step) (p .8) is (p .2) (p .3) (p .4) in
-    (is .held, line, omega (arith, c .before .before .before .past .ensures), omega arith, omega arith)
+    let p = c .before .before .before .before .before .before .before .before .pre in
+    let is = c .before .before .before .before .before .before .before .part-of .ensures in
+    let line = made-good-line (p .0) (p .7) (c .before .before .before .before .before .before .before .before .args .step) (p .8) is (p .2) (p .3) (p .4) in (
+      is .held,
+      lower-good-line line (c .before .before .before .before .lowered .ensures .0),
+      omega
+          (arith, c .before .before .before .past .ensures),
+      omega arith,
+      omega arith,
+    )
 
 loop-less : tie.Need-loop-less Inv-loop μ-loop
 loop-less c = omega arith
 
 loop-again : tie.Need-loop-again Inv-loop μ-loop
 loop-again c =
-    let s = c .before .before .before .before .before .before .before .before in
-    let k = c .before .before .before .before .loop in
-    let over = c .before .before .before .before .before .past in
-    let is = c .before .before .before .before .before .before .before .part-of .ensures in
-    let p = s .pre in (
+    let p = c .before .before .before .before .before .before .before .before .before .before .pre in
+    let made = made-in-parts (p .0) (p .7) (c .before .before .before .before .before .before .before .before .before .before .args .step) (p .8)
+    (c .before .before .before .before .before .before .before .before .before .part-of .ensures) in (
       omega arith,
       omega arith,
-      all-classes-done (over .result) (made-in-parts (p .0) (p .7) (s .args .step) (p .8) is) (p .2) (p .5)
-          (omega (arith, over .ensures)) (k .inv .2) (c .before .descend-part .ensures .none (c .if1 .taken)),
+      all-classes-done (c .before .before .before .before .before .past .result)
+          (lower-in-parts (c .before .before .before .before .before .before .lowered .result) made
+          (c .before .before .before .before .before .before .lowered .ensures .1)) (p .2) (p .5)
+          (omega (arith, c .before .before .before .before .before .past .ensures)) (c .before .before .before .before .loop .inv .2)
+          (c .before .descend-part .ensures .none (c .if1 .taken)),
     )
 
-walk-requires : tie.Need-walk-requires Inv-loop μ-loop
-walk-requires c κs =
-    let s = c .before .before .before .before .before .before .before .before in
-    let k = c .before .before .before .before .loop in
-    (s .pre .0, s .pre .5, omega arith, omega (arith, k .inv .2 .at-most))
+walk-class-requires : tie.Need-walk-class-requires Inv-loop μ-loop
+walk-class-requires c κs =
+    let p = c .before .before .before .before .before .before .before .before .before .before .before .pre in
+    let is = c .before .before .before .before .before .before .before .before .before .before .part-of .ensures in
+    let line = made-good-line (p .0) (p .7) (c .before .before .before .before .before .before .before .before .before .before .before .args .step)
+    (p .8) is (p .2) (p .3) (p .4) in
+    let made = made-in-parts (p .0) (p .7) (c .before .before .before .before .before .before .before .before .before .before .before .args .step) (p .8) is in
+    let some = c .before .before .descend-part .ensures .some (omega arith) in (
+      p .0,
+      is .held,
+      lower-good-line line (c .before .before .before .before .before .before .before .lowered .ensures .0),
+      p .3,
+      omega (arith, c .before .before .before .before .before .before .past .ensures),
+      p .1,
+      p .5,
+      p .6,
+      omega (arith, some .from-lo),
+      c .before .before .before .before .before .loop .inv .2 .at-most,
+      looks-settle (c .before .before .before .before .before .before .past .result)
+          (lower-in-parts (c .before .before .before .before .before .before .before .lowered .result) made
+          (c .before .before .before .before .before .before .before .lowered .ensures .1)) (p .2)
+          (omega (arith, c .before .before .before .before .before .before .past .ensures)),
+    )
 
 sub-top : tie.Need-sub-top Inv-loop μ-loop
-sub-top c = omega (arith, c .before .before .descend-part .ensures .some (omega arith) .from-lo)
+sub-top c = omega (arith, c .before .before .before .descend-part .ensures .some (omega arith) .from-lo)
 
 loop-less-2 : tie.Need-loop-less-2 Inv-loop μ-loop
 loop-less-2 c =
-    let some = c .before .before .descend-part .ensures .some (omega arith) in
+    let some = c .before .before .before .descend-part .ensures .some (omega arith) in
     omega (arith, some .from-lo, some .to-hi)
 
 loop-again-2 : tie.Need-loop-again-2 Inv-loop μ-loop
 loop-again-2 c =
-    let s = c .before .before .before .before .before .before .before .before .before in
-    let k = c .before .before .before .before .before .loop in
-    let over = c .before .before .before .before .before .before .past in
-    let is = c .before .before .before .before .before .before .before .before .part-of .ensures in
-    let p = s .pre in
-    let some = c .before .before .descend-part .ensures .some (omega arith) in (
+    let p = c .before .before .before .before .before .before .before .before .before .before .before .before .pre in
+    let made = made-in-parts (p .0) (p .7) (c .before .before .before .before .before .before .before .before .before .before .before .before .args .step)
+    (p .8) (c .before .before .before .before .before .before .before .before .before .before .before .part-of .ensures) in
+    let some = c .before .before .before .descend-part .ensures .some (omega arith) in (
       omega (arith, some .from-lo),
       omega (arith, some .to-hi),
-      class-done (over .result) (made-in-parts (p .0) (p .7) (s .args .step) (p .8) is) (p .2) (p .5)
-          (omega (arith, over .ensures)) (k .inv .2) some (c .walk .ensures),
+      class-done (c .before .before .before .before .before .before .before .past .result)
+          (lower-in-parts (c .before .before .before .before .before .before .before .before .lowered .result) made
+          (c .before .before .before .before .before .before .before .before .lowered .ensures .1)) (p .2) (p .5)
+          (omega (arith, c .before .before .before .before .before .before .before .past .ensures))
+          (c .before .before .before .before .before .before .loop .inv .2) some (c .walk-class .ensures),
     )
 
 add-if2 : tie.Need-add-if2 Inv-loop μ-loop
@@ -103,6 +145,7 @@ classes-spec =
     Inv-loop
     μ-loop
     part-of-requires
+    lowered-requires
     past-requires
     add-best
     add-best-2
@@ -112,7 +155,7 @@ classes-spec =
     descend-part-requires
     loop-less
     loop-again
-    walk-requires
+    walk-class-requires
     sub-top
     loop-less-2
     loop-again-2

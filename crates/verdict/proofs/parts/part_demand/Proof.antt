@@ -3,8 +3,8 @@ use native.Mathlib.Omega.{arith}
 use borrow.Author.Needs.{needs}
 use Rattle.theory.specs.Lines.{lineAt}
 use Rattle.verdict.proofs.HeldParts.{flat-line, line-product-at-most, part-at-most}
-use Rattle.verdict.proofs.classes.part_demand.Statement.{statement}
-use Rattle.verdict.proofs.classes.part_demand.Tie as tie
+use Rattle.verdict.proofs.parts.part_demand.Statement.{statement}
+use Rattle.verdict.proofs.parts.part_demand.Tie as tie
 
 held-demand-requires : tie.Need-held-demand-requires
 held-demand-requires c κs = search needs

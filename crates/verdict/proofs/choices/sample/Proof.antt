@@ -3,8 +3,8 @@ use native.Mathlib.Omega.{arith}
 use borrow.Author.Needs.{needs}
 use Prim.Native.Nat.{_/_}
 use native.Mathlib.Nat.{mod-lt}
-use Rattle.verdict.proofs.classes.sample.Statement.{statement}
-use Rattle.verdict.proofs.classes.sample.Tie as tie
+use Rattle.verdict.proofs.choices.sample.Statement.{statement}
+use Rattle.verdict.proofs.choices.sample.Tie as tie
 
 add-result : tie.Need-add-result
 add-result c = search needs

@@ -2,8 +2,8 @@
 use borrow.Author.Needs.{needs}
 use Prim.Native.Nat.{_+_, _-_}
 use native.Mathlib.Nat.{div-le-self}
-use Rattle.verdict.proofs.classes.share.Statement.{statement}
-use Rattle.verdict.proofs.classes.share.Tie as tie
+use Rattle.verdict.proofs.choices.share.Statement.{statement}
+use Rattle.verdict.proofs.choices.share.Tie as tie
 
 returns : tie.Need-returns
 returns c = search needs

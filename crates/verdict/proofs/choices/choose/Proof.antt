@@ -4,8 +4,8 @@ use native.Mathlib.Omega.{arith}
 use Prim.Native.Nat.{_*_, _/_, _≤_}
 use mathlib.Core.Logic.{⊎-elim}
 use native.Mathlib.Nat.{div-le-self, le-div-iff-mul-le}
-use Rattle.verdict.proofs.classes.choose.Statement.{statement}
-use Rattle.verdict.proofs.classes.choose.Tie as tie
+use Rattle.verdict.proofs.choices.choose.Statement.{statement}
+use Rattle.verdict.proofs.choices.choose.Tie as tie
 
 abbrev Inv-loop : tie.InvT-loop
 Inv-loop terms count d period growth extra looks₀ step₀ parts₀ looks step parts = (step ≤ period) × (parts ≤ period)
@@ -25,6 +25,7 @@ guess-requires c κs =
       p .3,
       omega (arith, c .past .ensures),
       p .1,
+      omega arith,
       omega arith,
       omega arith,
     )
@@ -52,7 +53,7 @@ guess-part-requires c κs =
     let two : 1 ≤ k .parts = omega arith in
     let whole : 1 * k .parts ≤ a .period = omega (arith, k .inv .1) in
     let some : 1 ≤ a .period / k .parts = le-div-iff-mul-le two .1 whole in
-    (p .0, p .1, p .2, p .3, p .4, some, div-le-self (a .period) (k .parts), p .5, p .6)
+    (p .0, p .1, p .2, p .3, p .4, some, div-le-self (a .period) (k .parts), p .5, p .6, some, div-le-self (a .period) (k .parts))
 
 loop-less : tie.Need-loop-less Inv-loop μ-loop
 loop-less c = omega arith

@@ -9,8 +9,8 @@ use Rattle.verdict.proofs.FilledTerms.{Filled, filled-as}
 use Rattle.verdict.proofs.HeldParts.{part-as-it-was, slope-of-none, slope-as-it-was, slope-with-it, lift-of-none, lift-as-it-was, lift-with-it}
 use Rattle.verdict.proofs.HeldParts.{times-at-most, growth-of-term-at-most, lift-of-term-at-most, timer-growth-within, timer-lift-at-most}
 use Rattle.verdict.proofs.HeldParts.{slope-at-most, lift-within, timer-of-part-filled, term-of-part-filled}
-use Rattle.verdict.proofs.classes.part_of.Statement.{statement}
-use Rattle.verdict.proofs.classes.part_of.Tie as tie
+use Rattle.verdict.proofs.parts.part_of.Statement.{statement}
+use Rattle.verdict.proofs.parts.part_of.Tie as tie
 
 abbrev Inv-loop : tie.InvT-loop
 Inv-loop terms count step period s p takes part₀ slope₀ lift₀ taken₀ i₀ part slope lift taken i =

@@ -2,8 +2,8 @@
 use borrow.Author.Needs.{needs}
 use mathlib.Core.Path.{sym}
 use Rattle.verdict.proofs.HeldParts.{all-taken-in, all-left-out}
-use Rattle.verdict.proofs.classes.left_out.Statement.{statement}
-use Rattle.verdict.proofs.classes.left_out.Tie as tie
+use Rattle.verdict.proofs.parts.left_out.Statement.{statement}
+use Rattle.verdict.proofs.parts.left_out.Tie as tie
 
 rem-if1 : tie.Need-rem-if1
 rem-if1 c = search needs

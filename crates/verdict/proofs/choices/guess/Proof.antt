@@ -6,15 +6,15 @@ use mathlib.Core.Logic.{⊎-elim}
 use native.Mathlib.Nat.{div-le-self, le-trans, mul-le-mul}
 use Rattle.table.specs.Limits.{maxPeriod}
 use Rattle.verdict.proofs.HeldParts.{part-at-most}
-use Rattle.verdict.proofs.classes.guess.Statement.{statement}
-use Rattle.verdict.proofs.classes.guess.Tie as tie
+use Rattle.verdict.proofs.choices.guess.Statement.{statement}
+use Rattle.verdict.proofs.choices.guess.Tie as tie
 
 abbrev Inv-loop : tie.InvT-loop
-Inv-loop terms count slope lift period extra d step samples₀ bad₀ sum₀ x₀ n₀ samples bad sum x n =
+Inv-loop terms count slope lift period extra d step range samples₀ bad₀ sum₀ x₀ n₀ samples bad sum x n =
     (1 ≤ samples) × (samples ≤ 1024) × (n ≤ samples) × (bad ≤ n) × (sum ≤ 64 * n) × (x < 2147483648)
 
 abbrev μ-loop : tie.MeasureT-loop
-μ-loop terms count slope lift period extra d step samples₀ bad₀ sum₀ x₀ n₀ samples bad sum x n = samples - n
+μ-loop terms count slope lift period extra d step range samples₀ bad₀ sum₀ x₀ n₀ samples bad sum x n = samples - n
 
 -- There is at least one sample, and there are not too many.
 first-samples : (c : tie.Joined1 Inv-loop μ-loop) → (1 ≤ c .if1 .samples) × (c .if1 .samples ≤ 1024)
@@ -30,7 +30,7 @@ add-x : tie.Need-add-x Inv-loop μ-loop
 add-x c = omega arith
 
 sample-requires : tie.Need-sample-requires Inv-loop μ-loop
-sample-requires c κs = let p = c .before .before .before .pre in (p .5, p .6, omega arith)
+sample-requires c κs = let p = c .before .before .before .pre in (p .5, p .7, omega arith)
 
 part-demand-requires : tie.Need-part-demand-requires Inv-loop μ-loop
 part-demand-requires c κs = let p = c .before .before .before .before .pre in (p .0, p .1, omega (arith, c .sample .ensures))
@@ -83,7 +83,7 @@ mul-result c =
     let a = c .before .before .before .args in
     let p = c .before .before .before .pre in
     let k = c .before .loop in
-    omega (arith, costs (a .step) (a .period) (k .sum) (k .bad) (k .n) (p .7) (p .3) (k .inv .4) (k .inv .3) (omega arith))
+    omega (arith, costs (a .step) (a .period) (k .sum) (k .bad) (k .n) (p .6) (p .3) (k .inv .4) (k .inv .3) (omega arith))
 
 div-result : tie.Need-div-result Inv-loop μ-loop
 div-result c = omega arith
@@ -96,7 +96,7 @@ mul-result-2 c =
     let a = c .before .before .before .args in
     let p = c .before .before .before .pre in
     let k = c .before .loop in
-    omega (arith, costs (a .step) (a .period) (k .sum) (k .bad) (k .n) (p .7) (p .3) (k .inv .4) (k .inv .3) (omega arith))
+    omega (arith, costs (a .step) (a .period) (k .sum) (k .bad) (k .n) (p .6) (p .3) (k .inv .4) (k .inv .3) (omega arith))
 
 div-result-2 : tie.Need-div-result-2 Inv-loop μ-loop
 div-result-2 c = omega arith
@@ -108,7 +108,7 @@ add-result-2 c =
     let k = c .before .loop in
     omega (
       arith,
-      costs (a .step) (a .period) (k .sum) (k .bad) (k .n) (p .7) (p .3) (k .inv .4) (k .inv .3) (omega arith),
+      costs (a .step) (a .period) (k .sum) (k .bad) (k .n) (p .6) (p .3) (k .inv .4) (k .inv .3) (omega arith),
       div-le-self (a .step * k .sum / 64) (k .n),
       div-le-self ((k .bad + 1) * a .period) (k .n),
     )
