@@ -149,12 +149,16 @@ static void measure_verdict(void)
     static const unsigned six[] = {5, 6, 8, 11, 14, 17}, five[] = {11, 12, 13, 7, 17};
     static const uint8_t few_divisors[] = {0, 1, 3, 1, 251, 7, 1, 1, 1, 251, 7, 163, 2, 1, 1, 253, 7, 216, 5, 2,
                                            2, 250, 3, 251, 7, 254, 3, 253, 7}; /* H is 1019 * 1021. */
+    static const uint8_t late[] = {0, 1, 7, 1, 5, 27, 1, 1, 25, 48, 1, 1, 5, 27, 1, 1, 25, 45, 1, 1, 5, 24, 1, 1, 5, 21, 1,
+                                   1, 25, 46, 1, 2, 34, 249, 8, 205, 1, 235, 31}; /* The sum of shares is 1 + 1/H. */
     one_unit_a_tick(six, 6);
     measure("verdict", "61 rows, one unit in every tick, H 942,480", judge, JYRMEKKO_FEASIBLE, rounds);
     one_unit_a_tick(five, 5);
     measure("verdict", "60 rows, one unit in every tick, H 1,021,020", judge, JYRMEKKO_FEASIBLE, rounds);
     memcpy(table, few_divisors, table_len = sizeof few_divisors);
     measure("verdict", "3 rows and 2 servers, H 1,040,399", judge, JYRMEKKO_FEASIBLE, rounds);
+    memcpy(table, late, table_len = sizeof late);
+    measure("verdict", "7 rows and 2 servers, a late witness", judge, JYRMEKKO_OVERLOADED, rounds);
 }
 
 /* Odd jobs that are due late wait in so many places, and after them each job goes before all of them. */

@@ -23,19 +23,19 @@
  * without it. The code is the same, byte for byte. Beside the calls there are helpers in plain C, which are declared
  * at the end of this file.
  *
- * Time and stack. Both are measured, and not proved. The times are microseconds on an AMD EPYC processor with much
+ * Time and stack. Both are measured, and not proved. The times are microseconds on an AMD EPYC processor with little
  * other work beside it, on the slowest inputs that were found for each call (bench/worst.c). For replay() they are
  * microseconds for each job. The stack is the most bytes that a call takes below its caller, with any input
- * (c/test_stack.c). The numbers are the highest median of nine runs, the slowest of all calls in them, and the stack:
+ * (c/test_stack.c). The numbers are the highest median of five runs, the slowest of all calls in them, and the stack:
  *
- *     verdict()        3,600     6,600    57,000
- *     replay()           0.4       0.6    77,000
- *     run_start()          5       131   105,000
- *     run_release()       15       161   286,000
- *     run_tick()          13       148   221,000
- *     run_end()           15       146   262,000
+ *     verdict()        5,100     6,900    57,000
+ *     replay()           0.4       0.5    77,000
+ *     run_start()          4        45   105,000
+ *     run_release()       11        52   286,000
+ *     run_tick()           9        44   221,000
+ *     run_end()           10        46   262,000
  *
- * A verdict on a small table takes 1 or 2 microseconds. The times of replay() are for jobs of which each goes before
+ * A verdict on a small table takes less than a microsecond. The times of replay() are for jobs of which each goes before
  * 255 others that wait. Where each goes behind those that wait, or none waits, it takes 0.02 to 0.06 microseconds for
  * each job. Its time grows with the number of jobs, and not with the ticks between them.
  *
