@@ -9,29 +9,39 @@
 #include <sys/stat.h>
 #include <unistd.h>
 
+void (*before_stop)(int status, const char *why);
+
 void stop(int status, const char *format, ...)
 {
+    static char why[4 * 4 * 4096]; /* It has room for three names and the words around them. */
     va_list values;
-    fflush(stdout); /* What was said before comes first where both streams go to one place. */
-    fputs("rig: ", stderr);
     va_start(values, format);
-    vfprintf(stderr, format, values);
+    vsnprintf(why, sizeof why, format, values);
     va_end(values);
-    fputc('\n', stderr);
+    if (before_stop != NULL)
+        before_stop(status, why);
+    fflush(stdout); /* What was said before comes first where both streams go to one place. */
+    fprintf(stderr, "rig: %s\n", why);
     exit(status);
 }
 
-/* Returns how many bytes the printable character at the start of a text takes in UTF-8, and 0 where there is none. */
-static size_t printable(const unsigned char *text)
+size_t printable(const uint8_t *bytes, size_t length)
 {
-    if (text[0] < 0x80)
-        return text[0] >= 0x20 && text[0] != 0x7F;
-    size_t length = text[0] >= 0xF0 && text[0] <= 0xF4 ? 4 : text[0] >= 0xE0 && text[0] < 0xF0 ? 3
-                  : text[0] >= 0xC2 && text[0] < 0xE0 ? 2 : 0;
-    for (size_t i = 1; i < length; i++)
-        if (text[i] < 0x80 || text[i] > 0xBF)
+    if (length == 0)
+        return 0;
+    if (bytes[0] < 0x80)
+        return bytes[0] >= 0x20 && bytes[0] != 0x7F;
+    size_t needed = bytes[0] >= 0xF0 && bytes[0] <= 0xF4 ? 4 : bytes[0] >= 0xE0 && bytes[0] < 0xF0 ? 3
+                  : bytes[0] >= 0xC2 && bytes[0] < 0xE0 ? 2 : 0;
+    if (needed > length)
+        return 0;
+    for (size_t i = 1; i < needed; i++)
+        if (bytes[i] < 0x80 || bytes[i] > 0xBF)
             return 0;
-    return length == 2 && text[0] == 0xC2 && text[1] < 0xA0 ? 0 : length; /* C2 80 to C2 9F are control characters. */
+    if (needed >= 3 && ((bytes[0] == 0xE0 && bytes[1] < 0xA0) || (bytes[0] == 0xED && bytes[1] > 0x9F) ||
+                        (bytes[0] == 0xF0 && bytes[1] < 0x90) || (bytes[0] == 0xF4 && bytes[1] > 0x8F)))
+        return 0; /* These are no characters of UTF-8: too long, a surrogate, or above the last character. */
+    return needed == 2 && bytes[0] == 0xC2 && bytes[1] < 0xA0 ? 0 : needed; /* C2 80 to C2 9F are control characters. */
 }
 
 const char *shown(const char *name)
@@ -40,13 +50,12 @@ const char *shown(const char *name)
     static size_t next;
     char *out = names[next++ % 3];
     size_t length = 0;
-    for (const unsigned char *in = (const unsigned char *)name; *in != '\0' && length + 5 < sizeof names[0];) {
-        size_t characters = printable(in);
-        if (characters == 0)
+    for (const uint8_t *in = (const uint8_t *)name; *in != '\0' && length + 5 < sizeof names[0];) {
+        size_t size = printable(in, 4); /* The zero byte at the end is part of no character. */
+        if (size == 0)
             length += (size_t)sprintf(out + length, "\\x%02X", *in++);
-        else
-            for (; characters > 0; characters--)
-                out[length++] = (char)*in++;
+        for (; size > 0; size--)
+            out[length++] = (char)*in++;
     }
     out[length] = '\0';
     return out;
@@ -56,7 +65,7 @@ void *resize(void *block, size_t size)
 {
     void *resized = realloc(block, size > 0 ? size : 1);
     if (resized == NULL)
-        stop(RIG_NO_MEMORY, "there is no memory for %zu bytes", size);
+        stop(RIG_NO_MEMORY, "there is no memory for %s bytes", grouped(size));
     return resized;
 }
 

@@ -1,22 +1,10 @@
 #include "rig.h"
 
+#include <inttypes.h>
+
 bool read_number(struct bytes bytes, size_t *at, uint64_t *value)
 {
-    uint64_t sum = 0;
-    for (size_t group = 0; *at < bytes.length; group++, ++*at) {
-        uint8_t byte = bytes.at[*at];
-        if (byte == 0 && group > 0)
-            return false; /* This is a superfluous zero group. */
-        if (byte >= 0x80 && group == MOST_GROUPS - 1)
-            return false; /* This is a sixth group that asks for more. */
-        sum |= (uint64_t)(byte & 0x7F) << 7 * group;
-        if (byte < 0x80) {
-            ++*at;
-            *value = sum;
-            return true;
-        }
-    }
-    return false; /* The number is cut off. */
+    return jyrmekko_read_number(bytes.at, bytes.length, at, value) == 1;
 }
 
 const char *bad_byte(struct bytes bytes, uint64_t place)
@@ -41,13 +29,7 @@ const char *bad_byte(struct bytes bytes, uint64_t place)
 
 size_t write_number(uint8_t *out, uint64_t value)
 {
-    size_t length = 0;
-    while (value >= 0x80) {
-        out[length++] = (uint8_t)(value & 0x7F) | 0x80;
-        value >>= 7;
-    }
-    out[length++] = (uint8_t)value;
-    return length;
+    return jyrmekko_write_number(out, MOST_GROUPS, value);
 }
 
 uint64_t count_numbers(struct bytes bytes)
@@ -58,15 +40,28 @@ uint64_t count_numbers(struct bytes bytes)
     return count;
 }
 
-static uint64_t lowest_first(const uint8_t *eight)
+const char *grouped(uint64_t number)
 {
-    uint64_t value = 0;
-    for (int i = 7; i >= 0; i--)
-        value = value << 8 | eight[i];
-    return value;
+    static char texts[8][sizeof "18,446,744,073,709,551,615"]; /* One message groups at most eight numbers. */
+    static size_t next;
+    char digits[sizeof "18446744073709551615"];
+    char *out = texts[next++ % 8], *start = out;
+    size_t count = (size_t)snprintf(digits, sizeof digits, "%" PRIu64, number);
+    for (size_t i = 0; i < count; i++) {
+        if (i > 0 && (count - i) % 3 == 0)
+            *out++ = ',';
+        *out++ = digits[i];
+    }
+    *out = '\0';
+    return start;
+}
+
+const char *plural(uint64_t number)
+{
+    return number == 1 ? "" : "s";
 }
 
 struct answer answer_of(uint32_t status, const uint8_t *buffer)
 {
-    return (struct answer){status, lowest_first(buffer), lowest_first(buffer + 8)};
+    return (struct answer){status, jyrmekko_first(buffer), jyrmekko_second(buffer)};
 }

@@ -1,8 +1,8 @@
 /* `rig show table`: shows a table as a text that `rig spell` turns into the same bytes. */
-#include "rig.h"
+#include "commands.h"
+#include "json.h"
 
 #include <inttypes.h>
-#include <stdlib.h>
 #include <string.h>
 
 /* Prints s and p. Where s is below p, a comment says which ticks are taken. */
@@ -12,9 +12,9 @@ static void print_timer(uint64_t s, uint64_t p)
     if (s == 0 && p > 0)
         printf(": no tick is taken");
     else if (s == 1 && p > 1)
-        printf(": the first tick of every %" PRIu64 " is taken", p);
+        printf(": the first tick of every %s is taken", grouped(p));
     else if (s < p)
-        printf(": the first %" PRIu64 " ticks of every %" PRIu64 " are taken", s, p);
+        printf(": the first %s ticks of every %s are taken", grouped(s), grouped(p));
     putchar('\n');
 }
 
@@ -23,12 +23,14 @@ static const char *const row_heads[ROW_NUMBERS] = {"x", "y", "d", "c"};
 
 static void measure_rows(struct table table, int widths[ROW_NUMBERS])
 {
+    char digits[24];
     for (int i = 0; i < ROW_NUMBERS; i++)
         widths[i] = (int)strlen(row_heads[i]);
     while (read_part(&table))
-        if (table.part == ROW_C)
-            for (int i = 0; i < ROW_NUMBERS; i++)
-                widen(&widths[i], table.values[ROW_X + i]);
+        for (int i = 0; table.part == ROW_C && i < ROW_NUMBERS; i++) {
+            snprintf(digits, sizeof digits, "%" PRIu64, table.values[ROW_X + i]);
+            widen(&widths[i], digits);
+        }
 }
 
 static void print_row(const struct table *table, const int widths[ROW_NUMBERS])
@@ -42,15 +44,16 @@ static void print_row(const struct table *table, const int widths[ROW_NUMBERS])
     putchar(' ');
     for (int i = 0; i < ROW_NUMBERS; i++)
         printf("  %*" PRIu64, widths[i], table->values[ROW_X + i]);
-    printf("  # row %" PRIu64 "\n", table->of);
+    printf("  # row %s\n", grouped(table->of));
 }
 
-static void print_server_of_table(const struct table *table)
+static void print_server(const struct table *table)
 {
     uint64_t a = table->values[SERVER_A], b = table->values[SERVER_B];
-    printf("server %" PRIu64 " %" PRIu64 "  # row %" PRIu64 ", server %" PRIu64, a, b, table->rows + table->of, table->of);
+    printf("server %" PRIu64 " %" PRIu64 "  # row %s, server %s", a, b, grouped(table->rows + table->of),
+           grouped(table->of));
     if (a > 0 && b >= a)
-        printf(": %" PRIu64 " unit%s in %" PRIu64 " tick%s", a, a == 1 ? "" : "s", b, b == 1 ? "" : "s");
+        printf(": %s unit%s in %s tick%s", grouped(a), plural(a), grouped(b), plural(b));
     putchar('\n');
 }
 
@@ -71,25 +74,57 @@ static void print_table(struct table *table)
             print_row(table, widths);
             break;
         case SERVER_B:
-            print_server_of_table(table);
+            print_server(table);
             break;
         default: /* This number is printed together with one that comes later. */
             break;
         }
-    printf("# %" PRIu64 " row%s, %" PRIu64 " server%s\n", table->rows, table->rows == 1 ? "" : "s", table->servers,
-           table->servers == 1 ? "" : "s");
+    printf("# %s row%s, %s server%s\n", grouped(table->rows), plural(table->rows), grouped(table->servers),
+           plural(table->servers));
 }
 
-void show_table(const char *path)
+/* Makes JSON of the numbers of a table, whatever they are. */
+static void json_table(struct table *table)
 {
-    struct bytes bytes = read_file(path, SIZE_MAX);
-    struct table table = start_table(bytes);
-    print_table(&table);
-    const char *wrong = table.damaged ? bad_table_byte(bytes, table.at) : NULL;
-    bool more = table.at < bytes.length;
-    free(bytes.at);
+    static const char *const names[TABLE_END] = {
+        [TIMER_S] = "s", [TIMER_P] = "p", [ROW_X] = "x", [ROW_Y] = "y", [ROW_D] = "d", [ROW_C] = "c", [SERVER_A] = "a",
+        [SERVER_B] = "b"};
+    while (read_part(table)) {
+        enum part part = table->part;
+        if (part == TIMER_S)
+            json_begin("timer", '{');
+        else if (part == ROW_COUNT)
+            json_begin("rows", '[');
+        else if (part == SERVER_COUNT)
+            json_begin("servers", '[');
+        else if (part == ROW_X || part == SERVER_A)
+            json_begin(NULL, '{');
+        if (names[part] != NULL)
+            json_number(names[part], table->values[part]);
+        if (part == TIMER_P || part == ROW_C || part == SERVER_B)
+            json_end();
+        if ((table->next == SERVER_COUNT && part != SERVER_COUNT) || table->next == TABLE_END)
+            json_end();
+    }
+}
+
+int show_table(struct named_file file)
+{
+    struct input input = read_whole_table(file);
+    struct table table = start_table(input.bytes);
+    if (as_json) {
+        json_text("kind", "table");
+        json_input("table", &input);
+        json_number("status", RIG_DONE);
+        json_table(&table);
+    } else {
+        print_table(&table);
+    }
     if (table.damaged)
-        stop(RIG_CONTENT, "%s is no table: it goes wrong at byte %zu: %s", shown(path), table.at, wrong);
-    if (more)
-        stop(RIG_CONTENT, "%s is no table: there are bytes after its end, from byte %zu on", shown(path), table.at);
+        stop(RIG_CONTENT, "%s is no table: it goes wrong at byte %s: %s", shown(file.path), grouped(table.at),
+             bad_table_byte(input.bytes, table.at));
+    if (table.at < input.bytes.length)
+        stop(RIG_CONTENT, "%s is no table: there are bytes after its end, from byte %s on", shown(file.path),
+             grouped(table.at));
+    return RIG_DONE;
 }

@@ -1,221 +1,236 @@
 /*
- * `rig spell`: turns decimal numbers, written by hand, into the bytes of a table or a script. After the rows of a table
- * each server is the word 'server' with its a and b. Their count is not written: it is put in front of them here.
+ * Spells a text as the bytes of a table or a script. A table is s and p of its timer, its row count, four numbers for each
+ * row, and a word 'server' with two numbers for each server. The server count is not written: it is put in front of the
+ * servers here. A text may also have it as a number, with all servers as plain numbers after it.
  */
-#include "rig.h"
+#include "commands.h"
 
-#include <stdlib.h>
-#include <string.h>
+#include <stdarg.h>
 
-static bool is_digit(uint8_t byte)
+enum { HEAD = 3, COUNT_AT = 2, PER_ROW = 4, PER_SERVER = 2, PER_RELEASE = 3 };
+
+/* Says what is wrong with a text, at one of its words, or at its end. What it says stays until the next call. */
+__attribute__((format(printf, 3, 4)))
+static void wrong_at(struct text *text, size_t word, const char *format, ...)
 {
-    return byte >= '0' && byte <= '9';
+    static char problem[256];
+    va_list values;
+    va_start(values, format);
+    vsnprintf(problem, sizeof problem, format, values);
+    va_end(values);
+    text->problem = problem;
+    text->problem_line = word < text->count ? text->words[word].line : text->line;
+    text->problem_column = word < text->count ? text->words[word].column : text->column;
 }
 
-static bool is_space(uint8_t byte)
+/* Returns how many numbers stand before the first word 'server'. */
+static size_t numbers_in_front(const struct text *text)
 {
-    return byte == ' ' || (byte >= '\t' && byte <= '\r');
+    size_t numbers = 0;
+    while (numbers < text->count && !text->words[numbers].is_server)
+        numbers++;
+    return numbers;
 }
 
-/* The bytes that are being spelled while their text is read byte by byte. */
-struct spelling {
-    struct bytes spelled;
-    size_t room;
-    size_t line;
-    uint64_t value;     /* This is the value so far of the number that the text is in. */
-    bool in_number;
-    size_t letters;     /* The text is in the word 'server', after so many of its letters. */
-    bool in_comment;
-    uint64_t count;     /* So many numbers have been spelled. */
-    uint64_t first[3];  /* These are the first three numbers. */
-    size_t lines[3];    /* The first three numbers stand on these lines. */
-    uint64_t servers;   /* So many times the word 'server' has been read. */
-    uint64_t before;    /* So many numbers come before the first word 'server'. */
-    size_t rows_end;    /* The rows take so many bytes, with s, p and the row count. The server count goes there. */
-    size_t server_line; /* The last word 'server' stands on this line. */
-    bool after_cr;      /* CR and LF together end one line, and either of them alone does too. */
-    const char *problem;
-};
-
-enum { ROW_NUMBERS = 4, RELEASE_NUMBERS = 3, HEAD_NUMBERS = 3, SERVER_NUMBERS = 2 };
-
-static const char server_word[] = "server";
-static const char not_spelled[] = "only decimal numbers, lines 'server a b' after the rows of a table, and comments that "
-                                  "start with #, can be spelled";
-static const char no_timer[] = "a table starts with s and p of its timer: put them on a line in front of the row count, "
-                               "'0 1' where the rig has no timer";
-
-/* Makes room for one more number. */
-static void make_room(struct spelling *spelling)
+/* Returns whether so many numbers are s, p, the row count, and four for each row. */
+static bool has_rows(const struct text *text, size_t numbers)
 {
-    if (spelling->room - spelling->spelled.length < MOST_GROUPS) {
-        spelling->room = 2 * spelling->room + MOST_GROUPS;
-        spelling->spelled.at = resize(spelling->spelled.at, spelling->room);
+    return numbers >= HEAD && (numbers - HEAD) % PER_ROW == 0 &&
+           (numbers - HEAD) / PER_ROW == text->words[COUNT_AT].value;
+}
+
+/* Returns whether so many numbers are a row count, and four for each row, as tables were written before they had timers. */
+static bool lacks_timer(const struct text *text, size_t numbers)
+{
+    return numbers > 0 && (numbers - 1) % PER_ROW == 0 && (numbers - 1) / PER_ROW == text->words[0].value;
+}
+
+/* Returns whether the numbers of a text have the lines of a table: s and p on one, and the row count alone on the next. */
+static bool has_lines_of_table(const struct text *text)
+{
+    const struct word *words = text->words;
+    return text->count >= HEAD && words[0].line == words[1].line && words[1].line != words[COUNT_AT].line &&
+           (text->count == HEAD || words[COUNT_AT].line != words[HEAD].line);
+}
+
+/* Returns whether so many numbers are a table with its server count, and two numbers for each server. */
+static bool has_plain_servers(const struct text *text, size_t numbers)
+{
+    if (numbers < HEAD || text->words[COUNT_AT].value > (numbers - HEAD) / PER_ROW)
+        return false;
+    size_t count_at = HEAD + PER_ROW * (size_t)text->words[COUNT_AT].value;
+    return count_at < numbers && numbers - count_at - 1 == PER_SERVER * text->words[count_at].value;
+}
+
+/* Returns how many of the first `numbers` words stand on the line of one of them, from this one on. */
+static size_t count_on_line(const struct text *text, size_t word, size_t numbers)
+{
+    size_t end = word;
+    while (end < numbers && text->words[end].line == text->words[word].line)
+        end++;
+    return end - word;
+}
+
+static void say_no_timer(struct text *text)
+{
+    wrong_at(text, 0, "a table starts with s and p of its timer: put them on a line in front of the row count, '0 1' where "
+                      "the rig has no timer");
+}
+
+/* Says where the numbers before the first server are not those that the row count asks for. */
+static void say_wrong_rows(struct text *text, size_t numbers)
+{
+    if (lacks_timer(text, numbers) && !has_lines_of_table(text)) {
+        say_no_timer(text);
+        return;
     }
-}
-
-/* Returns whether the numbers before the first server are s, p, the row count, and four for each row. */
-static bool has_rows(const struct spelling *spelling, uint64_t numbers)
-{
-    return numbers >= HEAD_NUMBERS && (numbers - HEAD_NUMBERS) % ROW_NUMBERS == 0 &&
-           (numbers - HEAD_NUMBERS) / ROW_NUMBERS == spelling->first[2];
-}
-
-/* Returns whether the numbers before the first server are a row count, and four for each row. */
-static bool has_rows_alone(const struct spelling *spelling, uint64_t numbers)
-{
-    return numbers > 0 && (numbers - 1) % ROW_NUMBERS == 0 && (numbers - 1) / ROW_NUMBERS == spelling->first[0];
-}
-
-/* Expects that the last word 'server' has its two numbers, where there is such a word. */
-static void expect_whole_server(struct spelling *spelling)
-{
-    if (spelling->servers > 0 && spelling->count != spelling->before + SERVER_NUMBERS * spelling->servers) {
-        spelling->line = spelling->server_line;
-        spelling->problem = "a server has two numbers, a and b, and nothing but other servers may follow it";
+    if (numbers < HEAD) {
+        wrong_at(text, numbers, "a table starts with s and p of its timer and its row count, and only %zu number%s stand%s "
+                 "there", numbers, plural(numbers), numbers == 1 ? "s" : "");
+        return;
     }
-}
-
-static void start_server(struct spelling *spelling)
-{
-    if (spelling->servers == 0) {
-        spelling->before = spelling->count;
-        spelling->rows_end = spelling->spelled.length;
-        if (has_rows_alone(spelling, spelling->count)) {
-            spelling->line = spelling->lines[0];
-            spelling->problem = no_timer;
-        } else if (!has_rows(spelling, spelling->count)) {
-            spelling->problem = "a server stands after the last row of a table: before it come s and p, the row count, and "
-                                "four numbers for each row";
+    if (text->words[1].line != text->words[COUNT_AT].line && count_on_line(text, COUNT_AT, numbers) == PER_ROW) {
+        wrong_at(text, COUNT_AT, "the row count is missing: it stands on a line of its own, before the rows");
+        return;
+    }
+    uint64_t wanted = text->words[COUNT_AT].value, rows = 0;
+    if (numbers > HEAD && text->words[HEAD].line == text->words[COUNT_AT].line) {
+        wrong_at(text, COUNT_AT, "the row count is %s, so %s numbers should follow it, and %s do", grouped(wanted),
+                 grouped(PER_ROW * wanted), grouped(numbers - HEAD));
+        return;
+    }
+    for (size_t at = HEAD, found; at < numbers; at += found) {
+        found = count_on_line(text, at, numbers);
+        if (found % PER_ROW != 0) {
+            wrong_at(text, at, "row %s has %s number%s; a row has four, x, y, d and c, and a server is a line 'server a b'",
+                     grouped(rows), grouped(found), plural(found));
+            return;
         }
+        rows += found / PER_ROW;
     }
-    expect_whole_server(spelling);
-    if (spelling->problem == NULL)
-        spelling->server_line = spelling->line;
-    spelling->servers++;
+    wrong_at(text, COUNT_AT, "the row count is %s, but %s row%s follow%s it", grouped(wanted), grouped(rows), plural(rows),
+             rows == 1 ? "s" : "");
 }
 
-/* Spells the number that the text was in, if there is one, since it has ended. A word that ends too early is a problem. */
-static void end_number(struct spelling *spelling)
+/* Expects that each word 'server' from this one on has its two numbers. */
+static void expect_servers(struct text *text, size_t first)
 {
-    if (spelling->letters > 0 && spelling->letters < sizeof server_word - 1)
-        spelling->problem = not_spelled;
-    spelling->letters = 0;
-    if (!spelling->in_number)
-        return;
-    spelling->in_number = false;
-    if (spelling->count < sizeof spelling->first / sizeof spelling->first[0]) {
-        spelling->first[spelling->count] = spelling->value;
-        spelling->lines[spelling->count] = spelling->line;
+    for (size_t at = first; at < text->count && text->problem == NULL; at += 1 + PER_SERVER) {
+        bool whole = text->words[at].is_server && text->count - at > PER_SERVER;
+        for (size_t i = 1; whole && i <= PER_SERVER; i++)
+            whole = !text->words[at + i].is_server;
+        if (!whole)
+            wrong_at(text, text->words[at].is_server ? at : at - 1 - PER_SERVER,
+                     "a server has two numbers, a and b, and nothing but other servers may follow it");
     }
-    spelling->count++;
-    make_room(spelling);
-    spelling->spelled.length += write_number(spelling->spelled.at + spelling->spelled.length, spelling->value);
-    spelling->value = 0;
 }
 
-/* Takes a letter outside comments. The only word is 'server', and it stands apart from numbers. */
-static void take_letter(struct spelling *spelling, uint8_t letter)
+/* Spells a word that is a number at the end of the bytes, which have room for it. */
+static void put_number(struct bytes *spelled, struct word *word)
 {
-    if (spelling->in_number || spelling->letters == sizeof server_word - 1 ||
-        letter != (uint8_t)server_word[spelling->letters])
-        spelling->problem = not_spelled;
-    else if (++spelling->letters == sizeof server_word - 1)
-        start_server(spelling);
+    word->place = spelled->length;
+    spelled->length += write_number(spelled->at + spelled->length, word->value);
 }
 
-static void take_byte(struct spelling *spelling, uint8_t byte)
+static struct bytes spell_words(struct text *text)
 {
-    bool ends_line = byte == '\r' || (byte == '\n' && !spelling->after_cr);
-    if (is_digit(byte) && !spelling->in_comment && spelling->letters == 0) {
-        spelling->in_number = true;
-        spelling->value = 10 * spelling->value + (uint64_t)(byte - '0');
-        if (spelling->value > LARGEST_NUMBER)
-            spelling->problem = "a number is above 2^42 - 1, the largest that can be spelled";
-    } else if (spelling->in_comment || is_space(byte) || byte == '#') {
-        end_number(spelling);
-        spelling->in_comment = (spelling->in_comment || byte == '#') && byte != '\n' && byte != '\r';
-    } else {
-        take_letter(spelling, byte);
+    struct bytes spelled = {allocate((text->count + 1) * MOST_GROUPS), 0};
+    for (size_t i = 0; i < text->count; i++)
+        if (!text->words[i].is_server)
+            put_number(&spelled, &text->words[i]);
+    return spelled;
+}
+
+static struct bytes spell_table(struct text *text)
+{
+    struct bytes spelled = {NULL, 0};
+    size_t numbers = numbers_in_front(text);
+    bool has_servers = numbers < text->count;
+    if (has_servers && numbers == 0)
+        wrong_at(text, 0, "a server stands after the last row of a table: before it come s and p, the row count, and four "
+                          "numbers for each row");
+    else if (!has_servers && has_plain_servers(text, numbers))
+        return spell_words(text);
+    else if (!has_rows(text, numbers))
+        say_wrong_rows(text, numbers);
+    else
+        expect_servers(text, numbers);
+    if (text->problem != NULL)
+        return spelled;
+    struct word count = {(text->count - numbers) / (1 + PER_SERVER), false, 0, 0, 0};
+    spelled.at = allocate((text->count + 1) * MOST_GROUPS);
+    for (size_t i = 0; i <= text->count; i++) {
+        if (i == numbers)
+            put_number(&spelled, &count);
+        if (i == numbers && has_servers)
+            text->words[i].place = count.place;
+        else if (i < text->count && !text->words[i].is_server)
+            put_number(&spelled, &text->words[i]);
     }
-    spelling->after_cr = byte == '\r';
-    if (ends_line && spelling->problem == NULL)
-        spelling->line++;
+    return spelled;
+}
+
+static struct bytes spell_script(struct text *text)
+{
+    size_t numbers = numbers_in_front(text);
+    if (numbers < text->count)
+        wrong_at(text, numbers, "a script has no servers: each release is three numbers, its gap, row number and cost");
+    for (size_t at = 0, found; text->problem == NULL && text->count % PER_RELEASE != 0; at += found) {
+        found = count_on_line(text, at, text->count);
+        if (found % PER_RELEASE != 0)
+            wrong_at(text, at, "this line has %s number%s; a release has three, its gap, row number and cost", grouped(found),
+                     plural(found));
+    }
+    return text->problem == NULL ? spell_words(text) : (struct bytes){NULL, 0};
 }
 
 /*
- * Returns whether the text is a table without its timer: a row count, and four numbers for each row. A script, with
- * three numbers for each release, may have as many. So where it could be a script, it is taken for a table only if its
- * first number has a line of its own.
+ * Spells a text of which nobody said what it is. Where its numbers could also be those of a script, three for each
+ * release, it is taken for a table only if its row count starts a line.
  */
-static bool lacks_timer(const struct spelling *spelling)
+static struct bytes spell_either(struct text *text)
 {
-    bool alone = spelling->count == 1 || spelling->lines[0] != spelling->lines[1];
-    return has_rows_alone(spelling, spelling->count) && (alone || spelling->count % RELEASE_NUMBERS != 0);
+    bool could_be_script = text->count % PER_RELEASE == 0;
+    bool has_servers = numbers_in_front(text) < text->count;
+    if (has_servers || has_lines_of_table(text) ||
+        (has_rows(text, text->count) && (!could_be_script || text->words[1].line != text->words[COUNT_AT].line)))
+        return spell_table(text);
+    if (lacks_timer(text, text->count) &&
+        (!could_be_script || text->count == 1 || text->words[0].line != text->words[1].line)) {
+        say_no_timer(text);
+        return (struct bytes){NULL, 0};
+    }
+    return spell_words(text);
 }
 
-/*
- * Returns whether the text is a table without its server count: a table that names no server. A script may have as many
- * numbers. So where it could be a script, it is taken for a table only if its row count starts a line.
- */
-static bool lacks_server_count(const struct spelling *spelling)
+struct bytes spell_text(struct text *text, enum kind kind)
 {
-    return has_rows(spelling, spelling->count) &&
-           (spelling->lines[1] != spelling->lines[2] || spelling->count % RELEASE_NUMBERS != 0);
-}
-
-/* Puts the server count after the rows, in front of the servers. */
-static void put_server_count(struct spelling *spelling)
-{
-    uint8_t count[MOST_GROUPS];
-    size_t length = write_number(count, spelling->servers);
-    make_room(spelling);
-    uint8_t *after_rows = spelling->spelled.at + spelling->rows_end;
-    memmove(after_rows + length, after_rows, spelling->spelled.length - spelling->rows_end);
-    memcpy(after_rows, count, length);
-    spelling->spelled.length += length;
-}
-
-/* Ends the last number, and puts in the server count where a table lacks it. */
-static void end_text(struct spelling *spelling)
-{
-    end_number(spelling);
-    expect_whole_server(spelling);
-    if (spelling->problem != NULL)
-        return;
-    if (spelling->servers > 0) {
-        put_server_count(spelling);
-    } else if (lacks_timer(spelling)) {
-        spelling->line = spelling->lines[0];
-        spelling->problem = no_timer;
-    } else if (lacks_server_count(spelling)) {
-        spelling->rows_end = spelling->spelled.length;
-        put_server_count(spelling);
+    if (text->problem != NULL)
+        return (struct bytes){NULL, 0};
+    switch (kind) {
+    case TABLE:
+        return spell_table(text);
+    case SCRIPT:
+        return spell_script(text);
+    default:
+        return spell_either(text);
     }
 }
 
-void spell(const char *text_path, const char *out_path)
+int spell(const char *text_path, const char *out_path)
 {
-    struct spelling spelling = {{NULL, 0}, 0, 1, 0, false, 0, false, 0, {0}, {0}, 0, 0, 0, 0, false, NULL};
-    struct source text = open_source(text_path);
+    static struct source source;
+    static struct text text;
+    static struct bytes spelled;
+    source = open_source(text_path);
     expect_not_read(out_path);
-    for (size_t at = 0; spelling.problem == NULL; at++) {
-        if (at == text.content.length)
-            read_on(&text, at < 4096 ? 4096 : 2 * at);
-        if (at == text.content.length)
-            break;
-        take_byte(&spelling, text.content.at[at]);
-    }
-    close_source(&text);
-    free(text.content.at);
-    if (spelling.problem == NULL)
-        end_text(&spelling);
-    if (spelling.problem == NULL && spelling.spelled.length > 0)
-        write_file(out_path, spelling.spelled);
-    bool nothing = spelling.problem == NULL && spelling.spelled.length == 0;
-    free(spelling.spelled.at);
-    if (nothing)
+    text = read_text(&source);
+    close_source(&source);
+    if (text.problem == NULL && text.count == 0)
         stop(RIG_CONTENT, "%s holds no number: there is nothing to spell", shown(text_path));
-    if (spelling.problem != NULL)
-        stop(RIG_CONTENT, "%s, line %zu: %s", shown(text_path), spelling.line, spelling.problem);
+    spelled = spell_text(&text, EITHER);
+    if (text.problem != NULL)
+        stop_at_problem(text_path, &text);
+    write_file(out_path, spelled);
+    return RIG_DONE;
 }

@@ -1,11 +1,7 @@
 /*
  * The numbers of a table, one after the other (docs/RULES.md, 3.6), for people to see. The library has its own code.
  */
-#include "rig.h"
-
-#include "jyrmekko.h"
-
-#include <inttypes.h>
+#include "table.h"
 
 struct table start_table(struct bytes bytes)
 {
@@ -52,104 +48,65 @@ const char *bad_table_byte(struct bytes bytes, uint64_t place)
     return bad_byte(bytes, place);
 }
 
-/* A refusal that a number of a table gets, with its place and what is wrong there. Status 0 is none. */
-struct fault {
-    uint32_t status;
-    size_t place;
-    char says[128];
-};
-
-static void find_fault_of_timer(const struct table *table, struct fault *fault)
+struct content content_of(struct bytes bytes)
 {
-    enum { LARGEST_P = 4096 };
-    uint64_t s = table->values[TIMER_S], p = table->values[TIMER_P];
-    if (p < 1 || p > LARGEST_P) {
-        *fault = (struct fault){JYRMEKKO_VALUE_OUT_OF_RANGE, table->start, ""};
-        snprintf(fault->says, sizeof fault->says, "the timer's p is %" PRIu64 ", and must be 1 to %d", p, LARGEST_P);
-    } else if (s >= p) {
-        *fault = (struct fault){JYRMEKKO_VALUE_OUT_OF_RANGE, 0, ""};
-        snprintf(fault->says, sizeof fault->says,
-                 "the timer's s is %" PRIu64 ", and must be below its p, which is %" PRIu64, s, p);
-    }
-}
-
-static void find_fault_of_count(const struct table *table, struct fault *fault)
-{
-    bool of_rows = table->part == ROW_COUNT;
-    int most = of_rows ? JYRMEKKO_MOST_ROWS : JYRMEKKO_MOST_SERVERS;
-    if (table->values[table->part] <= (uint64_t)most)
-        return;
-    *fault = (struct fault){JYRMEKKO_TOO_MANY_ROWS, table->start, ""};
-    snprintf(fault->says, sizeof fault->says, "the %s count is above %d", of_rows ? "row" : "server", most);
-}
-
-static void find_fault_of_row(const struct table *table, struct fault *fault)
-{
-    static const uint64_t most[] = {64, 4096, 16384, 4096};
-    uint64_t value = table->values[table->part], d = table->values[ROW_D];
-    unsigned which = (unsigned)table->part - ROW_X;
-    if (value < 1 || value > most[which]) {
-        *fault = (struct fault){JYRMEKKO_VALUE_OUT_OF_RANGE, table->start, ""};
-        snprintf(fault->says, sizeof fault->says,
-                 "the %c of row %" PRIu64 " is %" PRIu64 ", and must be 1 to %" PRIu64, "xydc"[which], table->of, value,
-                 most[which]);
-    } else if (table->part == ROW_C && value > d) {
-        *fault = (struct fault){JYRMEKKO_HOPELESS_ROW, table->start, ""};
-        snprintf(fault->says, sizeof fault->says,
-                 "row %" PRIu64 " asks for %" PRIu64 " units within %" PRIu64 " tick%s, which no processor can give",
-                 table->of, value, d, d == 1 ? "" : "s");
-    }
-}
-
-static void find_fault_of_server(const struct table *table, struct fault *fault)
-{
-    bool is_a = table->part == SERVER_A;
-    uint64_t value = table->values[table->part], least = is_a ? 1 : table->values[SERVER_A];
-    if (value >= least && value <= JYRMEKKO_MOST_SERVER_VALUE)
-        return;
-    *fault = (struct fault){JYRMEKKO_VALUE_OUT_OF_RANGE, table->start, ""};
-    snprintf(fault->says, sizeof fault->says, "the %c of server %" PRIu64 " is %" PRIu64 ", and must be %" PRIu64
-             "%s to %d", is_a ? 'a' : 'b', table->of, value, least, is_a ? "" : ", which is its a,",
-             JYRMEKKO_MOST_SERVER_VALUE);
-}
-
-const char *wrong_number(struct bytes bytes, uint32_t status, uint64_t place)
-{
-    static struct fault fault;
+    struct content content = {0};
     struct table table = start_table(bytes);
-    fault = (struct fault){0, 0, ""};
-    while (fault.status == 0 && read_part(&table))
-        switch (table.part) {
-        case TIMER_S: /* It is tested together with p. */
-            break;
-        case TIMER_P:
-            find_fault_of_timer(&table, &fault);
-            break;
-        case ROW_COUNT:
-        case SERVER_COUNT:
-            find_fault_of_count(&table, &fault);
-            break;
-        case SERVER_A:
-        case SERVER_B:
-            find_fault_of_server(&table, &fault);
-            break;
-        default:
-            find_fault_of_row(&table, &fault);
-        }
-    return fault.status == status && fault.place == place ? fault.says : NULL;
-}
-
-struct shares shares_of(struct bytes bytes, uint64_t length)
-{
-    struct table table = start_table(bytes);
-    struct shares shares = {0, 0, 0};
     while (read_part(&table)) {
-        uint64_t s = table.values[TIMER_S], p = table.values[TIMER_P], b = table.values[SERVER_B];
-        if (table.part == TIMER_P && p > 0)
-            shares.taken = length / p * s + (length % p < s ? length % p : s);
-        if (table.part == SERVER_B && b > 0)
-            shares.odd += table.values[SERVER_A] * length / b;
+        const uint64_t *values = table.values;
+        if (table.part == TIMER_P) {
+            content.s = values[TIMER_S];
+            content.p = values[TIMER_P];
+        } else if (table.part == ROW_C && content.row_count < JYRMEKKO_MOST_ROWS) {
+            content.rows[content.row_count++] = (struct row){values[ROW_X], values[ROW_Y], values[ROW_D], values[ROW_C]};
+        } else if (table.part == SERVER_B && content.server_count < JYRMEKKO_MOST_SERVERS) {
+            content.servers[content.server_count++] = (struct server){values[SERVER_A], values[SERVER_B]};
+        }
     }
-    shares.servers = table.servers;
-    return shares;
+    return content;
+}
+
+uint64_t row_demand(struct row row, uint64_t length)
+{
+    return length < row.d ? 0 : ((length - row.d) / row.y + 1) * row.x * row.c;
+}
+
+uint64_t server_demand(struct server server, uint64_t length)
+{
+    return server.a * length / server.b;
+}
+
+uint64_t taken_ticks(const struct content *content, uint64_t length)
+{
+    uint64_t rest = length % content->p;
+    return length / content->p * content->s + (rest < content->s ? rest : content->s);
+}
+
+uint64_t common_divisor(uint64_t one, uint64_t other)
+{
+    while (other > 0) {
+        uint64_t rest = one % other;
+        one = other;
+        other = rest;
+    }
+    return one;
+}
+
+uint64_t common_multiple(uint64_t multiple, uint64_t number)
+{
+    if (multiple < 1 || multiple > LARGEST_PERIOD || number < 1 || number > LARGEST_PERIOD)
+        return 0;
+    return multiple / common_divisor(multiple, number) * number;
+}
+
+uint64_t period_of(const struct content *content)
+{
+    uint64_t period = common_multiple(1, content->p);
+    for (size_t i = 0; i < content->row_count; i++)
+        period = common_multiple(period, content->rows[i].y);
+    for (size_t i = 0; i < content->server_count; i++)
+        period = content->servers[i].a > 0 ? common_multiple(period, content->servers[i].b) : 0;
+    if (period < 1 || period > LARGEST_PERIOD)
+        stop(RIG_NO_ANSWER, "the library's verdict accepts a table that the rules refuse");
+    return period;
 }

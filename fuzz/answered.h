@@ -1,5 +1,5 @@
 /*
- * What both fuzzers share: which answers were reached, for libFuzzer, and which were seen, for the reader.
+ * What the fuzzers share: which answers were reached, for libFuzzer, and which were seen, for the reader.
  */
 #ifndef ANSWERED_H
 #define ANSWERED_H

@@ -16,6 +16,29 @@
  * can make verdict() and replay(), and one whose stack has JYRMEKKO_RUN_STACK_SIZE bytes every call, whatever is handed
  * in.
  *
+ * Library. The calls are proved, and compiled for x86-64 with the calling convention of System V, which Linux uses.
+ * They need memcpy() and memset() of the C library, and nothing else. The package that ./install makes has this file,
+ * and has the calls in libjyrmekko.a. In it the names of the six calls begin with jyrmekko_, so that they meet no
+ * other name of a program. In the repository, where target/staticlib/libhost.a has the calls, their names stand
+ * without it. The code is the same, byte for byte. Beside the calls there are helpers in plain C, which are declared
+ * at the end of this file.
+ *
+ * Time and stack. Both are measured, and not proved. The times are microseconds on an AMD EPYC processor with little
+ * other work beside it, on the slowest inputs that were found for each call (bench/worst.c). For replay() they are
+ * microseconds for each job. The stack is the most bytes that a call takes below its caller, with any input
+ * (c/test_stack.c). The numbers are the highest median of five runs, the slowest of all calls in them, and the stack:
+ *
+ *     verdict()        5,100     6,900    57,000
+ *     replay()           0.4       0.5    77,000
+ *     run_start()          4        45   105,000
+ *     run_release()       11        52   286,000
+ *     run_tick()           9        44   221,000
+ *     run_end()           10        46   262,000
+ *
+ * A verdict on a small table takes less than a microsecond. The times of replay() are for jobs of which each goes before
+ * 255 others that wait. Where each goes behind those that wait, or none waits, it takes 0.02 to 0.06 microseconds for
+ * each job. Its time grows with the number of jobs, and not with the ticks between them.
+ *
  * Numbers. A number in a table, a script or a log is spelled in groups of seven bits, one group a byte, the lowest
  * group first. The top bit of a byte is set when another byte of the same number follows. A number has at most 6
  * groups, and the last group of a number with more than one group is not zero. So one number has one spelling: 0 is
@@ -96,30 +119,44 @@
  * the table 00 01 00, which has no server count, with 1 at place 3, its length. On a table with a row, the script 00 00
  * is refused with 14 at place 2, its length.
  *
- * Example:
+ * Examples. stop(), wait_for_timer() and give_the_processor_to() are the host's own functions here. A table is judged,
+ * a script is replayed on it, and its log is read:
  *
  *     uint8_t table[] = {0, 1, 1, 1, 2, 6, 1, 0}, script[] = {0, 0, 1, 4, 0, 1};
  *     uint8_t log[JYRMEKKO_LOG_SIZE(sizeof script)], answer[JYRMEKKO_ANSWER_SIZE];
- *     if (verdict(table, sizeof table, answer, sizeof answer) != JYRMEKKO_FEASIBLE) return 1;
- *     if (replay(table, sizeof table, script, sizeof script, log, sizeof log, answer, sizeof answer) != JYRMEKKO_IN_TIME) return 1;
- *     printf("in time, %d bytes of log\n", answer[0] + 256 * answer[1]);
+ *     uint32_t status = verdict(table, sizeof table, answer, sizeof answer);
+ *     if (status != JYRMEKKO_FEASIBLE) stop(jyrmekko_text(status));
+ *     status = replay(table, sizeof table, script, sizeof script, log, sizeof log, answer, sizeof answer);
+ *     if (status != JYRMEKKO_IN_TIME) stop(jyrmekko_text(status));
+ *     size_t at = 0, log_len = jyrmekko_first(answer);
+ *     while (at < log_len) {
+ *         uint64_t job[5];
+ *         for (int i = 0; i < 5; i++)
+ *             if (!jyrmekko_read_number(log, log_len, &at, &job[i])) stop("the log can't be read");
+ *         printf("job %" PRIu64 " is due at %" PRIu64 " and finished at %" PRIu64 "\n", job[0], job[3], job[4]);
+ *     }
  *
  * The same rig with a server that gives 1 unit in 4 ticks has the table {0, 1, 1, 1, 2, 6, 1, 1, 1, 4}. On it the
  * script {0, 0, 1, 0, 1, 2} releases a job of the row and an odd job of cost 2, which is due at tick 8.
  *
- * A controller's loop, in which a job of row 0 is released every 10 ticks (examples/host/controller.c is a whole one):
+ * A controller's loop, in which a job of row 0 is released every 10 ticks:
  *
  *     static struct jyrmekko_run run;
- *     if (run_start(table, sizeof table, &run, answer, sizeof answer) != JYRMEKKO_STARTED) return 1;
- *     for (uint64_t clock = 0;; clock++) {
+ *     status = run_start(table, sizeof table, &run, answer, sizeof answer);
+ *     if (status != JYRMEKKO_STARTED) stop(jyrmekko_text(status));
+ *     for (uint64_t now = 0;; now++) {
  *         wait_for_timer();
- *         if (clock % 10 == 0 && run_release(&run, 0, 1, answer, sizeof answer) != JYRMEKKO_ACCEPTED) return 1;
- *         switch (run_tick(&run, answer, sizeof answer)) {
- *         case JYRMEKKO_RAN: case JYRMEKKO_FINISHED: give_the_processor_to(answer); break;
- *         case JYRMEKKO_IDLE: case JYRMEKKO_TAKEN: break;
- *         default: return 1;
+ *         if (now % 10 == 0) {
+ *             status = run_release(&run, 0, 1, answer, sizeof answer);
+ *             if (status != JYRMEKKO_ACCEPTED) stop(jyrmekko_text(status));
  *         }
+ *         status = run_tick(&run, answer, sizeof answer);
+ *         if (status == JYRMEKKO_RAN || status == JYRMEKKO_FINISHED) give_the_processor_to(jyrmekko_first(answer));
+ *         else if (status != JYRMEKKO_IDLE && status != JYRMEKKO_TAKEN) stop(jyrmekko_text(status));
  *     }
+ *
+ * Whole programs stand in the repository, in examples/host: batch.c judges a table and replays a script on it, and
+ * controller.c keeps a run live.
  */
 #ifndef JYRMEKKO_H
 #define JYRMEKKO_H
@@ -136,26 +173,37 @@ extern "C" {
 #define JYRMEKKO_LOG_SIZE(script_len) (10 * (script_len))
 #define JYRMEKKO_RUN_SIZE 47872
 
+/*
+ * The version of this file. A program compares JYRMEKKO_VERSION_NUMBER, with which it was compiled, with
+ * jyrmekko_version_number(), which is the number of the library that it was linked with.
+ */
+#define JYRMEKKO_VERSION_MAJOR 1
+#define JYRMEKKO_VERSION_MINOR 0
+#define JYRMEKKO_VERSION_PATCH 0
+#define JYRMEKKO_VERSION "1.0.0"
+#define JYRMEKKO_VERSION_NUMBER \
+    (1000000 * JYRMEKKO_VERSION_MAJOR + 1000 * JYRMEKKO_VERSION_MINOR + JYRMEKKO_VERSION_PATCH)
+
 /* The limits. */
 #define JYRMEKKO_MOST_ROWS 64           /* A table has no more rows than this. */
 #define JYRMEKKO_MOST_SERVERS 8         /* A table has no more servers than this. */
 #define JYRMEKKO_MOST_SERVER_VALUE 4096 /* A server's a and b are no more than this. */
 #define JYRMEKKO_MOST_ODD_COST 4096     /* An odd job costs no more than this. */
 #define JYRMEKKO_MOST_PENDING 256       /* No more jobs than this are pending at a time. */
+#define JYRMEKKO_NUMBER_SIZE 6          /* The spelling of a number has no more bytes than this. */
+#define JYRMEKKO_LARGEST_NUMBER ((UINT64_C(1) << 42) - 1) /* No larger number can be spelled. */
 
 /*
- * The bytes of stack with which a thread can make verdict() and replay(). Measured on x86-64, with any input: below its
- * caller verdict() takes less than 57,000 bytes, and replay() less than 77,000. With what the system itself puts on a
- * thread's stack, a thread needs at most 81,920 bytes. The other 16,384 are room, for the functions that make the call
- * and for signal handlers.
+ * The bytes of stack with which a thread can make verdict() and replay(). With what the system itself puts on a
+ * thread's stack, a thread needs at most 81,920 bytes for them. The other 16,384 are room, for the functions that make
+ * the call and for signal handlers.
  */
 #define JYRMEKKO_STACK_SIZE 98304
 
 /*
- * The bytes of stack with which a thread can make every call. A live call works on copies of the run, and they stand on
- * the stack. Measured on x86-64, with any run: below its caller run_start() takes less than 105,000 bytes, run_tick()
- * less than 221,000, run_end() less than 262,000 and run_release() less than 286,000. With what the system itself puts
- * on a thread's stack, a thread needs at most 290,816 bytes. The other 16,384 are room, as above.
+ * The bytes of stack with which a thread can make every call. A live call works on copies of the run, and they stand
+ * on the stack. With what the system itself puts on a thread's stack, a thread needs at most 290,816 bytes. The other
+ * 16,384 are room, as above.
  */
 #define JYRMEKKO_RUN_STACK_SIZE 307200
 
@@ -259,8 +307,7 @@ enum jyrmekko_status {
  * each server one odd job of the cost a * L / b, if that is not 0. This cost may be above JYRMEKKO_MOST_ODD_COST.
  *
  * No demand is worked out in a length above H + the largest d, however large the witness is, and lengths that are known
- * to fit are passed over. On the slowest tables that were measured, with H near its limit, the call answers in less than 3
- * milliseconds. That the verdict is right is proved. How long it takes is only measured.
+ * to fit are passed over. That the verdict is right is proved. How long it takes is only measured, as said above.
  */
 uint32_t verdict(const uint8_t *table, size_t table_len, uint8_t *answer, size_t answer_len);
 
@@ -277,10 +324,8 @@ uint32_t verdict(const uint8_t *table, size_t table_len, uint8_t *answer, size_t
  * buffer, and the bytes past the log's length stay as they were. With every refusal but 13 the whole log buffer is
  * filled with zeros. The table and the script are only read.
  */
-uint32_t replay(const uint8_t *table, size_t table_len,
-                const uint8_t *script, size_t script_len,
-                uint8_t *log, size_t log_len,
-                uint8_t *answer, size_t answer_len);
+uint32_t replay(const uint8_t *table, size_t table_len, const uint8_t *script, size_t script_len,
+    uint8_t *log, size_t log_len, uint8_t *answer, size_t answer_len);
 
 /*
  * A live run. Its words are the scheduler's, and no host needs to know what they say: it reads the answers. A run is
@@ -328,6 +373,39 @@ uint32_t run_tick(struct jyrmekko_run *run, uint8_t *answer, size_t answer_len);
  * leaves the run as it was. Every status but 13 writes the answer buffer.
  */
 uint32_t run_end(struct jyrmekko_run *run, uint64_t serial, uint8_t *answer, size_t answer_len);
+
+/*
+ * The helpers, for a host that makes tables and scripts, reads logs, and says to people what a status means. They are
+ * plain C, in c/jyrmekko.c, which the installed library has in it. They are tested against the proved calls, and are
+ * not proved. They keep no state and take no memory, as the calls do.
+ */
+
+/* Returns the JYRMEKKO_VERSION_NUMBER with which the library was compiled. */
+uint32_t jyrmekko_version_number(void);
+
+/*
+ * Returns a short text for a status, in the words of the rules, such as "feasible" for 20. It begins in lower case and
+ * has no full stop. It is never null: for a number that is no status it says so. Nobody may write to it.
+ */
+const char *jyrmekko_text(uint32_t status);
+
+/* Return the first and the second number of an answer buffer of JYRMEKKO_ANSWER_SIZE bytes, all eight bytes of each. */
+uint64_t jyrmekko_first(const uint8_t *answer);
+uint64_t jyrmekko_second(const uint8_t *answer);
+
+/*
+ * Writes the spelling of a value at the start of out, which has room for so many bytes. Returns the length of the
+ * spelling, 1 to JYRMEKKO_NUMBER_SIZE. Where the value is above JYRMEKKO_LARGEST_NUMBER, or the room is too short, it
+ * writes nothing and returns 0.
+ */
+size_t jyrmekko_write_number(uint8_t *out, size_t room, uint64_t value);
+
+/*
+ * Reads the number that starts at *at, a place in so many bytes. Returns 1, stores the number in *value, and moves *at
+ * past its last byte. Where no number is spelled there, it returns 0, leaves *value as it was, and moves *at to the bad
+ * byte. That is the place which 1 and 14 name: the length where the number is cut off, or where *at was past the end.
+ */
+int jyrmekko_read_number(const uint8_t *bytes, size_t length, size_t *at, uint64_t *value);
 
 #ifdef __cplusplus
 }

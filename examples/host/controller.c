@@ -1,7 +1,7 @@
 /*
  * controller: a rig's controller, which keeps a live run. From the top of the repository it is built and run so:
  *
- *     cc -I include examples/host/controller.c "$(c/library)" -o controller && ./controller
+ *     cc -I include examples/host/controller.c c/jyrmekko.c "$(c/library)" -o controller && ./controller
  *
  * A field reading is released every 10 ticks, and two signal steps every 20. At tick 3 the host floods the rig with 300
  * messages. The readings are on time all the same, and the messages for which there is no place are refused aloud. The
@@ -43,15 +43,6 @@ static struct job {
 static uint64_t job_count;
 static unsigned readings_in_time, readings_ended;
 
-/* Returns the first or the second number of the answer. */
-static uint64_t number(int which)
-{
-    uint64_t value = 0;
-    for (int i = 7; i >= 0; i--)
-        value = value << 8 | answer[8 * which + i];
-    return value;
-}
-
 static void stop(const char *what, uint64_t value)
 {
     fflush(stdout);
@@ -77,9 +68,9 @@ static uint32_t release(uint64_t row)
         return status;
     if (status != JYRMEKKO_ACCEPTED)
         stop("run_release says", status);
-    if (number(0) != job_count || job_count == MOST_JOBS)
-        stop("run_release gives out the serial", number(0));
-    jobs[job_count++] = (struct job){row, now, number(1), 0, false};
+    if (jyrmekko_first(answer) != job_count || job_count == MOST_JOBS)
+        stop("run_release gives out the serial", jyrmekko_first(answer));
+    jobs[job_count++] = (struct job){row, now, jyrmekko_second(answer), 0, false};
     return status;
 }
 
@@ -101,8 +92,8 @@ static void on_early_reading(uint64_t serial)
     uint32_t status = run_end(&run, serial, answer, sizeof answer);
     if (status != JYRMEKKO_ENDED)
         stop("run_end says", status);
-    if (number(0) != job->given)
-        stop("run_end counts so many units:", number(0));
+    if (jyrmekko_first(answer) != job->given)
+        stop("run_end counts so many units:", jyrmekko_first(answer));
     job->ended = true;
     readings_ended++;
     printf("tick %2" PRIu64 ": the reading of tick %" PRIu64 " came early, and is ended after %" PRIu64 " of %" PRIu64 " units\n",
@@ -121,7 +112,7 @@ static void expect_done(const struct job *job)
 static void on_timer(void)
 {
     uint32_t status = run_tick(&run, answer, sizeof answer);
-    uint64_t serial = number(0), late = number(1);
+    uint64_t serial = jyrmekko_first(answer), late = jyrmekko_second(answer);
     now++;
     if (status == JYRMEKKO_RAN || status == JYRMEKKO_FINISHED) {
         struct job *job = job_of(serial); /* A controller would now let this job go on for a tick. */
