@@ -1,11 +1,13 @@
 /*
  * Tests the column of jyrmekko.h that says how many bytes of stack each call takes below its caller, on the inputs that
- * ask the most of it. Each call is the first one of its process, so that the dynamic linker binds memcpy() and memset()
- * in it, and it is made on a stack that was painted before. The lowest word that has lost its paint says what the call
- * took. No call may take more than the header says, and the header may say no more than 1.05 times what its call took.
+ * ask the most of it. Each call is made twice in a process of its own, on a stack that was painted before. The lowest word
+ * that has lost its paint says what the call took. In the first call the dynamic linker binds memcpy() and memset(), which
+ * takes some thousand bytes more, by the registers that the processor has. So the second call is what the header says: it
+ * takes no more than that, and the header says no more than 1.02 times of it. The first one has the room besides that the
+ * macros of the header leave.
  *
- * HEADER is the path of jyrmekko.h. The program has to be linked with the words -Wl,-z,lazy, and LD_BIND_NOW must not be
- * set. The last line is 'N passed, M failed'.
+ * HEADER is the path of jyrmekko.h. The program is linked with the words -Wl,-z,lazy, so that there is something to bind.
+ * The last line is 'N passed, M failed'.
  */
 #define _GNU_SOURCE
 
@@ -30,6 +32,8 @@ enum { IS_MEASURED = 1 };
 #else /* On other processors the library has a stack of its own, in the emulator. */
 enum { IS_MEASURED = 0 };
 #endif
+
+enum { ROOM = 16384 }; /* JYRMEKKO_STACK_SIZE and JYRMEKKO_RUN_STACK_SIZE leave so many bytes. */
 
 static unsigned passed, failed;
 
@@ -292,14 +296,10 @@ static void check_header(void)
             printf("%s takes %lu bytes of stack as the first call and %lu after that, and the header says %lu\n",
                    names[call], (unsigned long)most_first[call], (unsigned long)most_again[call],
                    (unsigned long)said[call]);
-            check(most_first[call] <= said[call] && most_again[call] <= said[call], names[call],
-                  "it takes more stack than the header says");
-            check(100 * said[call] <= 105 * most_first[call], names[call], "the header says too much for its stack");
+            check(most_again[call] <= said[call], names[call], "it takes more stack than the header says");
+            check(100 * said[call] <= 102 * most_again[call], names[call], "the header says too much for its stack");
+            check(most_first[call] <= said[call] + ROOM, names[call], "the first call takes more stack than there is room");
         }
-    }
-    if (IS_MEASURED) {
-        check(most_first[VERDICT] > most_again[VERDICT] && most_first[START] > most_again[START], "verdict and run_start",
-              "nothing was bound in the first call");
     }
 }
 

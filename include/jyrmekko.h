@@ -24,14 +24,14 @@
  *
  * Time and stack. Both are measured, and not proved. The times are microseconds on an AMD EPYC processor with little
  * other work beside it, on the slowest inputs that were found for each call. For replay() they are microseconds for each
- * job. The stack is the most bytes that a call takes below its caller, with any input. The first call of a program is
- * counted, in which the dynamic linker binds memcpy() and memset(). Times and stack are measured by bench/worst.c and
- * c/test_stack_use.c, which stand in the repository. The numbers are the highest median of five runs, the slowest of all
- * calls in them, and the stack:
+ * job. The stack is the most bytes that a call takes below its caller, with any input. In the first call of a program the
+ * dynamic linker binds memcpy() and memset(), which takes some thousand bytes more, 3,200 on that processor. Times and
+ * stack are measured by bench/worst.c and c/test_stack_use.c, which stand in the repository. The numbers are the highest
+ * median of five runs, the slowest of all calls in them, and the stack:
  *
- *     verdict()        5,100     6,900    54,000
- *     replay()           0.4       0.5    71,000
- *     run_start()          4        45   107,000
+ *     verdict()        5,100     6,900    51,000
+ *     replay()           0.4       0.5    68,000
+ *     run_start()          4        45   104,000
  *     run_release()       11        52   286,000
  *     run_tick()           9        44   220,000
  *     run_end()           10        46   261,000
