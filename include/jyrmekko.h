@@ -27,14 +27,14 @@
  * job. The stack is the most bytes that a call takes below its caller, with any input. In the first call of a program the
  * dynamic linker binds memcpy() and memset(), which takes some thousand bytes more, 3,200 on that processor. Times and
  * stack are measured by bench/worst.c and c/test_stack_use.c, which stand in the repository. The numbers are the highest
- * median of five runs, the slowest of all calls in them, and the stack:
+ * median of ten runs, the slowest of all calls in them, and the stack:
  *
- *     verdict()        5,100     6,900    51,000
- *     replay()           0.4       0.5    68,000
- *     run_start()          4        45   104,000
- *     run_release()       11        52   286,000
- *     run_tick()           9        44   220,000
- *     run_end()           10        46   261,000
+ *     verdict()       5,100     7,900    51,000
+ *     replay()          0.5       0.7    68,000
+ *     run_start()         6        69   104,000
+ *     run_release()      24       150   286,000
+ *     run_tick()         11        56   220,000
+ *     run_end()          24       139   261,000
  *
  * A verdict on a small table takes less than a microsecond. The times of replay() are for jobs of which each goes before
  * 255 others that wait. Where each goes behind those that wait, or none waits, it takes 0.02 to 0.06 microseconds for
