@@ -170,6 +170,13 @@ static void waiting(uint64_t places, uint64_t gap, uint64_t cost)
         put_record(gap, 0, cost);
 }
 
+/* All places are taken at the start, and in each tick one job finishes and one comes, which goes behind all that wait. */
+static void behind(void)
+{
+    for (uint64_t i = 0; i < JOBS; i++)
+        put_record(i < JYRMEKKO_MOST_PENDING ? 0 : 1, 0, 1);
+}
+
 static void measure_replay(void)
 {
     size_t count = rounds < 50 ? rounds : 50;
@@ -182,6 +189,9 @@ static void measure_replay(void)
     start_table(0, 1, 1), put_row(64, 1, 1, 1), put(1), put(1), put(4096);
     waiting(JYRMEKKO_MOST_PENDING - 1, 1, 1);
     measure("replay", "100,000 jobs, each before 255 that wait", play, JYRMEKKO_IN_TIME, count);
+    start_table(0, 1, 1), put_row(64, 1, 16384, 1), put(0);
+    behind();
+    measure("replay", "100,000 jobs, each behind 255 that wait", play, JYRMEKKO_IN_TIME, count);
 }
 
 /* A run in which every row keeps as many due times as it can, and in which so many jobs are pending. */

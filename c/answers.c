@@ -117,11 +117,13 @@ void say_verdict(FILE *out, struct answer answer, const struct input *table)
         json_text("answer", answer.status == JYRMEKKO_FEASIBLE ? "feasible" : "overloaded");
         return;
     }
+    struct content content = content_of(table->bytes);
     if (answer.status == JYRMEKKO_FEASIBLE) {
         fprintf(out, "feasible %" PRIu32 ": no length of time has more demand than length\n", answer.status);
+        if (content.row_count == 0 && content.server_count == 0)
+            fprintf(out, "the table has no row and no server, so that it has no jobs\n");
         return;
     }
-    struct content content = content_of(table->bytes);
     uint64_t odd = 0;
     period_of(&content); /* This stops the program where no library may accept the table. */
     for (size_t server = 0; server < content.server_count; server++)

@@ -64,7 +64,8 @@ finish() {
 
 # macro NAME: prints the number that a macro of jyrmekko.h stands for. The test runs in the folder above include/.
 macro() {
-  echo "$1" | "${CC:-cc}" -E -P -include include/jyrmekko.h -x c - | tail -n 1
+  # shellcheck disable=SC2086 # CC may have several words.
+  echo "$1" | ${CC:-cc} -E -P -include include/jyrmekko.h -x c - | tail -n 1
 }
 
 # bytes HEX..: writes these bytes to standard output.

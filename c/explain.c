@@ -186,6 +186,7 @@ static void json_witness(const struct witness *witness)
         json_begin(NULL, '{');
         json_number("server", i - witness->row_count);
         json_number("row", i);
+        json_number("jobs", witness->jobs[i].count);
         json_number("units", witness->jobs[i].units);
         json_end();
     }

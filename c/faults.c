@@ -150,7 +150,7 @@ static struct fault fault_of_period(struct answer answer, struct bytes bytes)
     struct fault fault = out_of_range(answer.status, bytes.length, of_row ? "row" : "server", table.of, "H", period, 1,
                                       LARGEST_PERIOD);
     fault.cause = table.start;
-    say(&fault, "with its %c, H, the least common multiple of p, all y and all b, is %s; it must be 1 to %s",
+    say(&fault, "with its %c, H, the least common multiple of p, all y and all b, is at least %s; it must be 1 to %s",
         of_row ? 'y' : 'b', grouped(period), grouped(LARGEST_PERIOD));
     return fault;
 }

@@ -29,8 +29,10 @@ static const struct command {
      "For a feasible table: the share of the processor that rows, servers and timer ask for, how far the c of each row could\n"
      "grow by itself, and the least slack: how many ticks a length of time has to spare at the least, among the lengths at\n"
      "which the demand of a row or a server steps up.\n"
-     "For an overloaded table: the jobs and units of each row and server in the witness, and the taken ticks. With\n"
-     "'--script FILE' the script of these jobs is written, as text. 'rig replay' then shows the late job.\n"},
+     "For an overloaded table: the witness, which is the shortest length of time in which the jobs ask for more than there\n"
+     "is, with the jobs and units of each row and server in it, and the taken ticks. With '--script FILE' the script of\n"
+     "these jobs is written, as text. 'rig replay' then shows the late job, or refuses the script (8) where its jobs need\n"
+     "more than the 256 places that there are, and then this is said.\n"},
     {"replay", "rig replay [--bytes|--text] [--json] TABLE SCRIPT [LOG]\n",
      "rig replay TABLE SCRIPT [LOG]    runs the releases of a script, and writes a record for each job to LOG\n",
      "Runs the releases of a script on a table, and says for each row and server how many jobs there were, how many were\n"
@@ -40,7 +42,7 @@ static const struct command {
     {"show",
      "rig show table [--bytes|--text] [--json] TABLE\n"
      "rig show script [--bytes|--text] [--json] SCRIPT [TABLE]\n"
-     "rig show log [--bytes|--text] [--json] LOG [TABLE SCRIPT]\n",
+     "rig show log [--json] LOG [[--bytes|--text] TABLE SCRIPT]\n",
      "rig show table TABLE             shows the numbers of a table\n"
      "rig show script SCRIPT [TABLE]   shows a script with its times, and beside a table its due times and servers\n"
      "rig show log LOG [TABLE SCRIPT]  shows a log, and says whether it is the whole log of that replay\n",
@@ -50,7 +52,8 @@ static const struct command {
      "rig spell TEXT OUT               turns the text of a table or a script into its bytes\n",
      "A text is decimal numbers, without separators, and comments that start with #. A table is s and p of the sampling\n"
      "timer on the first line, then the row count on a line of its own, then a line 'x y d c' for each row, and a line\n"
-     "'server a b' for each server. A script is a line 'gap row cost' for each release.\n"},
+     "'server a b' for each server. A script is a line 'gap row cost' for each release. It is said for what the text was\n"
+     "taken.\n"},
     {"demo", "./rig demo\n", "rig demo                         shows all of this on examples/ (only as ./rig demo)\n",
      "Shows the main job on the examples of the repository.\n"},
     {"help", "rig help [COMMAND]\nrig COMMAND --help\nrig --help\nrig -h\n",
@@ -70,8 +73,10 @@ static const char options[] =
 
 static const char files[] =
     "A table starts with s and p of the sampling timer, which takes the first s ticks of every p. Then come the row\n"
-    "count, on a line of its own, and x, y, d and c of each row. A rig without a timer has '0 1' in front, and a table\n"
-    "that was written before tables had a timer needs these two numbers there.\n"
+    "count, on a line of its own, and a line 'x y d c' for each row: x executions in any y ticks, each due d ticks after\n"
+    "its release, each of at most c units. A rig without a timer has '0 1' in front, and a table that was written before\n"
+    "tables had a timer needs these two numbers there. A script is a line 'gap row cost' for each release: the ticks since\n"
+    "the release before it, the row number, counted from 0, and the units that it costs.\n"
     "\n"
     "After the rows each server has a line 'server a b'. It gives a units in b ticks to odd jobs, which may come at any\n"
     "time. An odd job is due b/a ticks for each unit of its cost, rounded up, after its release or after the due time of\n"

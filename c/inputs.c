@@ -60,17 +60,23 @@ static bool could_be_bytes(const struct reading *reading)
     return reading->file.form != AS_TEXT;
 }
 
+/* Returns whether bytes start as a text does that has a byte in it which is none, such as a letter of another spelling. */
+static bool starts_as_text(struct bytes bytes)
+{
+    enum { SHORTEST = 4 };
+    return length_of_text(bytes) >= SHORTEST && (bytes.at[0] == '#' || (bytes.at[0] >= '0' && bytes.at[0] <= '9'));
+}
+
 /*
  * Says how a file is read whose form was not told. A file of bytes that starts with a digit or a comment, and with some more
  * text, may be a text that has only a wrong byte, so this byte is named.
  */
 static void say_form(const struct input *input)
 {
-    enum { SHORTEST = 4 };
-    struct bytes bytes = input->form == AS_BYTES ? input->bytes : nothing;
-    size_t length = length_of_text(bytes);
+    size_t length = input->form == AS_BYTES ? length_of_text(input->bytes) : 0;
+    struct bytes bytes = input->bytes;
     fprintf(stderr, "rig: %s is read as %s", shown(input->path), input->form == AS_TEXT ? "text" : "bytes");
-    if (length >= SHORTEST && (bytes.at[0] == '#' || (bytes.at[0] >= '0' && bytes.at[0] <= '9')))
+    if (input->form == AS_BYTES && starts_as_text(bytes) && length < bytes.length)
         fprintf(stderr, ", since its byte %s is %02X, which is no text in UTF-8: say --text if it is a text", grouped(length),
                 bytes.at[length]);
     fputc('\n', stderr);
@@ -84,7 +90,8 @@ static struct input settle(struct reading *reading, bool accepted_as_bytes)
 {
     struct named_file file = reading->file;
     struct input input = {file.path, AS_BYTES, reading->source.content, {0}};
-    bool is_no_text = !is_text_so_far(&reading->source) && reading->source.content.length > 0;
+    bool is_no_text = !is_text_so_far(&reading->source) && reading->source.content.length > 0 &&
+                      !starts_as_text(reading->source.content);
     close_source(&reading->source);
     if (file.form == UNTOLD && reading->could_be_text && accepted_as_bytes)
         stop(RIG_USAGE, "%s could be a text, and would be accepted as bytes too: say --text or --bytes before its name",

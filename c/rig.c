@@ -179,9 +179,11 @@ static int answer(const struct request *request)
 /* Returns whether the option --json is given, so that all that is wrong with the other words is said in JSON too. */
 static bool asks_for_json(int words, char **word)
 {
-    for (int i = 1; i < words && strcmp(word[i], "--") != 0; i++)
+    for (int i = 1; i < words && strcmp(word[i], "--") != 0; i++) {
         if (strcmp(word[i], "--json") == 0)
             return true;
+        i += strcmp(word[i], "--script") == 0; /* The word after it is the name of a file. */
+    }
     return false;
 }
 

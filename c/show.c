@@ -313,11 +313,12 @@ static void hold_to_replay(const char *path, struct bytes log, struct bytes whol
     while (at < log.length && at < whole.length && log.at[at] == whole.at[at])
         at++;
     bool same = at == log.length && at == whole.length;
+    uint64_t jobs = count_numbers(whole) / LOG_NUMBERS;
     if (!as_json)
         puts(same ? ", the whole log of this replay" : "");
     if (!same && at == log.length)
-        stop(RIG_CONTENT, "%s is cut off at byte %s: the replay's log goes on, and has %s jobs", shown(path), grouped(at),
-             grouped(count_numbers(whole) / LOG_NUMBERS));
+        stop(RIG_CONTENT, "%s is cut off at byte %s: the replay's log goes on, and has %s job%s", shown(path), grouped(at),
+             grouped(jobs), plural(jobs));
     if (!same)
         stop(RIG_CONTENT, "%s is not the log of this replay: from byte %s on they differ", shown(path), grouped(at));
 }
@@ -328,8 +329,12 @@ int show_log(struct named_file file, struct named_file table, struct named_file 
     const char *path = file.path;
     const struct replayed *replayed = NULL;
     struct counts counts = {false, 0, 0};
+    if (file.form == AS_TEXT)
+        stop(RIG_USAGE, "a log is always bytes: --text belongs after its name, before that of the table or the script");
+    if (table.path != NULL && is_standard(path) && (is_standard(table.path) || is_standard(script.path)))
+        stop(RIG_USAGE, "standard input can't be both the log and the table or the script");
     log = read_file(path, SIZE_MAX);
-    if (file.form == AS_TEXT || (file.form == UNTOLD && is_text(log))) /* A log has a job with the serial 0, which is no text. */
+    if (file.form == UNTOLD && is_text(log)) /* A log has a job with the serial 0, which is no text. */
         stop(RIG_CONTENT, "%s is text, and a log is bytes, as replay writes it", shown(path));
     if (table.path != NULL) {
         replayed = replay_files(table, script, NULL);

@@ -53,15 +53,6 @@ static bool has_lines_of_table(const struct text *text)
            (text->count == HEAD || words[COUNT_AT].line != words[HEAD].line);
 }
 
-/* Returns whether so many numbers are a table with its server count, and two numbers for each server. */
-static bool has_plain_servers(const struct text *text, size_t numbers)
-{
-    if (numbers < HEAD || text->words[COUNT_AT].value > (numbers - HEAD) / PER_ROW)
-        return false;
-    size_t count_at = HEAD + PER_ROW * (size_t)text->words[COUNT_AT].value;
-    return count_at < numbers && numbers - count_at - 1 == PER_SERVER * text->words[count_at].value;
-}
-
 /* Returns how many of the first `numbers` words stand on the line of one of them, from this one on. */
 static size_t count_on_line(const struct text *text, size_t word, size_t numbers)
 {
@@ -71,10 +62,37 @@ static size_t count_on_line(const struct text *text, size_t word, size_t numbers
     return end - word;
 }
 
+/* Returns whether so many numbers are a table with its server count, and two numbers for each server. */
+static bool has_plain_servers(const struct text *text, size_t numbers)
+{
+    if (numbers < HEAD || text->words[COUNT_AT].value > (numbers - HEAD) / PER_ROW)
+        return false;
+    size_t count_at = HEAD + PER_ROW * (size_t)text->words[COUNT_AT].value;
+    if (count_at >= numbers || numbers - count_at - 1 != PER_SERVER * text->words[count_at].value)
+        return false;
+    bool is_alone = text->words[count_at - 1].line != text->words[count_at].line &&
+                    count_on_line(text, count_at, numbers) == 1;
+    return is_alone || !has_lines_of_table(text); /* Otherwise it could as well be a row that lacks a number. */
+}
+
 static void say_no_timer(struct text *text)
 {
     wrong_at(text, 0, "a table starts with s and p of its timer: put them on a line in front of the row count, '0 1' where "
                       "the rig has no timer");
+}
+
+/* Counts the rows among the first `numbers` words, line by line. A line that has no whole rows is a problem. */
+static uint64_t count_rows(struct text *text, size_t numbers)
+{
+    uint64_t rows = 0;
+    for (size_t at = HEAD, found; at < numbers && text->problem == NULL; at += found) {
+        found = count_on_line(text, at, numbers);
+        if (found % PER_ROW != 0)
+            wrong_at(text, at, "row %s has %s number%s; a row has four, x, y, d and c, and a server is a line 'server a b'",
+                     grouped(rows), grouped(found), plural(found));
+        rows += found / PER_ROW;
+    }
+    return rows;
 }
 
 /* Says where the numbers before the first server are not those that the row count asks for. */
@@ -93,23 +111,16 @@ static void say_wrong_rows(struct text *text, size_t numbers)
         wrong_at(text, COUNT_AT, "the row count is missing: it stands on a line of its own, before the rows");
         return;
     }
-    uint64_t wanted = text->words[COUNT_AT].value, rows = 0;
+    uint64_t wanted = text->words[COUNT_AT].value;
     if (numbers > HEAD && text->words[HEAD].line == text->words[COUNT_AT].line) {
         wrong_at(text, COUNT_AT, "the row count is %s, so %s numbers should follow it, and %s do", grouped(wanted),
                  grouped(PER_ROW * wanted), grouped(numbers - HEAD));
         return;
     }
-    for (size_t at = HEAD, found; at < numbers; at += found) {
-        found = count_on_line(text, at, numbers);
-        if (found % PER_ROW != 0) {
-            wrong_at(text, at, "row %s has %s number%s; a row has four, x, y, d and c, and a server is a line 'server a b'",
-                     grouped(rows), grouped(found), plural(found));
-            return;
-        }
-        rows += found / PER_ROW;
-    }
-    wrong_at(text, COUNT_AT, "the row count is %s, but %s row%s follow%s it", grouped(wanted), grouped(rows), plural(rows),
-             rows == 1 ? "s" : "");
+    uint64_t rows = count_rows(text, numbers);
+    if (text->problem == NULL)
+        wrong_at(text, COUNT_AT, "the row count is %s, but %s row%s follow%s it", grouped(wanted), grouped(rows),
+                 plural(rows), rows == 1 ? "s" : "");
 }
 
 /* Expects that each word 'server' from this one on has its two numbers. */
@@ -141,22 +152,25 @@ static struct bytes spell_words(struct text *text)
     return spelled;
 }
 
+/* Where the numbers of a text have the lines of a table, each line after them has whole rows, so that no slip moves a number. */
 static struct bytes spell_table(struct text *text)
 {
     struct bytes spelled = {NULL, 0};
     size_t numbers = numbers_in_front(text);
-    bool has_servers = numbers < text->count;
+    bool has_servers = numbers < text->count, has_plain = !has_servers && has_plain_servers(text, numbers);
     if (has_servers && numbers == 0)
         wrong_at(text, 0, "a server stands after the last row of a table: before it come s and p, the row count, and four "
                           "numbers for each row");
-    else if (!has_servers && has_plain_servers(text, numbers))
-        return spell_words(text);
-    else if (!has_rows(text, numbers))
+    else if (!has_plain && !has_rows(text, numbers))
         say_wrong_rows(text, numbers);
-    else
+    else if (has_lines_of_table(text))
+        count_rows(text, HEAD + PER_ROW * (size_t)text->words[COUNT_AT].value);
+    if (text->problem == NULL)
         expect_servers(text, numbers);
     if (text->problem != NULL)
         return spelled;
+    if (has_plain)
+        return spell_words(text);
     struct word count = {(text->count - numbers) / (1 + PER_SERVER), false, 0, 0, 0};
     spelled.at = allocate((text->count + 1) * MOST_GROUPS);
     for (size_t i = 0; i <= text->count; i++) {
@@ -170,28 +184,45 @@ static struct bytes spell_table(struct text *text)
     return spelled;
 }
 
-static struct bytes spell_script(struct text *text)
+/*
+ * Returns the first word of a line that has no whole releases, or the number of words where there is no such line. Where no
+ * two numbers stand on one line, the lines say nothing, and only the number of numbers counts.
+ */
+static size_t broken_release(const struct text *text)
 {
-    size_t numbers = numbers_in_front(text);
-    if (numbers < text->count)
-        wrong_at(text, numbers, "a script has no servers: each release is three numbers, its gap, row number and cost");
-    for (size_t at = 0, found; text->problem == NULL && text->count % PER_RELEASE != 0; at += found) {
+    bool by_lines = text->count % PER_RELEASE != 0;
+    for (size_t i = 1; i < text->count; i++)
+        by_lines = by_lines || text->words[i].line == text->words[i - 1].line;
+    for (size_t at = 0, found; by_lines && at < text->count; at += found) {
         found = count_on_line(text, at, text->count);
         if (found % PER_RELEASE != 0)
-            wrong_at(text, at, "this line has %s number%s; a release has three, its gap, row number and cost", grouped(found),
-                     plural(found));
+            return at;
+    }
+    return text->count;
+}
+
+static struct bytes spell_script(struct text *text)
+{
+    size_t numbers = numbers_in_front(text), broken = broken_release(text);
+    if (numbers < text->count)
+        wrong_at(text, numbers, "a script has no servers: each release is three numbers, its gap, row number and cost");
+    else if (broken < text->count) {
+        size_t found = count_on_line(text, broken, text->count);
+        wrong_at(text, broken, "this line has %s number%s; a release has three, its gap, row number and cost", grouped(found),
+                 plural(found));
     }
     return text->problem == NULL ? spell_words(text) : (struct bytes){NULL, 0};
 }
 
 /*
  * Spells a text of which nobody said what it is. Where its numbers could also be those of a script, three for each
- * release, it is taken for a table only if its row count starts a line.
+ * release, it is taken for a table only if its row count starts a line. *as says for what it was taken.
  */
-static struct bytes spell_either(struct text *text)
+static struct bytes spell_either(struct text *text, const char **as)
 {
     bool could_be_script = text->count % PER_RELEASE == 0;
     bool has_servers = numbers_in_front(text) < text->count;
+    *as = "a table";
     if (has_servers || has_lines_of_table(text) ||
         (has_rows(text, text->count) && (!could_be_script || text->words[1].line != text->words[COUNT_AT].line)))
         return spell_table(text);
@@ -200,6 +231,7 @@ static struct bytes spell_either(struct text *text)
         say_no_timer(text);
         return (struct bytes){NULL, 0};
     }
+    *as = broken_release(text) == text->count ? "a script" : "plain numbers, which are no table and no script";
     return spell_words(text);
 }
 
@@ -207,14 +239,7 @@ struct bytes spell_text(struct text *text, enum kind kind)
 {
     if (text->problem != NULL)
         return (struct bytes){NULL, 0};
-    switch (kind) {
-    case TABLE:
-        return spell_table(text);
-    case SCRIPT:
-        return spell_script(text);
-    default:
-        return spell_either(text);
-    }
+    return kind == TABLE ? spell_table(text) : spell_script(text);
 }
 
 int spell(const char *text_path, const char *out_path)
@@ -222,15 +247,18 @@ int spell(const char *text_path, const char *out_path)
     static struct source source;
     static struct text text;
     static struct bytes spelled;
+    const char *as = NULL;
     source = open_source(text_path);
     expect_not_read(out_path);
     text = read_text(&source);
     close_source(&source);
     if (text.problem == NULL && text.count == 0)
         stop(RIG_CONTENT, "%s holds no number: there is nothing to spell", shown(text_path));
-    spelled = spell_text(&text, EITHER);
+    if (text.problem == NULL)
+        spelled = spell_either(&text, &as);
     if (text.problem != NULL)
         stop_at_problem(text_path, &text);
     write_file(out_path, spelled);
+    fprintf(stderr, "rig: %s is spelled as %s\n", shown(text_path), as);
     return RIG_DONE;
 }

@@ -76,7 +76,7 @@ static void take_letter(struct text *text, uint8_t letter)
     if (text->letters == 0 && !text->in_number)
         start_word(text);
     if (letter == ',' && text->in_number) {
-        set_problem(text, text->line, text->column, "a number is written without separators: 4096, and not 4,096");
+        set_problem(text, text->line, text->column, "a number is written without separators, 4096 and not 4,096, and white space stands between numbers");
     } else if (text->in_number || text->letters == sizeof server_word - 1 ||
                letter != (uint8_t)server_word[text->letters]) {
         set_problem(text, text->word.line, text->word.column, no_word);
@@ -132,6 +132,8 @@ static const char *name_word(struct source *source, size_t at)
     struct bytes content = source->content;
     while (at < end && goes_on(content, at)) {
         size_t size = printable(content.at + at, content.length - at);
+        if (size == 2 && content.at[at] == 0xC2 && content.at[at + 1] == 0xA0)
+            size = 0; /* This space looks like one that ends a word, and does not. */
         if (size == 0)
             length += (size_t)snprintf(says + length, sizeof says - length, "\\x%02X", content.at[at++]);
         for (; size > 0; size--)

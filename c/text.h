@@ -28,7 +28,7 @@ struct text {
     size_t problem_line, problem_column;
 };
 
-enum kind { TABLE, SCRIPT, EITHER };
+enum kind { TABLE, SCRIPT };
 
 /* Returns how many bytes at the start could be a text: printable characters and white space, in UTF-8. */
 size_t length_of_text(struct bytes content);
@@ -39,10 +39,7 @@ bool is_text(struct bytes content);
 /* Reads the words of a source, to its end or to the first problem. */
 struct text read_text(struct source *source);
 
-/*
- * Spells a text as a table or as a script. EITHER takes it for a table where it has servers or the layout of one, and
- * else spells the numbers as they stand. Where the text is no such thing, it gets a problem, and the bytes are empty.
- */
+/* Spells a text as a table or as a script. Where it is no such thing, it gets a problem, and the bytes are empty. */
 struct bytes spell_text(struct text *text, enum kind kind);
 
 /* Stops the program with what is wrong with the text of a file. */

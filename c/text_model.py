@@ -90,7 +90,8 @@ class Words:
         if digits and int(digits) > LARGEST:
             raise Mistake((line, column), "a number is above 2^42 - 1, the largest that can be spelled")
         if digits and word[len(digits):].startswith(","):
-            raise Mistake((line, column + len(digits)), "a number is written without separators: 4096, and not 4,096")
+            raise Mistake((line, column + len(digits)), "a number is written without separators, 4096 and not 4,096, "
+                          "and white space stands between numbers")
         if digits != word:
             raise Mistake((line, column), f"'{self.shortened(word)}' {NO_WORD}")
         return int(digits)
@@ -112,11 +113,27 @@ def some(count, name):
     return f"{count:,} {name}{'' if count == 1 else 's'}"
 
 
+def in_lines(text):
+    """Whether s and p stand on one line, and the row count alone on the next."""
+    line = [where[0] for where in text.where]
+    return len(line) >= 3 and line[0] == line[1] != line[2] and (len(line) == 3 or line[2] != line[3])
+
+
+def count_rows(text, front):
+    """How many rows stand on whole lines."""
+    rows = 0
+    for on_line in text.by_line(3, front):
+        if len(on_line) % 4:
+            raise Mistake(text.at(on_line[0]), f"row {rows:,} has {some(len(on_line), 'number')}; a row has four, x, y, d and c, "
+                          "and a server is a line 'server a b'")
+        rows += len(on_line) // 4
+    return rows
+
+
 def expect_row_count(text, front):
     """Finds what is wrong where so many numbers are not s, p, the row count and four for each row."""
     words, line = text.words, [where[0] for where in text.where]
-    in_lines = len(words) >= 3 and line[0] == line[1] != line[2] and (len(words) == 3 or line[2] != line[3])
-    if front == 1 + 4 * words[0] and not in_lines:
+    if front == 1 + 4 * words[0] and not in_lines(text):
         raise Mistake(text.at(0), NO_TIMER)
     if front < 3:
         raise Mistake(text.at(front), "a table starts with s and p of its timer and its row count, and only "
@@ -125,12 +142,7 @@ def expect_row_count(text, front):
         raise Mistake(text.at(2), "the row count is missing: it stands on a line of its own, before the rows")
     if front > 3 and line[3] == line[2]:
         raise Mistake(text.at(2), f"the row count is {words[2]:,}, so {4 * words[2]:,} numbers should follow it, and {front - 3:,} do")
-    rows = 0
-    for on_line in text.by_line(3, front):
-        if len(on_line) % 4:
-            raise Mistake(text.at(on_line[0]), f"row {rows:,} has {some(len(on_line), 'number')}; a row has four, x, y, d and c, "
-                          "and a server is a line 'server a b'")
-        rows += len(on_line) // 4
+    rows = count_rows(text, front)
     raise Mistake(text.at(2), f"the row count is {words[2]:,}, but {some(rows, 'row')} follow{'s' if rows == 1 else ''} it")
 
 
@@ -143,13 +155,19 @@ def spell_table(text):
         raise Mistake(text.at(0), "a server stands after the last row of a table: before it come s and p, the row count, and four "
                       "numbers for each row")
     if front == len(words) and front > 3 and front > 3 + 4 * words[2]:
-        servers = words[3 + 4 * words[2]:]
-        if len(servers) == 1 + 2 * servers[0]:
+        count_at = 3 + 4 * words[2]
+        servers, line = words[count_at:], text.where[count_at][0]
+        alone = [where[0] for where in text.where].count(line) == 1
+        if len(servers) == 1 + 2 * servers[0] and (alone or not in_lines(text)):
+            if in_lines(text):
+                count_rows(text, count_at)
             return numbers
     if front < 3 or front != 3 + 4 * words[2]:
         if front == 0:
             raise Mistake(text.at(0), "a table starts with s and p of its timer and its row count, and only 0 numbers stand there")
         expect_row_count(text, front)
+    if in_lines(text):
+        count_rows(text, front)
     for server in range(front, len(words), 3):
         a_server = [type(word) for word in words[server:server + 3]] == [str, int, int]
         if not a_server or (server + 3 < len(words) and words[server + 3] != "server"):
@@ -162,7 +180,9 @@ def spell_script(text):
     if "server" in text.words:
         raise Mistake(text.at(text.words.index("server")),
                       "a script has no servers: each release is three numbers, its gap, row number and cost")
-    for on_line in text.by_line(0, len(text.words)) if len(text.words) % 3 else []:
+    lines = text.by_line(0, len(text.words))
+    by_lines = len(text.words) % 3 or any(len(on_line) > 1 for on_line in lines)
+    for on_line in lines if by_lines else []:
         if len(on_line) % 3:
             raise Mistake(text.at(on_line[0]),
                           f"this line has {some(len(on_line), 'number')}; a release has three, its gap, row number and cost")
@@ -227,7 +247,7 @@ class Table:
         for place, of, which, name, length in self.lengths:
             self.period = math.lcm(self.period, length)
             if self.period > 1048576:
-                raise Refusal(5, len(data), f"with its {name}, H, the least common multiple of p, all y and all b, is {self.period:,}; it "
+                raise Refusal(5, len(data), f"with its {name}, H, the least common multiple of p, all y and all b, is at least {self.period:,}; it "
                               "must be 1 to 1,048,576", of, which, cause=place, name="H", value=self.period, least=1, most=1048576)
 
     def number(self):
@@ -455,6 +475,8 @@ def verdict(path, told):
     said.status = said.json["status"] = 20 if length is None else 21
     said.json["answer"] = "feasible" if length is None else "overloaded"
     said.out = "feasible 20: no length of time has more demand than length\n"
+    if not table.rows and not table.servers:
+        said.out += "the table has no row and no server, so that it has no jobs\n"
     if length is not None:
         taken, odd = table.taken(length), table.odd(length)
         shares = [f"the timer takes {taken:,}"] * (taken > 0)

@@ -86,6 +86,5 @@ int LLVMFuzzerTestOneInput(const uint8_t *data, size_t size)
 {
     try_text(data, size, TABLE);
     try_text(data, size, SCRIPT);
-    try_text(data, size, EITHER);
     return 0;
 }

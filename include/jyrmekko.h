@@ -17,23 +17,24 @@
  * in.
  *
  * Library. The calls are proved, and compiled for x86-64 with the calling convention of System V, which Linux uses.
- * They need memcpy() and memset() of the C library, and nothing else. The package that ./install makes has this file,
- * and has the calls in libjyrmekko.a. In it the names of the six calls begin with jyrmekko_, so that they meet no
- * other name of a program. In the repository, where target/staticlib/libhost.a has the calls, their names stand
- * without it. The code is the same, byte for byte. Beside the calls there are helpers in plain C, which are declared
- * at the end of this file.
+ * They need memcpy() and memset() of the C library, and nothing else. The package that ./install makes has this file
+ * and libjyrmekko.a. In both the names of the six calls begin with jyrmekko_, so that they meet no other name of a
+ * program. In the repository, where target/staticlib/libhost.a has the calls, their names stand without it. The code is
+ * the same, byte for byte. Beside the calls there are helpers in plain C, which are declared at the end of this file.
  *
  * Time and stack. Both are measured, and not proved. The times are microseconds on an AMD EPYC processor with little
- * other work beside it, on the slowest inputs that were found for each call (bench/worst.c). For replay() they are
- * microseconds for each job. The stack is the most bytes that a call takes below its caller, with any input
- * (c/test_stack.c). The numbers are the highest median of five runs, the slowest of all calls in them, and the stack:
+ * other work beside it, on the slowest inputs that were found for each call. For replay() they are microseconds for each
+ * job. The stack is the most bytes that a call takes below its caller, with any input. In the first call of a program the
+ * dynamic linker binds memcpy() and memset(), which takes some thousand bytes more, 3,200 on that processor. Times and
+ * stack are measured by bench/worst.c and c/test_stack_use.c, which stand in the repository. The numbers are the highest
+ * median of ten runs, the slowest of all calls in them, and the stack:
  *
- *     verdict()        5,100     6,900    57,000
- *     replay()           0.4       0.5    77,000
- *     run_start()          4        45   105,000
- *     run_release()       11        52   286,000
- *     run_tick()           9        44   221,000
- *     run_end()           10        46   262,000
+ *     verdict()       5,100     7,900    51,000
+ *     replay()          0.5       0.7    68,000
+ *     run_start()         6        69   104,000
+ *     run_release()      24       150   286,000
+ *     run_tick()         11        56   220,000
+ *     run_end()          24       139   261,000
  *
  * A verdict on a small table takes less than a microsecond. The times of replay() are for jobs of which each goes before
  * 255 others that wait. Where each goes behind those that wait, or none waits, it takes 0.02 to 0.06 microseconds for

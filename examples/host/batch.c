@@ -84,10 +84,18 @@ static void refuse(const char *call, uint32_t status, bool may_be, const uint8_t
          jyrmekko_text(status), jyrmekko_first(answer), jyrmekko_second(answer));
 }
 
-/* All refusals of the calls are below all answers. */
-static bool is_refusal(uint32_t status)
+/* The refusals that verdict may give are those of a table, and 13. */
+static bool refuses_table(uint32_t status)
 {
-    return status >= JYRMEKKO_MISSPELLED && status < JYRMEKKO_FEASIBLE;
+    return (status >= JYRMEKKO_MISSPELLED && status <= JYRMEKKO_PERIOD_TOO_LONG) || status == JYRMEKKO_HOPELESS_ROW ||
+           status == JYRMEKKO_ANSWER_NOT_16_BYTES;
+}
+
+/* The refusals that replay may give are these, and those of a script and of a log. */
+static bool refuses_replay(uint32_t status)
+{
+    return refuses_table(status) || (status >= JYRMEKKO_NO_SUCH_ROW && status <= JYRMEKKO_TIME_TOO_LATE) ||
+           status == JYRMEKKO_NO_ROOM || status == JYRMEKKO_SCRIPT_MISSPELLED;
 }
 
 /* How many jobs there are, and how many of them are late. */
@@ -136,7 +144,7 @@ int main(int words, char **word)
 
     uint32_t status = jyrmekko_verdict(table.at, table.length, answer, sizeof answer);
     if (status != JYRMEKKO_FEASIBLE)
-        refuse("verdict", status, status == JYRMEKKO_OVERLOADED || is_refusal(status), answer);
+        refuse("verdict", status, status == JYRMEKKO_OVERLOADED || refuses_table(status), answer);
 
     if (script.length > SIZE_MAX / JYRMEKKO_LOG_SIZE(1))
         stop(NO_MEMORY, "the log of so long a script can't be held in memory");
@@ -144,7 +152,7 @@ int main(int words, char **word)
     log.at = resized(NULL, log.length);
     status = jyrmekko_replay(table.at, table.length, script.at, script.length, log.at, log.length, answer, sizeof answer);
     if (status != JYRMEKKO_IN_TIME && status != JYRMEKKO_LATE)
-        refuse("replay", status, is_refusal(status), answer);
+        refuse("replay", status, refuses_replay(status), answer);
     if (jyrmekko_first(answer) > log.length)
         stop(NO_ANSWER, "replay says that its log is longer than the buffer");
     log.length = (size_t)jyrmekko_first(answer);
