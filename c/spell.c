@@ -62,6 +62,18 @@ static size_t count_on_line(const struct text *text, size_t word, size_t numbers
     return end - word;
 }
 
+/*
+ * Returns whether the numbers after the head have lines that count: they start a line, and some stand together on one. Where
+ * all numbers stand on one line, or each on its own, only their number counts.
+ */
+static bool has_lines(const struct text *text, size_t numbers)
+{
+    bool together = false;
+    for (size_t i = HEAD + 1; i < numbers; i++)
+        together = together || text->words[i].line == text->words[i - 1].line;
+    return together && text->words[HEAD].line != text->words[COUNT_AT].line;
+}
+
 /* Returns whether so many numbers are a table with its server count, and two numbers for each server. */
 static bool has_plain_servers(const struct text *text, size_t numbers)
 {
@@ -72,13 +84,27 @@ static bool has_plain_servers(const struct text *text, size_t numbers)
         return false;
     bool is_alone = text->words[count_at - 1].line != text->words[count_at].line &&
                     count_on_line(text, count_at, numbers) == 1;
-    return is_alone || !has_lines_of_table(text); /* Otherwise it could as well be a row that lacks a number. */
+    return is_alone || !has_lines(text, numbers); /* Otherwise it could as well be a row that lacks a number. */
 }
 
 static void say_no_timer(struct text *text)
 {
     wrong_at(text, 0, "a table starts with s and p of its timer: put them on a line in front of the row count, '0 1' where "
                       "the rig has no timer");
+}
+
+/* Expects that s, p and the row count stand on one line, or the row count alone on its own, so that none is left out. */
+static void expect_head(struct text *text, size_t numbers)
+{
+    const struct word *words = text->words;
+    if (numbers < HEAD)
+        return;
+    bool p_starts = words[1].line != words[0].line, count_starts = words[COUNT_AT].line != words[1].line;
+    bool row_starts = numbers == HEAD || words[HEAD].line != words[COUNT_AT].line;
+    if (p_starts && !count_starts)
+        say_no_timer(text);
+    else if (count_starts && !row_starts)
+        wrong_at(text, COUNT_AT, "the row count is missing: it stands on a line of its own, before the rows");
 }
 
 /* Counts the rows among the first `numbers` words, line by line. A line that has no whole rows is a problem. */
@@ -98,17 +124,13 @@ static uint64_t count_rows(struct text *text, size_t numbers)
 /* Says where the numbers before the first server are not those that the row count asks for. */
 static void say_wrong_rows(struct text *text, size_t numbers)
 {
-    if (lacks_timer(text, numbers) && !has_lines_of_table(text)) {
+    if (lacks_timer(text, numbers) && (numbers < HEAD || text->words[HEAD - 1].line == text->words[0].line)) {
         say_no_timer(text);
         return;
     }
     if (numbers < HEAD) {
         wrong_at(text, numbers, "a table starts with s and p of its timer and its row count, and only %zu number%s stand%s "
                  "there", numbers, plural(numbers), numbers == 1 ? "s" : "");
-        return;
-    }
-    if (text->words[1].line != text->words[COUNT_AT].line && count_on_line(text, COUNT_AT, numbers) == PER_ROW) {
-        wrong_at(text, COUNT_AT, "the row count is missing: it stands on a line of its own, before the rows");
         return;
     }
     uint64_t wanted = text->words[COUNT_AT].value;
@@ -152,18 +174,21 @@ static struct bytes spell_words(struct text *text)
     return spelled;
 }
 
-/* Where the numbers of a text have the lines of a table, each line after them has whole rows, so that no slip moves a number. */
+/* Where the rows have lines, each line has whole rows, so that no slip moves a number to the next. */
 static struct bytes spell_table(struct text *text)
 {
     struct bytes spelled = {NULL, 0};
     size_t numbers = numbers_in_front(text);
     bool has_servers = numbers < text->count, has_plain = !has_servers && has_plain_servers(text, numbers);
+    expect_head(text, numbers);
+    if (text->problem != NULL)
+        return spelled;
     if (has_servers && numbers == 0)
         wrong_at(text, 0, "a server stands after the last row of a table: before it come s and p, the row count, and four "
                           "numbers for each row");
     else if (!has_plain && !has_rows(text, numbers))
         say_wrong_rows(text, numbers);
-    else if (has_lines_of_table(text))
+    else if (has_lines(text, numbers))
         count_rows(text, HEAD + PER_ROW * (size_t)text->words[COUNT_AT].value);
     if (text->problem == NULL)
         expect_servers(text, numbers);

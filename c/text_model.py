@@ -113,10 +113,19 @@ def some(count, name):
     return f"{count:,} {name}{'' if count == 1 else 's'}"
 
 
-def in_lines(text):
-    """Whether s and p stand on one line, and the row count alone on the next."""
-    line = [where[0] for where in text.where]
-    return len(line) >= 3 and line[0] == line[1] != line[2] and (len(line) == 3 or line[2] != line[3])
+def in_lines(text, front):
+    """Whether the numbers after the row count start a line, and some stand together on one."""
+    line = [where[0] for where in text.where[:front]]
+    return front > 3 and line[3] != line[2] and len(set(line[3:])) < len(line[3:])
+
+
+def expect_head(text, front):
+    """Finds s and p, or a row count, that was left out: the lines tell."""
+    line = [where[0] for where in text.where[:front]]
+    if front >= 3 and line[0] != line[1] == line[2]:
+        raise Mistake(text.at(0), NO_TIMER)
+    if front > 3 and line[1] != line[2] == line[3]:
+        raise Mistake(text.at(2), "the row count is missing: it stands on a line of its own, before the rows")
 
 
 def count_rows(text, front):
@@ -133,13 +142,11 @@ def count_rows(text, front):
 def expect_row_count(text, front):
     """Finds what is wrong where so many numbers are not s, p, the row count and four for each row."""
     words, line = text.words, [where[0] for where in text.where]
-    if front == 1 + 4 * words[0] and not in_lines(text):
+    if front == 1 + 4 * words[0] and (front < 3 or line[2] == line[0]):
         raise Mistake(text.at(0), NO_TIMER)
     if front < 3:
         raise Mistake(text.at(front), "a table starts with s and p of its timer and its row count, and only "
                       f"{some(front, 'number')} stand{'s' if front == 1 else ''} there")
-    if line[1] != line[2] and [line[word] for word in range(front)].count(line[2]) == 4:
-        raise Mistake(text.at(2), "the row count is missing: it stands on a line of its own, before the rows")
     if front > 3 and line[3] == line[2]:
         raise Mistake(text.at(2), f"the row count is {words[2]:,}, so {4 * words[2]:,} numbers should follow it, and {front - 3:,} do")
     rows = count_rows(text, front)
@@ -154,19 +161,20 @@ def spell_table(text):
     if front == 0 and words:
         raise Mistake(text.at(0), "a server stands after the last row of a table: before it come s and p, the row count, and four "
                       "numbers for each row")
+    expect_head(text, front)
     if front == len(words) and front > 3 and front > 3 + 4 * words[2]:
         count_at = 3 + 4 * words[2]
         servers, line = words[count_at:], text.where[count_at][0]
         alone = [where[0] for where in text.where].count(line) == 1
-        if len(servers) == 1 + 2 * servers[0] and (alone or not in_lines(text)):
-            if in_lines(text):
+        if len(servers) == 1 + 2 * servers[0] and (alone or not in_lines(text, front)):
+            if in_lines(text, front):
                 count_rows(text, count_at)
             return numbers
     if front < 3 or front != 3 + 4 * words[2]:
         if front == 0:
             raise Mistake(text.at(0), "a table starts with s and p of its timer and its row count, and only 0 numbers stand there")
         expect_row_count(text, front)
-    if in_lines(text):
+    if in_lines(text, front):
         count_rows(text, front)
     for server in range(front, len(words), 3):
         a_server = [type(word) for word in words[server:server + 3]] == [str, int, int]
