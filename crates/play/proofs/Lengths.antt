@@ -12,9 +12,9 @@ use Rattle.jobs.specs.Turns.{no_finish}
 use Rattle.run.specs.declared.Run.{Run}
 use Rattle.run.specs.Release.{released}
 use Rattle.run.proofs.Release.{each_release}
-use Rattle.log.specs.Log.{spelled_finish}
-use Rattle.log.specs.SpelledLogs.{spelled_log}
-use Rattle.log.proofs.Logs.{record_length}
+use Rattle.logs.specs.Log.{spelled_finish}
+use Rattle.logs.specs.SpelledLogs.{spelled_log}
+use Rattle.logs.proofs.Logs.{record_length}
 use Rattle.script.specs.declared.Record.{Record}
 use Rattle.script.specs.SpelledScripts.{spelled_script}
 use Rattle.script.proofs.Scripts.{script_is_read}

@@ -27,8 +27,8 @@ use Rattle.run.specs.Sound.{SoundJob}
 use Rattle.run.specs.Ticking.{run_with, is_taken, ticked}
 use Rattle.run.specs.ManyTicks.{finished_by, SoFar, one_more_tick, ticks, ticks_while_pending}
 use Rattle.run.proofs.Ticking.{Good, facts, counted, tick_taken, tick_idle, tick_busy, tick_keeps_good, tick_gives_one_unit}
-use Rattle.log.specs.Log.{values_of, all_in_range}
-use Rattle.log.specs.SpelledLogs.{EachInRange}
+use Rattle.logs.specs.Log.{values_of, all_in_range}
+use Rattle.logs.specs.SpelledLogs.{EachInRange}
 use Rattle.play.specs.LogRecords.{SmallNumbers}
 
 -- ---- one tick

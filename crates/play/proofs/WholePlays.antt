@@ -22,7 +22,7 @@ use Rattle.run.specs.Ticking.{is_taken}
 use Rattle.run.specs.ManyTicks.{finished_by, ticks}
 use Rattle.run.proofs.Fresh.{started_is_sound}
 use Rattle.run.proofs.Ticking.{Good, tick_taken, tick_idle, tick_busy}
-use Rattle.log.proofs.Logs as log
+use Rattle.logs.proofs.Logs as log
 use Rattle.play.specs.Play.{begun}
 use Rattle.play.specs.PlayLaws.{EveryRecordIsAccepted, FinishIsTheLastUnit, FinishesRise, LateIsTheSum, LogReadsBack, OneRecordEach, SerialsCount}
 use Rattle.play.specs.LogRecords.{RecordOf, AskedFor, GotItsLastUnit, OfWhole}

@@ -13,7 +13,7 @@ use Rattle.run.specs.Ticking.{ticked}
 use Rattle.run.specs.ManyTicks.{SoFar}
 use Rattle.run.specs.Answers.{ran, tick_says}
 use Rattle.script.specs.declared.Record.{Record}
-use Rattle.log.specs.SpelledLogs.{EachInRange}
+use Rattle.logs.specs.SpelledLogs.{EachInRange}
 use Rattle.play.specs.Play.{Progress, whole, played}
 
 -- The record is this job's: it has the job's serial, row number, release and due time, and a finish after the release. (8.8)

@@ -9,7 +9,7 @@ use Rattle.run.specs.Sound.{sound_of, Whole}
 use Rattle.run.specs.ManyTicks.{finished_by}
 use Rattle.script.specs.declared.Record.{Record}
 use Rattle.script.specs.SpelledScripts.{Reads}
-use Rattle.log.specs.SpelledLogs.{EachInRange, ReadsAs, spelled_log}
+use Rattle.logs.specs.SpelledLogs.{EachInRange, ReadsAs, spelled_log}
 use Rattle.play.specs.Late.{late_finishes}
 use Rattle.play.specs.LogRecords.{RecordOf, AskedFor, GotItsLastUnit, SmallNumbers, OfWhole}
 

@@ -47,7 +47,7 @@ use Rattle.run.proofs.Ticking.{Good, facts, counted, tick_keeps_good}
 use Rattle.script.specs.Records.{script_number}
 use Rattle.script.proofs.Records.{number_or_14}
 use Rattle.script.proofs.Scripts.{record_is_spelled}
-use Rattle.log.specs.SpelledLogs.{spelled_log}
+use Rattle.logs.specs.SpelledLogs.{spelled_log}
 use Rattle.records.specs.declared.Ready.{Ready}
 use Rattle.records.specs.declared.Tested.{Tested}
 use Rattle.records.specs.declared.Tested.TheVariants as tested

@@ -18,7 +18,7 @@ use Rattle.table.proofs.BadBytes.{refused_at_the_first_bad_byte}
 use Rattle.verdict.specs.declared.Verdict.{Verdict}
 use Rattle.verdict.specs.declared.Verdict.TheVariants as verdict
 use Rattle.verdict.specs.Verdict.{RightOf, RightOfRead, verdict_says}
-use Rattle.log.specs.SpelledLogs.{spelled_log}
+use Rattle.logs.specs.SpelledLogs.{spelled_log}
 use Rattle.play.specs.Play.{Progress, Played, whole, stopped, played}
 use Rattle.play.specs.Late.{late_finishes}
 use Rattle.play.proofs.BadBytes.{stopped_in_the_table, stopped_in_the_script}

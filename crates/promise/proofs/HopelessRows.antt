@@ -36,7 +36,7 @@ use Rattle.run.specs.Answers.{start_says, release_says, tick_says}
 use Rattle.run.proofs.Sound.{sound_means}
 use Rattle.run.proofs.Release.{not_sound}
 use Rattle.run.proofs.Ticking.{tick_unsound}
-use Rattle.log.specs.SpelledLogs.{spelled_log}
+use Rattle.logs.specs.SpelledLogs.{spelled_log}
 use Rattle.play.specs.Play.{Progress, Played, whole, stopped, played}
 use Rattle.play.specs.Late.{late_finishes}
 use Rattle.play.specs.Refusals.{the_table}

@@ -16,7 +16,7 @@ use Rattle.theory.proofs.Cases.{by_lt, by_test, by_eq}
 use Rattle.jobs.specs.declared.Job.{Job as PendingJob}
 use Rattle.script.specs.declared.Record.{Record}
 use Rattle.script.proofs.Scripts.{read_in_one_way}
-use Rattle.log.specs.SpelledLogs.{spelled_log}
+use Rattle.logs.specs.SpelledLogs.{spelled_log}
 use Rattle.replay.specs.declared.Replayed.TheVariants as replayed
 use Rattle.play.specs.Play.{Progress, Played, whole, stopped, played}
 use Rattle.play.specs.Late.{late_finishes}

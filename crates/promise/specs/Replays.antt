@@ -9,7 +9,7 @@ use Rattle.theory.specs.Jobs.{Job}
 use Rattle.table.specs.Tables.{table_read}
 use Rattle.script.specs.declared.Record.{Record}
 use Rattle.script.specs.SpelledScripts.{Reads}
-use Rattle.log.specs.SpelledLogs.{spelled_log}
+use Rattle.logs.specs.SpelledLogs.{spelled_log}
 use Rattle.play.specs.Play.{Progress}
 use Rattle.play.specs.LogRecords.{OfWhole}
 use Rattle.host.specs.Answer.{VerdictAnswered}

@@ -18,7 +18,7 @@ use Rattle.table.specs.declared.TableAnswer.TheVariants as answer
 use Rattle.table.specs.Tables.{table_read}
 use Rattle.table.proofs.Answers.{tables_said_apart}
 use Rattle.run.specs.Runs.{started}
-use Rattle.log.specs.SpelledLogs.{spelled_log}
+use Rattle.logs.specs.SpelledLogs.{spelled_log}
 use Rattle.replay.specs.declared.LateJobs.{LateJobs}
 use Rattle.replay.specs.declared.Replayed.{Replayed}
 use Rattle.replay.specs.declared.Replayed.TheVariants as replayed

@@ -11,10 +11,10 @@ use Rattle.kinds.proofs.Apart.{impossible}
 use Rattle.theory.proofs.Cases.{by_lt, by_test}
 use Rattle.kinds.specs.declared.Finish.{Finish}
 use Rattle.kinds.specs.declared.Refusal.TheVariants.{NoRoom}
-use Rattle.log.specs.Log.{values_of, spelled_finish, all_in_range}
-use Rattle.log.specs.SpelledLogs.{spelled_log, HoldsRecords}
-use Rattle.log.proofs.Records.{answers_no_room, answers_length}
-use Rattle.log.proofs.Logs.{log_grows}
+use Rattle.logs.specs.Log.{values_of, spelled_finish, all_in_range}
+use Rattle.logs.specs.SpelledLogs.{spelled_log, HoldsRecords}
+use Rattle.logs.proofs.Records.{answers_no_room, answers_length}
+use Rattle.logs.proofs.Logs.{log_grows}
 use Rattle.replay.specs.declared.Logged.{Logged}
 use Rattle.replay.specs.declared.Replayed.TheVariants as replayed
 use Rattle.play.specs.Play.{Progress, whole}

@@ -24,7 +24,7 @@ use Rattle.columns.proofs.Holding.{held_are_counted, work_holds}
 use Rattle.columns.proofs.Ordered.{same_are_as_many, first_is_worked_on}
 use Rattle.run.specs.ManyTicks.{SoFar, ticks_while_pending}
 use Rattle.run.proofs.Ticking.{counted}
-use Rattle.log.specs.Log.{values_of, all_in_range}
+use Rattle.logs.specs.Log.{values_of, all_in_range}
 use Rattle.play.proofs.SingleTicks.{no_more}
 use Rattle.play.proofs.OnItsWay.{on_its_way_ticked}
 use Rattle.replay.specs.declared.Logged.{Logged}

@@ -12,9 +12,9 @@ use Rattle.kinds.specs.declared.Finish.{Finish}
 use Rattle.kinds.specs.declared.Refusal.{Refusal}
 use Rattle.numbers.specs.declared.Written.{Written}
 use Rattle.numbers.specs.declared.Written.TheVariants as written
-use Rattle.log.specs.Log.{written_record}
-use Rattle.log.specs.SpelledLogs.{RecordBehind}
-use Rattle.log.proofs.Logs.{record_written, log_kept}
+use Rattle.logs.specs.Log.{written_record}
+use Rattle.logs.specs.SpelledLogs.{RecordBehind}
+use Rattle.logs.proofs.Logs.{record_written, log_kept}
 use Rattle.play.specs.Late.{finished_late}
 use Rattle.replay.specs.declared.Logged.{Logged}
 use Rattle.replay.specs.Arrays.{late_or, with_one_written, OneLogged}

@@ -20,8 +20,8 @@ use Rattle.rings.specs.RingShapes.{RingsHold}
 use Rattle.run.specs.declared.Run.{Run}
 use Rattle.run.specs.Runs.{row_at, server_at}
 use Rattle.run.specs.ManyTicks.{SoFar, ticks_while_pending}
-use Rattle.log.specs.Log.{written_record, rest_after}
-use Rattle.log.specs.SpelledLogs.{spelled_log, HoldsRecords}
+use Rattle.logs.specs.Log.{written_record, rest_after}
+use Rattle.logs.specs.SpelledLogs.{spelled_log, HoldsRecords}
 use Rattle.records.specs.declared.Ready.{Ready}
 use Rattle.play.specs.Play.{Progress, Step, goes_on, stops, ticked_to, released_at}
 use Rattle.play.specs.Late.{finished_late, late_finishes}

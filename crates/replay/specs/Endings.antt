@@ -2,7 +2,7 @@
 use Rattle.std.specs.Prelude.{ℕ, ◌≤◌, ◌≡◌, List, length, take, drop}
 use Rattle.kinds.specs.Numbering.{Said}
 use Rattle.kinds.specs.declared.Finish.{Finish}
-use Rattle.log.specs.SpelledLogs.{ReadsAs, spelled_log}
+use Rattle.logs.specs.SpelledLogs.{ReadsAs, spelled_log}
 use Rattle.play.specs.Play.{Progress, whole, played}
 use Rattle.replay.specs.Outcome.{replay_of, replay_says}
 

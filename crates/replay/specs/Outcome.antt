@@ -3,7 +3,7 @@ use Rattle.std.specs.Prelude.{ℕ, ◌+◌, cond, List, [], ◌++◌, leb, eqb, 
 use Rattle.kinds.specs.Numbering.{Said, refused_says}
 use Rattle.kinds.specs.declared.Finish.{Finish}
 use Rattle.kinds.specs.declared.Refusal.TheVariants.{NoRoom}
-use Rattle.log.specs.SpelledLogs.{spelled_log}
+use Rattle.logs.specs.SpelledLogs.{spelled_log}
 use Rattle.replay.specs.declared.Replayed.{Replayed}
 use Rattle.replay.specs.declared.Replayed.TheVariants as replayed
 use Rattle.play.specs.Play.{Played, whole, stopped, played}

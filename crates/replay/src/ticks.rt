@@ -30,7 +30,7 @@ fn log_finish(log: &mut [u8], logged: Logged, job: Finish) -> Logged
             full: true,
         };
     }
-    match log::write_record(&mut log[length..], job) {
+    match logs::write_record(&mut log[length..], job) {
         Written::Length(n) => Logged {
             length: length + n,
             late,

@@ -6,8 +6,8 @@ use mathlib.Core.Logic.{⊎_elim}
 use lib.ListN.{length}
 use borrow.Author.Rules.{rules}
 use borrow.Rule.Slice.PartMut.{put_mid}
-use Rattle.log.specs.SpelledLogs.{RecordBehind}
-use Rattle.log.proofs.Logs.{record_written, rest_of_log}
+use Rattle.logs.specs.SpelledLogs.{RecordBehind}
+use Rattle.logs.proofs.Logs.{record_written, rest_of_log}
 use Rattle.replay.specs.Arrays.{late_or}
 use Rattle.replay.proofs.Writing.{counted_late, counted_in_time, one_dropped, one_written, one_without_room}
 use Rattle.replay.proofs.ticks.log_finish.Statement.{statement}

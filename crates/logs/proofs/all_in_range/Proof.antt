@@ -3,10 +3,10 @@ use Prim.Native.Nat.{◌-◌}
 use native.Mathlib.Omega.{arith}
 use mathlib.Core.Path.{◌≡◌, refl, sym}
 use lib.ListN.{length, drop}
-use Rattle.log.specs.Log.{all_in_range}
-use Rattle.log.proofs.Records.{too_big_here, range_left, all_tested}
-use Rattle.log.proofs.all_in_range.Statement.{statement}
-use Rattle.log.proofs.all_in_range.Tie as tie
+use Rattle.logs.specs.Log.{all_in_range}
+use Rattle.logs.proofs.Records.{too_big_here, range_left, all_tested}
+use Rattle.logs.proofs.all_in_range.Statement.{statement}
+use Rattle.logs.proofs.all_in_range.Tie as tie
 
 abbrev invariant-loop : tie.invariant-loop
 invariant-loop values k₀ k = all_in_range (drop k values) ≡ all_in_range values

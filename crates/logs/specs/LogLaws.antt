@@ -9,8 +9,8 @@ use Rattle.numbers.specs.declared.Written.{Written}
 use Rattle.numbers.specs.declared.Written.TheVariants.{Length, Refused}
 use Rattle.numbers.specs.Answers.{written_says}
 use Rattle.numbers.specs.SpelledNumbers.{Bytes}
-use Rattle.log.specs.Log.{values_of, spelled_finish, all_in_range, written_record, rest_after}
-use Rattle.log.specs.SpelledLogs.{spelled_log, EachInRange, FinishAt, finish_read_at, ReadsAs, FinishSpelledHere, WroteRecord, RecordBehind, HoldsRecords}
+use Rattle.logs.specs.Log.{values_of, spelled_finish, all_in_range, written_record, rest_after}
+use Rattle.logs.specs.SpelledLogs.{spelled_log, EachInRange, FinishAt, finish_read_at, ReadsAs, FinishSpelledHere, WroteRecord, RecordBehind, HoldsRecords}
 
 -- ---- what is proved about records (proofs/Logs.antt, proofs/Answers.antt)
 

@@ -23,11 +23,11 @@ use Rattle.numbers.specs.Spelling.{max_number, spelling}
 use Rattle.numbers.specs.Reading.{read_at}
 use Rattle.numbers.specs.SpelledNumbers.{Bytes}
 use Rattle.numbers.proofs.Spellings.{reads_back, number_has_one_spelling, nothing_past_the_end, spelling_length}
-use Rattle.log.specs.Log.{values_of, spelled_numbers, spelled_finish, all_in_range, written_record}
-use Rattle.log.specs.SpelledLogs.{spelled_log, EachInRange, FinishAt, after_log_number, finish_read_at, ReadsAs, ended, one_more, WroteRecord}
-use Rattle.log.specs.LogLaws.{RecordLength, FinishReadsBack, FinishIsSpelled, RecordsDiffer}
-use Rattle.log.specs.LogLaws.{SpelledLogReadsBack, LogIsSpelled, ReadsOneWay, OneLog, RestOfLog, LogGrows, LogKept}
-use Rattle.log.proofs.Records.{length-spelled_numbers, rest_of, rest_put, answers_too_big, answers_no_room, answers_length}
+use Rattle.logs.specs.Log.{values_of, spelled_numbers, spelled_finish, all_in_range, written_record}
+use Rattle.logs.specs.SpelledLogs.{spelled_log, EachInRange, FinishAt, after_log_number, finish_read_at, ReadsAs, ended, one_more, WroteRecord}
+use Rattle.logs.specs.LogLaws.{RecordLength, FinishReadsBack, FinishIsSpelled, RecordsDiffer}
+use Rattle.logs.specs.LogLaws.{SpelledLogReadsBack, LogIsSpelled, ReadsOneWay, OneLog, RestOfLog, LogGrows, LogKept}
+use Rattle.logs.proofs.Records.{length-spelled_numbers, rest_of, rest_put, answers_too_big, answers_no_room, answers_length}
 
 pub record_length : RecordLength
 record_length f = length-spelled_numbers (values_of f)

@@ -8,12 +8,12 @@ use lib.ListN.{length}
 use borrow.Author.Rules.{rules}
 use borrow.Rule.Slice.PartMut.{put_mid}
 use Rattle.numbers.specs.declared.Written.TheVariants.{Length}
-use Rattle.log.specs.Log.{spelled_numbers, all_in_range}
-use Rattle.log.proofs.Records.{length-spelled_numbers, answers_too_big, answers_no_room, answers_length}
-use Rattle.log.proofs.Records.{Counted, none_counted, one_counted, one_too_big, all_counted}
-use Rattle.log.proofs.Records.{Standing, none_standing, rest_has_room, never_refused, one_standing, all_standing}
-use Rattle.log.proofs.write_measured.Statement.{statement}
-use Rattle.log.proofs.write_measured.Tie as tie
+use Rattle.logs.specs.Log.{spelled_numbers, all_in_range}
+use Rattle.logs.proofs.Records.{length-spelled_numbers, answers_too_big, answers_no_room, answers_length}
+use Rattle.logs.proofs.Records.{Counted, none_counted, one_counted, one_too_big, all_counted}
+use Rattle.logs.proofs.Records.{Standing, none_standing, rest_has_room, never_refused, one_standing, all_standing}
+use Rattle.logs.proofs.write_measured.Statement.{statement}
+use Rattle.logs.proofs.write_measured.Tie as tie
 
 abbrev invariant-loop : tie.invariant-loop
 invariant-loop rest values room₀ i₀ room i = Counted values room i

@@ -9,7 +9,7 @@ use Rattle.numbers.specs.declared.NumberRead.TheVariants as number
 use Rattle.numbers.specs.declared.Written.{Written}
 use Rattle.numbers.specs.declared.Written.TheVariants.{Refused}
 use Rattle.numbers.specs.Reading.{read_at}
-use Rattle.log.specs.Log.{values_of, spelled_finish, all_in_range, written_record, rest_after}
+use Rattle.logs.specs.Log.{values_of, spelled_finish, all_in_range, written_record, rest_after}
 
 -- The spelling of a log: its records' spellings, one after another. (8.8)
 abbrev pub spelled_log : List Finish → List ℕ

@@ -7,10 +7,10 @@ use Rattle.kinds.specs.declared.Refusal.TheVariants.{NumberTooBig, NoRoom}
 use Rattle.numbers.specs.declared.Written.TheVariants.{Length, Refused}
 use Rattle.numbers.specs.Answers.{written_says}
 use Rattle.numbers.proofs.Answers.{numbers_said_apart}
-use Rattle.log.specs.Log.{written_record}
-use Rattle.log.specs.LogLaws.{RecordWritten, RecordRefusals}
-use Rattle.log.proofs.Records.{answers_length}
-use Rattle.log.proofs.Logs as case
+use Rattle.logs.specs.Log.{written_record}
+use Rattle.logs.specs.LogLaws.{RecordWritten, RecordRefusals}
+use Rattle.logs.proofs.Records.{answers_length}
+use Rattle.logs.proofs.Logs as case
 
 pub record_written : RecordWritten
 record_written f room took = (

@@ -21,7 +21,7 @@ use Rattle.numbers.specs.declared.Written.TheVariants.{Length, Refused}
 use Rattle.numbers.specs.Spelling.{max_groups, max_number, spelling}
 use Rattle.numbers.specs.Writing.{length_of, written, buffer_after}
 use Rattle.numbers.proofs.Spellings.{spelling_length, length_answered}
-use Rattle.log.specs.Log.{values_of, spelled_numbers, spelled_finish, all_in_range, written_record}
+use Rattle.logs.specs.Log.{values_of, spelled_numbers, spelled_finish, all_in_range, written_record}
 
 -- ---- numbers spelled one after another
 

@@ -11,11 +11,11 @@ use borrow.Rule.Slice.PartMut.{mid_of, put_mid, mid_len}
 use Rattle.numbers.specs.declared.Written.TheVariants.{Length}
 use Rattle.numbers.specs.Spelling.{max_groups, spelling}
 use Rattle.numbers.proofs.Spellings.{spelling_length, length_answered}
-use Rattle.log.specs.Log.{all_in_range}
-use Rattle.log.proofs.Records.{length-spelled_numbers, answers_too_big, answers_length}
-use Rattle.log.proofs.Records.{Standing, none_standing, never_refused, one_standing, all_standing}
-use Rattle.log.proofs.write_record.Statement.{statement}
-use Rattle.log.proofs.write_record.Tie as tie
+use Rattle.logs.specs.Log.{all_in_range}
+use Rattle.logs.proofs.Records.{length-spelled_numbers, answers_too_big, answers_length}
+use Rattle.logs.proofs.Records.{Standing, none_standing, never_refused, one_standing, all_standing}
+use Rattle.logs.proofs.write_record.Statement.{statement}
+use Rattle.logs.proofs.write_record.Tie as tie
 
 abbrev invariant-loop : tie.invariant-loop
 invariant-loop rest₀ values at₀ k₀ rest at k = Standing values rest₀ rest at k × (at ≤ max_groups * k)
