@@ -9,6 +9,7 @@ ghost use Rattle.host.specs.Answer.{replay_status, replay_answer, replay_log};
 ghost use Rattle.kinds.specs.Numbering.{refused_says};
 
 use kinds::{Refusal, RefusedAt};
+pub use live_run::{run_end, run_release, run_start, run_tick};
 use replay::Replayed;
 use verdict::Verdict;
 use words::WORD;
@@ -46,8 +47,7 @@ fn refuse(answer: &mut [u8], at: RefusedAt) -> u32
 
 // The verdict on a table. It returns 20 where the table is feasible, 21 where it is overloaded, with the smallest length and its demand, and else the table's
 // refusal, with its place. Before all that, an answer buffer that is not 16 bytes long is refused with 13, and nothing is written. (9.2, 9.5, 9.6)
-#[unsafe(no_mangle)]
-pub extern "C" fn verdict(table: &[u8], answer: &mut [u8]) -> u32
+pub fn verdict(table: &[u8], answer: &mut [u8]) -> u32
     ensures { VerdictAnswered table.now answer.old result answer.new }
 {
     if answer.len() != ANSWER {
@@ -63,8 +63,7 @@ pub extern "C" fn verdict(table: &[u8], answer: &mut [u8]) -> u32
 // The replay of a script on a table, into a log. It returns 22 where all jobs are in time and 23 where some are late, both with the log's length and the jobs
 // late, and else the refusal, with its place. Before all that, an answer buffer that is not 16 bytes long is refused with 13, and nothing is written, neither
 // answer nor log. (9.3, 9.5, 9.6)
-#[unsafe(no_mangle)]
-pub extern "C" fn replay(table: &[u8], script: &[u8], log: &mut [u8], answer: &mut [u8]) -> u32
+pub fn replay(table: &[u8], script: &[u8], log: &mut [u8], answer: &mut [u8]) -> u32
     ensures { (result ≡ replay_status table.now script.now (length log.old) (length answer.old))
         × (answer.new ≡ replay_answer table.now script.now (length log.old) answer.old)
         × (log.new ≡ replay_log table.now script.now log.old (length answer.old)) }
