@@ -1,20 +1,22 @@
 // The kinds that every crate uses: the three kinds of number that must never be mixed up, what is known about a finished job, and the refusals.
+#![tactic(auto)]
+
 ghost use Rattle.std.specs.Prelude.{◌≡◌};
 ghost use Rattle.kinds.specs.Numbering.{max_time, refusal_number};
 
 // The serial of a job. Accepted jobs are numbered from 0 in the order in which they are accepted, over all rows. (1.5, 1.14)
 #[repr(C)]
-#[derive(Drop)]
+#[derive(Clone, Copy)]
 pub struct Serial(pub u64);
 
 // A row number: a row's position in its table, counted from 0. (1.2, 1.14)
 #[repr(C)]
-#[derive(Drop)]
+#[derive(Clone, Copy)]
 pub struct RowNumber(pub u64);
 
 // A time, as a number of ticks since 0: a clock, a release, a due time or a finish. (1.3, 1.14)
 #[repr(C)]
-#[derive(Drop)]
+#[derive(Clone, Copy)]
 pub struct Tick(pub u64);
 
 impl Tick {
@@ -30,7 +32,7 @@ impl Tick {
 }
 
 // What a log's record says about one finished job. The job got its last unit in the tick that ended at `finish`. (6.13, 8.8)
-#[derive(Drop)]
+#[derive(Clone, Copy)]
 pub struct Finish {
     pub serial: Serial,
     pub row: RowNumber,
@@ -40,7 +42,7 @@ pub struct Finish {
 }
 
 // Why a call refuses. There is one case for each refusal, with the name that the rules give it. (10.1, 10.3)
-#[derive(Drop)]
+#[derive(Clone, Copy)]
 pub enum Refusal {
     Misspelled,
     TooManyRows,
@@ -63,7 +65,7 @@ pub enum Refusal {
 }
 
 // A refusal, and the place in the lent bytes that its rule names. (10.2)
-#[derive(Drop)]
+#[derive(Clone, Copy)]
 pub struct RefusedAt {
     pub refusal: Refusal,
     pub place: usize,

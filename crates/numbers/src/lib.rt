@@ -1,6 +1,8 @@
 // Numbers as bytes. A number is spelled in groups of seven bits, one group a byte, the lowest group first. The top bit of a byte is set when another byte
 // of the same number follows. A number has at most six groups, and the last group of a longer number is not zero. So each number from 0 to 2^42 − 1 has one
 // spelling. (2.1 to 2.5)
+#![tactic(auto)]
+
 ghost use Rattle.std.specs.Prelude.{◌≡◌, ◌≤◌, leb, length};
 ghost use Rattle.numbers.specs.Spelling.{max_groups, max_number, spelling};
 ghost use Rattle.numbers.specs.Reading.{read_at, misspelled_at};
@@ -9,21 +11,21 @@ ghost use Rattle.numbers.specs.Writing.{length_of, written, buffer_after};
 use kinds::{Refusal, RefusedAt};
 
 // A number that was read: its value, and the place right after its last byte. (2.6)
-#[derive(Drop)]
+#[derive(Clone, Copy)]
 pub struct Number {
     pub value: u64,
     pub next: usize,
 }
 
 // The reader's answer: the number that starts at a place, or a refusal. (2.6, 2.7)
-#[derive(Drop)]
+#[derive(Clone, Copy)]
 pub enum NumberRead {
     Number(Number),
     Refused(RefusedAt),
 }
 
 // The writer's answer: the length of the number's spelling in bytes, or a refusal. (2.12, 2.13)
-#[derive(Drop)]
+#[derive(Clone, Copy)]
 pub enum Written {
     Length(usize),
     Refused(Refusal),
