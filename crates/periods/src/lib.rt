@@ -1,4 +1,6 @@
 // The period of some numbers: their least common multiple, where it is within a limit. (3.4, 3.5)
+#![tactic(auto)]
+
 ghost use Rattle.std.specs.Prelude.{◌≡◌};
 ghost use Rattle.periods.specs.Multiples.{IsGreatestDivisor};
 ghost use Rattle.periods.specs.Periods.{all_positive, period_within};
@@ -6,7 +8,7 @@ ghost use Rattle.periods.specs.Periods.{all_positive, period_within};
 use kinds::Refusal;
 
 // The answer for some numbers and a limit: their least common multiple, or a refusal. (10.7)
-#[derive(Drop)]
+#[derive(Clone, Copy)]
 pub enum Period {
     Ticks(u64),
     Refused(Refusal),

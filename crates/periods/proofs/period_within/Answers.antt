@@ -1,0 +1,33 @@
+use Prim.Native.Nat.{◌-◌}
+use mathlib.Core.Path.{◌≡◌, sym, ◌∙◌}
+use native.Mathlib.Omega.{arith}
+use lib.ListN.{length}
+use borrow.Author.Rules.{rules}
+use borrow.Author.Tests.{not-true, not-false}
+use Rattle.periods.specs.Periods.{EachPositive}
+use Rattle.periods.proofs.Periods.{Grown, positive_means, with_zero, no_limit, grown_none, grown_all, some_number, some_divisor, grown_fits, grown_next, grown_too_long}
+use Rattle.periods.proofs.period_within.Goals as goal
+
+pub returns-then-limit-lt1 : goal.returns-then-limit-lt1
+returns-then-limit-lt1 c = no_limit (positive_means c.args.numbers.now (sym c.all_positive.ensures ∙ c.if-not-all_positive.false)) _ c.if-limit-lt1.true
+
+pub loop-i-init : goal.loop-i-init
+loop-i-init c =
+    let positive = positive_means c.args.numbers.now (sym c.all_positive.ensures ∙ c.if-not-all_positive.false) in
+    (positive, grown_none positive c.if-limit-lt1.false)
+
+pub nonzero_div-part : goal.nonzero_div-part
+nonzero_div-part c = some_divisor c.loop-i.invariant.0 c.loop-i.invariant.1 c.loop-i-test.true c.greatest_divisor.ensures
+
+pub nonzero_div-limit : goal.nonzero_div-limit
+nonzero_div-limit c = some_number c.loop-i.invariant.0 c.loop-i.i c.loop-i-test.true
+
+pub returns-then-limit-y : goal.returns-then-limit-y
+returns-then-limit-y c = grown_too_long c.loop-i.invariant.0 c.loop-i.invariant.1 c.loop-i-test.true c.greatest_divisor.ensures c.if-limit-y.true
+
+pub loop-i-preserved : goal.loop-i-preserved
+loop-i-preserved c =
+    (c.loop-i.invariant.0, grown_next c.loop-i.invariant.0 c.loop-i.invariant.1 c.loop-i-test.true c.greatest_divisor.ensures c.if-limit-y.false)
+
+pub returns : goal.returns
+returns c = grown_all c.loop-i.invariant.0 c.loop-i.invariant.1 c.loop-i-test.false
