@@ -32,9 +32,9 @@ module _ {s : List ℕ} where
       → NumbersBetween s at next
   unfolding flatten
   values_there {at} {next} [] small p = let same : at ≡ next = omega (arith, p.ends) in subst (λ end. NumbersBetween s at end) same nothing_between
-  values_there (v ∷ values) small p =
+  values_there {at = at} {next = next} (v ∷ values) small p =
       let t = parted (spelling v) (flatten (map spelling values)) p in
-      numbers_joined (number_there v (small 0 (omega arith)) t.1) (values_there values (λ i h. small (suc i) (omega arith)) t.2)
+      numbers_joined (number_there v (small 0 (omega arith)) t.1) (values_there {at = (parted (spelling v) (flatten (map spelling values)) p).0} values (λ i h. small (suc i) (omega arith)) t.2)
 
   -- Where the spelling of a row stands, four numbers stand.
   row_there : {at next : ℕ} (r : Row) → WithinLimits r → PartStands s at (spelled_row r) next → NumbersBetween s at next
@@ -51,9 +51,9 @@ module _ {s : List ℕ} where
       → NumbersBetween s at next
   unfolding flatten
   rows_there {at} {next} [] each p = let same : at ≡ next = omega (arith, p.ends) in subst (λ end. NumbersBetween s at end) same nothing_between
-  rows_there (r ∷ rows) each p =
+  rows_there {at = at} {next = next} (r ∷ rows) each p =
       let t = parted (spelled_row r) (flatten (map spelled_row rows)) p in
-      numbers_joined (row_there r (each_head each).within_limits t.1) (rows_there rows (each_tail each) t.2)
+      numbers_joined (row_there r (each_head each).within_limits t.1) (rows_there {at = (parted (spelled_row r) (flatten (map spelled_row rows)) p).0} rows (each_tail each) t.2)
 
   -- Up to a value that is next, numbers stand.
   numbers_before : {from at most : ℕ} → ValueNext s from at most → NumbersBetween s from at
@@ -83,9 +83,9 @@ module _ {s : List ℕ} where
       → NumbersBetween s at next
   unfolding flatten
   servers_there {at} {next} [] each p = let same : at ≡ next = omega (arith, p.ends) in subst (λ end. NumbersBetween s at end) same nothing_between
-  servers_there (v ∷ vs) each p =
+  servers_there {at = at} {next = next} (v ∷ vs) each p =
       let t = parted (spelled_server v) (flatten (map spelled_server vs)) p in
-      numbers_joined (server_there v (each_head each) t.1) (servers_there vs (each_tail each) t.2)
+      numbers_joined (server_there v (each_head each) t.1) (servers_there {at = (parted (spelled_server v) (flatten (map spelled_server vs)) p).0} vs (each_tail each) t.2)
 
   -- Up to a server that is next, numbers stand.
   numbers_before_server : {from at : ℕ} → ServerNext s from at → NumbersBetween s from at

@@ -187,9 +187,9 @@ none_end p = omega (arith, p.stand.ends)
 servers_read : {s : List ℕ} {at next : ℕ} (vs : List Server) → ServersStand s at vs next → read_servers (length vs) s at ≡ servers vs next
 unfolding read_servers
 servers_read [] p = ap (servers []) (none_end p)
-servers_read (v ∷ vs) p =
+servers_read {s = s} {at = at} {next = next} (v ∷ vs) p =
     let t = first_stands p in
-    simp (server_read t.1, servers_read vs t.2)
+    simp (server_read t.1, servers_read {at = (first_stands p).0} vs t.2)
 
 -- If fewer than n servers stand up to a server that is refused, reading n servers ends in that refusal.
 servers_refused : (n : ℕ) {s : List ℕ} (at : ℕ) (before : List Server) {mid : ℕ} {r : RefusedAt} → length before < n → ServersStand s at before mid

@@ -119,10 +119,10 @@ pub record RowsStand (s : List ℕ) (at : ℕ) (rs : List Row) (next : ℕ) : Ty
 pub rows_read : {s : List ℕ} {at next : ℕ} (rs : List Row) → RowsStand s at rs next → read_rows (length rs) s at ≡ rows rs next
 unfolding read_rows flatten
 rows_read [] p = ap (rows []) (omega arith)
-rows_read (r ∷ rs) p =
+rows_read {s = s} {at = at} {next = next} (r ∷ rs) p =
     let t = parted (spelled_row r) (flatten (map spelled_row rs)) p.stand in
     let one = row_read (record { acceptable = each_head p.acceptable; stands = t.1 }) in
-    let more = rows_read rs (record { acceptable = each_tail p.acceptable; stand = t.2 }) in
+    let more = rows_read {at = (parted (spelled_row r) (flatten (map spelled_row rs)) p.stand).0} rs (record { acceptable = each_tail p.acceptable; stand = t.2 }) in
     simp (one, more)
 
 -- Where n rows are read, their spellings stand, and a table may have each row.

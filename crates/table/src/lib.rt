@@ -1,5 +1,7 @@
 // Tables: the rows and the servers of a rig, the timer that takes ticks from them, and the reader that turns any bytes into a table or its exact refusal.
 // (docs/RULES.md, section 3.)
+#![tactic(auto)]
+
 mod costs;
 mod rows;
 mod servers;
@@ -21,7 +23,7 @@ pub use timer::timer_in_range;
 
 // A row expects x jobs in any y ticks, each due d ticks after its release and costing at most c units. (1.1)
 #[repr(C)]
-#[derive(Drop)]
+#[derive(Clone, Copy)]
 pub struct Row {
     pub x: u64,
     pub y: u64,
@@ -31,7 +33,7 @@ pub struct Row {
 
 // A server gives odd jobs a share of the processor, a units in b ticks. (1.21)
 #[repr(C)]
-#[derive(Drop)]
+#[derive(Clone, Copy)]
 pub struct Server {
     pub a: u64,
     pub b: u64,
@@ -40,7 +42,7 @@ pub struct Server {
 // The timer takes the first s ticks of every p. The rows in use are the first `count`, and the servers in use are the first `serving`. The others hold
 // zeros in every table that was read. (3.14, 3.16, 3.18)
 #[repr(C)]
-#[derive(Drop)]
+#[derive(Clone, Copy)]
 pub struct Table {
     pub s: u64,
     pub p: u64,
@@ -51,21 +53,21 @@ pub struct Table {
 }
 
 // A table is accepted, with its H, or it is refused. (3.4, 3.13)
-#[derive(Drop)]
+#[derive(Clone, Copy)]
 pub enum TableAnswer {
     Accepted(u64),
     Refused(RefusedAt),
 }
 
 // The table that was read stands beside the answer. If it was refused, this is the empty table. (10.5)
-#[derive(Drop)]
+#[derive(Clone, Copy)]
 pub struct TableRead {
     pub table: Table,
     pub answer: TableAnswer,
 }
 
 // These are all limits of a table. (3.1, 3.2, 3.4, 3.16, 3.18)
-#[derive(Drop)]
+#[derive(Clone, Copy)]
 pub struct Limits {
     pub p: u64,
     pub rows: usize,
@@ -79,21 +81,21 @@ pub struct Limits {
 }
 
 // A row in use limits the cost of its jobs, and a row number that is not in use has no limit. (6.8)
-#[derive(Drop)]
+#[derive(Clone, Copy)]
 pub enum CostLimit {
     Units(u64),
     NoSuchRow,
 }
 
 // A job may have its stated cost, or is refused. (6.8)
-#[derive(Drop)]
+#[derive(Clone, Copy)]
 pub enum CostAnswer {
     Allowed,
     Refused(Refusal),
 }
 
 // A timer that was read comes with the place right after it.
-#[derive(Drop)]
+#[derive(Clone, Copy)]
 struct TimerAt {
     s: u64,
     p: u64,
@@ -101,35 +103,35 @@ struct TimerAt {
 }
 
 // Reading the timer gives its s and p, or the refusal that ended it.
-#[derive(Drop)]
+#[derive(Clone, Copy)]
 enum TimerRead {
     Timer(TimerAt),
     Refused(RefusedAt),
 }
 
 // A row that was read comes with the place right after it.
-#[derive(Drop)]
+#[derive(Clone, Copy)]
 struct RowAt {
     row: Row,
     next: usize,
 }
 
 // Reading a row gives the row, or the refusal that ended it.
-#[derive(Drop)]
+#[derive(Clone, Copy)]
 enum RowRead {
     Row(RowAt),
     Refused(RefusedAt),
 }
 
 // Rows or servers were read up to this place, or this refusal ended them.
-#[derive(Drop)]
+#[derive(Clone, Copy)]
 enum PartAnswer {
     Until(usize),
     Refused(RefusedAt),
 }
 
 // The rows that were read stand beside the answer. If they were refused, no row is in use.
-#[derive(Drop)]
+#[derive(Clone, Copy)]
 struct RowsRead {
     rows: [Row; Table::MAX_ROWS],
     count: usize,
@@ -137,21 +139,21 @@ struct RowsRead {
 }
 
 // A server that was read comes with the place right after it.
-#[derive(Drop)]
+#[derive(Clone, Copy)]
 struct ServerAt {
     server: Server,
     next: usize,
 }
 
 // Reading a server gives the server, or the refusal that ended it.
-#[derive(Drop)]
+#[derive(Clone, Copy)]
 enum ServerRead {
     Server(ServerAt),
     Refused(RefusedAt),
 }
 
 // The servers that were read stand beside the answer. If they were refused, no server is in use.
-#[derive(Drop)]
+#[derive(Clone, Copy)]
 struct ServersRead {
     servers: [Server; Table::MAX_SERVERS],
     count: usize,

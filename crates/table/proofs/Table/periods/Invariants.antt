@@ -1,0 +1,43 @@
+-- `Table::periods` meets its contract. The first loop's invariant is `YsWritten`: p and, behind it, the y of each row passed are written. The second loop's is
+-- `BsWritten`: behind the y of every row in use, the b of each server passed is written.
+use Prim.Native.Nat.{ℕ, suc, ◌+◌, ◌-◌, ◌≤◌, ◌<◌}
+use mathlib.Core.Path.{◌≡◌, refl, sym, ap, ◌∙◌}
+use mathlib.Core.List.{List, [], ◌∷◌, ◌++◌, map, map-append, append_assoc, append-nil}
+use native.Mathlib.Numerals.{add-one}
+use native.Mathlib.Omega.{arith}
+use lib.ListN.{length, take, get_or, set, length-set}
+use lib.Seq.{take-suc, take-suc-set}
+use borrow.Author.Rules.{rules}
+use Rattle.kinds.proofs.Lists.{length_mapped}
+use Rattle.table.specs.declared.Row.{Row}
+use Rattle.table.specs.declared.Server.{Server}
+use Rattle.table.specs.declared.Table.{Table}
+use Rattle.table.specs.Limits.{max_rows, max_servers, max_sources}
+use Rattle.table.specs.Period.{ys_of, bs_of, periods_of}
+use Rattle.table.specs.Servers.{no_server}
+use Rattle.table.specs.Tables.{no_row, rows_of, servers_of, content_of}
+use Rattle.table.proofs.Table.periods.Given as goal
+
+-- The timer's p and the y of each of the first i rows are written.
+pub record YsWritten (t : Table) (periods : List ℕ) (i : ℕ) : Type 0 where
+  pub not_past : i ≤ t.count
+  pub all_places : length periods ≡ max_sources + 1
+  pub so_far : take (i + 1) periods ≡ t.p ∷ ys_of (take i t.rows)
+
+-- The timer's p, the y of each row in use and the b of each of the first k servers are written.
+pub record BsWritten (t : Table) (periods : List ℕ) (k : ℕ) : Type 0 where
+  pub not_past : k ≤ t.serving
+  pub all_places : length periods ≡ max_sources + 1
+  pub so_far : take (t.count + 1 + k) periods ≡ t.p ∷ (ys_of (rows_of t) ++ bs_of (take k t.servers))
+
+abbrev pub invariant-loop-i : goal.invariant-loop-i
+invariant-loop-i l = YsWritten l.self l.periods l.i
+
+abbrev pub decreases-loop-i : goal.decreases-loop-i
+decreases-loop-i l = l.count - l.i
+
+abbrev pub invariant-loop-k : goal.invariant-loop-k
+invariant-loop-k l = BsWritten l.self l.periods l.k
+
+abbrev pub decreases-loop-k : goal.decreases-loop-k
+decreases-loop-k l = l.self.serving - l.k
