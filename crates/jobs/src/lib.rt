@@ -1,5 +1,7 @@
 // Pending jobs: putting a job in, the choice of the job that goes first, giving one unit, taking a job out, counting the jobs that became late, and one tick.
 // Nothing here knows about tables or about the clock's limit, so another kind of run can use it. (docs/RULES.md, section 6.)
+#![tactic(auto)]
+
 mod distinct;
 mod one_job;
 
@@ -18,7 +20,7 @@ use kinds::{Refusal, RowNumber, Serial, Tick};
 
 // A pending job holds what its release settled, and its units left. (1.7, 6.1)
 #[repr(C)]
-#[derive(Drop)]
+#[derive(Clone, Copy)]
 pub struct Job {
     pub serial: Serial,
     pub row: RowNumber,
@@ -30,35 +32,35 @@ pub struct Job {
 
 // The pending jobs are those in the first `count` places. A count above the number of places means all of them. (6.1)
 #[repr(C)]
-#[derive(Drop)]
+#[derive(Clone, Copy)]
 pub struct Pending {
     pub places: [Job; Pending::PLACES],
     pub count: usize,
 }
 
 // A job finishes when it gets its last unit. (6.13)
-#[derive(Drop)]
+#[derive(Clone, Copy)]
 pub enum Finished {
     Yes,
     No,
 }
 
 // The job that had a unit is named by its serial, with whether it finished. (6.12)
-#[derive(Drop)]
+#[derive(Clone, Copy)]
 pub struct Ran {
     pub serial: Serial,
     pub finished: Finished,
 }
 
 // A tick is idle exactly when nothing is pending. Otherwise one job had the unit. (6.12)
-#[derive(Drop)]
+#[derive(Clone, Copy)]
 pub enum Turn {
     Idle,
     Ran(Ran),
 }
 
 // The place of a pending job, or nobody: of the job that goes first, where one is pending, or of the job with a serial, where one has it. (6.11, 6.27)
-#[derive(Drop)]
+#[derive(Clone, Copy)]
 pub enum Choice {
     Place(usize),
     Nobody,
@@ -66,7 +68,7 @@ pub enum Choice {
 
 // One look at the pending jobs finds the choice and the job chosen, which is all zeros if no job is pending. It counts the jobs that become late at a clock if
 // none of them gets a unit before. (6.11, 6.14)
-#[derive(Drop)]
+#[derive(Clone, Copy)]
 struct Look {
     choice: Choice,
     first: Job,
@@ -74,49 +76,49 @@ struct Look {
 }
 
 // A job was put in, or it was refused because all places are in use. (6.7, 6.8)
-#[derive(Drop)]
+#[derive(Clone, Copy)]
 pub enum PutAnswer {
     Done,
     Refused(Refusal),
 }
 
 // The pending jobs after the call stand beside the answer. (6.7)
-#[derive(Drop)]
+#[derive(Clone, Copy)]
 pub struct PutStep {
     pub pending: Pending,
     pub answer: PutAnswer,
 }
 
 // This job was taken out, or nobody was pending at the place. (6.13, 10.7)
-#[derive(Drop)]
+#[derive(Clone, Copy)]
 pub enum TakeAnswer {
     Taken(Job),
     Nobody,
 }
 
 // The pending jobs after one was taken out stand beside the answer. (6.13)
-#[derive(Drop)]
+#[derive(Clone, Copy)]
 pub struct TakeStep {
     pub pending: Pending,
     pub answer: TakeAnswer,
 }
 
 // This job had the unit, or nobody was pending at the place. (6.12, 10.7)
-#[derive(Drop)]
+#[derive(Clone, Copy)]
 pub enum GiveAnswer {
     Ran(Ran),
     Nobody,
 }
 
 // The pending jobs after a unit was given stand beside the answer. (6.12)
-#[derive(Drop)]
+#[derive(Clone, Copy)]
 pub struct Given {
     pub pending: Pending,
     pub answer: GiveAnswer,
 }
 
 // A tick gives the pending jobs after it, its answer, and how many jobs became late. (6.12, 6.14)
-#[derive(Drop)]
+#[derive(Clone, Copy)]
 pub struct Turned {
     pub pending: Pending,
     pub turn: Turn,
