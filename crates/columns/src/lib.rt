@@ -1,6 +1,8 @@
 // Pending jobs in lent arrays of numbers, one array for each field of a job. They stand in the order in which they are chosen, so that the first of them goes
 // first. A job is put in where it belongs, and ticks are given until a job finishes. Nothing here depends on tables, scripts or logs, and no call copies an
 // array. (docs/RULES.md, section 6.)
+#![tactic(auto)]
+
 mod places;
 
 ghost use Rattle.std.specs.Prelude.{◌≡◌};
@@ -15,28 +17,28 @@ use kinds::{Finish, Refusal, RowNumber, Serial, Tick};
 pub const ROOM: usize = 2 * Pending::PLACES;
 
 // Where the jobs stand in the arrays: the entry of the first, and how many they are.
-#[derive(Drop)]
+#[derive(Clone, Copy)]
 pub struct Span {
     pub first: usize,
     pub count: usize,
 }
 
 // The answer to a job that is put in: where the jobs stand now, or a refusal.
-#[derive(Drop)]
+#[derive(Clone, Copy)]
 pub enum PutAnswer {
     Stand(Span),
     Refused(Refusal),
 }
 
 // The answer of some ticks: the job that finished, or that no job did.
-#[derive(Drop)]
+#[derive(Clone, Copy)]
 pub enum WorkAnswer {
     Finished(Finish),
     Nobody,
 }
 
 // What some ticks have led to: the clock, where the jobs stand, and the job that finished, if one did.
-#[derive(Drop)]
+#[derive(Clone, Copy)]
 pub struct Worked {
     pub clock: Tick,
     pub first: usize,
