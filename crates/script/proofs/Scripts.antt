@@ -38,9 +38,9 @@ end_is_the_length s at = (end_is_length s at, record_end s at)
 records_here : {s : List ℕ} {at : ℕ} (rs : List Record) → AllCanBeSpelled rs → From s at (spelled_script rs) → Reads s at rs
 unfolding flatten
 records_here {s} {at} [] all p = ended (record_end s at (omega (arith, p.within, simp length-drop at (ap length p.stands_here))))
-records_here (r ∷ rs) all p =
+records_here {s = s} {at = at} (r ∷ rs) all p =
     then _ (record_here r (spelled_script rs) (all r (Memᴰ.head refl)) p)
-    (records_here rs (λ q m. all q (Memᴰ.tail m)) (from_later (spelled_record r) (spelled_script rs) p))
+    (records_here {at = Prim.Native.Nat.◌+◌ at (length (spelled_record r))} rs (λ q m. all q (Memᴰ.tail m)) (from_later (spelled_record r) (spelled_script rs) p))
 
 -- Where records are read, their spellings stand, one after the other to the end.
 records_stand : {s : List ℕ} {at : ℕ} {rs : List Record} → Bytes s → Reads s at rs → SpelledToTheEnd s at rs

@@ -1,6 +1,8 @@
 // Scripts are lists of releases with their times, as bytes. This crate reads one number or one record at a place, and chooses which of two scripts comes next.
 // It looks at spelling only, and at the times that the chooser is handed. Rows, costs and the limit of a record's time are tested by the replay.
 // (docs/RULES.md, section 7.)
+#![tactic(auto)]
+
 ghost use Rattle.std.specs.Prelude.{◌≡◌, ◌≤◌};
 ghost use Rattle.kinds.specs.Numbering.{max_time};
 ghost use Rattle.numbers.specs.Spelling.{max_number};
@@ -11,7 +13,7 @@ use kinds::{Refusal, RefusedAt, RowNumber, Tick};
 use numbers::NumberRead;
 
 // A record of a script: the gap since the last record, the row number and the cost. (7.1, 7.2)
-#[derive(Drop)]
+#[derive(Clone, Copy)]
 pub struct Record {
     pub gap: u64,
     pub row: RowNumber,
@@ -19,14 +21,14 @@ pub struct Record {
 }
 
 // A record, and the place right after it. (7.4)
-#[derive(Drop)]
+#[derive(Clone, Copy)]
 pub struct RecordAt {
     pub release: Record,
     pub next: usize,
 }
 
 // What the record reader answers: a record, the end of the script, or a refusal. (7.4 to 7.6)
-#[derive(Drop)]
+#[derive(Clone, Copy)]
 pub enum RecordRead {
     Record(RecordAt),
     End,
@@ -34,28 +36,28 @@ pub enum RecordRead {
 }
 
 // The first or the second of two scripts.
-#[derive(Drop)]
+#[derive(Clone, Copy)]
 pub enum Which {
     First,
     Second,
 }
 
 // A refusal in one of two scripts, with which script it is. (7.11, 7.12)
-#[derive(Drop)]
+#[derive(Clone, Copy)]
 pub struct RefusedIn {
     pub script: Which,
     pub at: RefusedAt,
 }
 
 // Which script's record comes next, and how many bytes its spelling has. (7.8)
-#[derive(Drop)]
+#[derive(Clone, Copy)]
 pub struct Next {
     pub script: Which,
     pub length: usize,
 }
 
 // What the chooser answers: the record that comes next, that both scripts have ended, or a refusal. (7.8 to 7.12)
-#[derive(Drop)]
+#[derive(Clone, Copy)]
 pub enum Chosen {
     Next(Next),
     Ended,
