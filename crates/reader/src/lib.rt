@@ -1,18 +1,20 @@
 // The script reader keeps hold of a lent script and of its place in it, and yields one record at a time. (docs/RULES.md, 7.7.)
+#![tactic(auto)]
+
 ghost use Rattle.std.specs.Prelude.{◌≡◌};
 ghost use Rattle.reader.specs.Reader.{yielded, found_by, moved};
 
 use script::RecordRead;
 
 // A script reader holds the lent script and its place in it. (7.7)
-#[derive(Drop)]
+#[derive(Clone, Copy)]
 pub struct ScriptReader<'a> {
     pub script: &'a [u8],
     pub at: usize,
 }
 
 // One step of a script reader: what it found, and its place afterwards. (7.7)
-#[derive(Drop)]
+#[derive(Clone, Copy)]
 pub struct Yielded {
     pub found: RecordRead,
     pub at: usize,
