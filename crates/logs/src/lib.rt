@@ -1,4 +1,6 @@
 // The record writer: it writes one record of a log into the unused rest of the log buffer. (docs/RULES.md, 8.8 to 8.10.)
+#![tactic(auto)]
+
 ghost use Rattle.std.specs.Prelude.{◌≡◌, length};
 ghost use Rattle.logs.specs.Log.{values_of, all_in_range, written_record, rest_after};
 
