@@ -1,4 +1,6 @@
 // Words: numbers in eight bytes, the lowest byte first, as they stand in the host's answer buffer. This is not the spelling of tables and scripts. (9.4)
+#![tactic(auto)]
+
 ghost use Rattle.std.specs.Prelude.{◌≡◌, length};
 ghost use Rattle.numbers.specs.Reading.{misspelled_at};
 ghost use Rattle.words.specs.Words.{put_word, rest_with, word_at};
