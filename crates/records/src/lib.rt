@@ -1,4 +1,6 @@
 // The three numbers of a script's record, and their tests in the order of the rules. (docs/RULES.md, 7.1 to 7.6 and 8.5.)
+#![tactic(auto)]
+
 ghost use Rattle.std.specs.Prelude.{◌≡◌, ◌+◌, leb};
 ghost use Rattle.kinds.specs.Numbering.{max_time};
 ghost use Rattle.records.specs.Numbers.{placed_at, place_after_number, numbers_at, refused_at, tested_by, record_tested};
@@ -9,14 +11,14 @@ use script::Record;
 use table::{CostAnswer, CostLimit};
 
 // A number of a script: the place where it starts, and what is read there.
-#[derive(Drop)]
+#[derive(Clone, Copy)]
 pub struct Placed {
     pub place: usize,
     pub read: NumberRead,
 }
 
 // The three numbers of a record, each with its place. (7.1)
-#[derive(Drop)]
+#[derive(Clone, Copy)]
 pub struct Numbers {
     pub gap: Placed,
     pub row: Placed,
@@ -24,7 +26,7 @@ pub struct Numbers {
 }
 
 // The release that a record at a place asks for: its time, its row number and its cost, and the place after the record.
-#[derive(Drop)]
+#[derive(Clone, Copy)]
 pub struct Ready {
     pub time: Tick,
     pub row: RowNumber,
@@ -33,14 +35,14 @@ pub struct Ready {
 }
 
 // The answer of the tests of a record at a place.
-#[derive(Drop)]
+#[derive(Clone, Copy)]
 pub enum Tested {
     Ready(Ready),
     Refused(RefusedAt),
 }
 
 // The release that a record asks for that was read already: its time, its row number and its cost.
-#[derive(Drop)]
+#[derive(Clone, Copy)]
 pub struct Asked {
     pub time: Tick,
     pub row: RowNumber,
@@ -48,7 +50,7 @@ pub struct Asked {
 }
 
 // The answer of the tests of a record that was read already. Its refusals name no place.
-#[derive(Drop)]
+#[derive(Clone, Copy)]
 pub enum RecordTested {
     Ready(Asked),
     Refused(Refusal),
