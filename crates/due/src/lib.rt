@@ -1,5 +1,7 @@
 // The due times of a row: those that are kept, the due time of a release, and keeping one more; and the due time of a server's job. No run is needed.
 // (docs/RULES.md, section 4.)
+#![tactic(auto)]
+
 mod servers;
 
 ghost use Rattle.std.specs.Prelude.{◌≡◌, min};
@@ -11,28 +13,28 @@ use table::Row;
 
 // The first `count` times are the due times of a row's newest accepted jobs, oldest first. A count above the array's length means all of the array. (4.6)
 #[repr(C)]
-#[derive(Drop)]
+#[derive(Clone, Copy)]
 pub struct Kept {
     pub times: [Tick; Kept::MAX],
     pub count: usize,
 }
 
 // A release has a due time, or is refused. (4.7, 10.7)
-#[derive(Drop)]
+#[derive(Clone, Copy)]
 pub enum Due {
     At(Tick),
     Refused(Refusal),
 }
 
 // A due time was kept, or it was refused. (10.7)
-#[derive(Drop)]
+#[derive(Clone, Copy)]
 pub enum KeepAnswer {
     Done,
     Refused(Refusal),
 }
 
 // What is kept afterwards stands beside the answer. (4.6)
-#[derive(Drop)]
+#[derive(Clone, Copy)]
 pub struct KeepStep {
     pub kept: Kept,
     pub answer: KeepAnswer,
