@@ -1,5 +1,7 @@
 // The kept due times of all rows in lent arrays. Each row has a ring of places of its own, so that its next due time is found and kept without moving any
 // other. (docs/RULES.md, section 4.)
+#![tactic(auto)]
+
 ghost use Rattle.std.specs.Prelude.{◌≡◌, ◌≤◌, ◌<◌};
 ghost use Rattle.table.specs.Limits.{max_y, max_d};
 ghost use Rattle.due.specs.Kept.{not_too_late};
