@@ -1,5 +1,7 @@
 // The run is the scheduler's state. Each call takes any run by value, tests that it is sound, and hands back the next run beside its answer.
 // (docs/RULES.md, section 6.)
+#![tactic(auto)]
+
 mod soundness;
 
 ghost use Rattle.std.specs.Prelude.{◌≡◌};
@@ -18,7 +20,7 @@ use table::{CostAnswer, Table, TableAnswer};
 // A run holds its table, which is the timer, the rows and the servers, the clock, the pending jobs, the next serial, the kept due times of each row, the last
 // due time of each server, and how many jobs were ended early. In memory it is a list of numbers of eight bytes, in this order. (6.1, 9.16)
 #[repr(C)]
-#[derive(Drop)]
+#[derive(Clone, Copy)]
 pub struct Run {
     pub table: Table,
     pub clock: Tick,
@@ -30,42 +32,42 @@ pub struct Run {
 }
 
 // The answer of a start: the run is ready, or the table was refused. (6.4)
-#[derive(Drop)]
+#[derive(Clone, Copy)]
 pub enum StartAnswer {
     Ready,
     Refused(RefusedAt),
 }
 
 // The run that was started, beside the answer. After a refusal it is the fresh run of the empty table. (6.4)
-#[derive(Drop)]
+#[derive(Clone, Copy)]
 pub struct Started {
     pub run: Run,
     pub answer: StartAnswer,
 }
 
 // What an accepted release answers: the job's serial and its due time. (6.6)
-#[derive(Drop)]
+#[derive(Clone, Copy)]
 pub struct Accepted {
     pub serial: Serial,
     pub due: Tick,
 }
 
 // The answer of a release: the job was accepted or refused. (6.6, 6.8)
-#[derive(Drop)]
+#[derive(Clone, Copy)]
 pub enum Released {
     Accepted(Accepted),
     Refused(Refusal),
 }
 
 // The next run after a release, beside the answer. (6.19)
-#[derive(Drop)]
+#[derive(Clone, Copy)]
 pub struct ReleaseStep {
     pub run: Run,
     pub answer: Released,
 }
 
 // The answer of a tick: it was idle, a job had the unit, the timer took it, or it was refused. (6.12, 6.16)
-#[derive(Drop)]
+#[derive(Clone, Copy)]
 pub enum Ticked {
     Idle,
     Ran(Ran),
@@ -74,7 +76,7 @@ pub enum Ticked {
 }
 
 // The next run after a tick, beside the answer and the late count. The late count is answered whatever the answer is. (6.14, 6.19)
-#[derive(Drop)]
+#[derive(Clone, Copy)]
 pub struct TickStep {
     pub run: Run,
     pub answer: Ticked,
@@ -82,14 +84,14 @@ pub struct TickStep {
 }
 
 // The answer of an end: the units that the job was given so far, or a refusal. (6.27, 6.30)
-#[derive(Drop)]
+#[derive(Clone, Copy)]
 pub enum Ended {
     Units(u64),
     Refused(Refusal),
 }
 
 // The next run after an end, beside the answer. (6.19)
-#[derive(Drop)]
+#[derive(Clone, Copy)]
 pub struct EndStep {
     pub run: Run,
     pub answer: Ended,
