@@ -15,7 +15,7 @@ const MOST_PARTS: u64 = 4096;
 
 // The P that was chosen, or 0 if none was; the lengths after which what its part leaves out repeats itself, or 0 where its line is not lowered; and about how
 // many looks at lengths the search will need.
-#[derive(Drop)]
+#[derive(Clone, Copy)]
 pub(crate) struct Choice {
     pub(crate) step: u64,
     pub(crate) turn: u64,

@@ -1,5 +1,7 @@
 // The verdict on a table. It is feasible if no length of time, however long, has more demand than length. Otherwise it is overloaded, and the answer is the
 // smallest length that has, with its demand. (docs/RULES.md, section 5.)
+#![tactic(auto)]
+
 mod blocks;
 mod choices;
 mod classes;
@@ -24,14 +26,14 @@ use kinds::RefusedAt;
 use table::{Row, Server, Table, TableAnswer};
 
 // The witness of an overloaded table is the smallest length whose demand is above it, with that demand. (1.11)
-#[derive(Drop)]
+#[derive(Clone, Copy)]
 pub struct Witness {
     pub length: u64,
     pub demand: u64,
 }
 
 // A table is feasible, overloaded with a witness, or refused. (5.4, 5.5)
-#[derive(Drop)]
+#[derive(Clone, Copy)]
 pub enum Verdict {
     Feasible,
     Overloaded(Witness),
@@ -39,7 +41,7 @@ pub enum Verdict {
 }
 
 // A scan of some lengths finds that the demand in each is at most the length, or finds the smallest that fails.
-#[derive(Drop)]
+#[derive(Clone, Copy)]
 enum Scan {
     Fits,
     Fails(Witness),

@@ -9,7 +9,7 @@ ghost use Rattle.verdict.specs.HeldParts.{IsPart, GoodLine};
 use crate::terms::{GROUP, ROOM, held_demand, put_term};
 
 // The part of a demand that repeats itself every P, as an array of terms, and the line above the rest. In a length L the line's height is (slope · L + lift)/H.
-#[derive(Drop)]
+#[derive(Clone, Copy)]
 pub(crate) struct Part {
     pub(crate) terms: [u64; ROOM],
     pub(crate) count: usize,

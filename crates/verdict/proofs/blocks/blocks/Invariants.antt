@@ -1,0 +1,16 @@
+-- `verdict::blocks::blocks` meets its contract. The lengths below `base` fit, and each block that is looked at ends at or below `hi`.
+use Prim.Native.Nat.{◌+◌, ◌-◌, ◌≤◌}
+use mathlib.Core.Path.{◌≡◌, refl}
+use mathlib.Core.Logic.{⊎_elim}
+use native.Mathlib.Omega.{arith}
+use lib.ListN.{length}
+use Rattle.verdict.specs.HeldTerms.{held_demand}
+use Rattle.verdict.specs.Blocks.{block_size, InBlock}
+use Rattle.verdict.proofs.Searches.{FitsBelow, fits_further, smallest_found, none_fails_at_all}
+use Rattle.verdict.proofs.blocks.blocks.Given as goal
+
+abbrev pub invariant-loop-base : goal.invariant-loop-base
+invariant-loop-base l = (l.lo ≤ l.base) × (length l.rises ≡ block_size) × FitsBelow (held_demand l.terms l.count) l.lo l.base
+
+abbrev pub decreases-loop-base : goal.decreases-loop-base
+decreases-loop-base l = l.hi + 1 - l.base

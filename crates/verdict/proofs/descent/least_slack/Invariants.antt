@@ -1,0 +1,13 @@
+-- `verdict::descent::least_slack` meets its contract. The lengths above `top` have at least `slack` ticks to spare, and one of them has no more.
+use Prim.Native.Nat.{◌≤◌}
+use native.Mathlib.Omega.{arith}
+use Rattle.theory.specs.Descent.{LargestFrom, raised}
+use Rattle.verdict.specs.HeldTerms.{held_demand}
+use Rattle.verdict.proofs.Searches.{SlackAbove, slack_at_end, slack_lower, slack_is_least}
+use Rattle.verdict.proofs.descent.least_slack.Given as goal
+
+abbrev pub invariant-loop-top : goal.invariant-loop-top
+invariant-loop-top l = (l.top ≤ l.hi) × SlackAbove (held_demand l.terms l.count) l.lo l.hi l.top l.slack
+
+abbrev pub decreases-loop-top : goal.decreases-loop-top
+decreases-loop-top l = l.top

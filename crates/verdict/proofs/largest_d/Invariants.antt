@@ -1,0 +1,14 @@
+-- `verdict::largest_d` meets its contract. The loop's invariant: `largest` is the largest d of the rows passed.
+use Prim.Native.Nat.{◌-◌, ◌≤◌}
+use mathlib.Core.Path.{◌≡◌, refl}
+use mathlib.Core.Logic.{⊎_elim}
+use native.Mathlib.Omega.{arith}
+use Rattle.verdict.specs.Demand.{largest_of}
+use Rattle.verdict.proofs.Rows.{first_rows, largest_more}
+use Rattle.verdict.proofs.largest_d.Given as goal
+
+abbrev pub invariant-loop-i : goal.invariant-loop-i
+invariant-loop-i l = (l.i ≤ l.count) × (l.largest ≡ largest_of (first_rows l.table l.i))
+
+abbrev pub decreases-loop-i : goal.decreases-loop-i
+decreases-loop-i l = l.count - l.i

@@ -1,0 +1,18 @@
+-- `verdict::lifts::least_lift` meets its contract: with the largest of the heights so far the line is above what is left out in the lengths below `at`.
+use native.Mathlib.Omega.{arith}
+use borrow.Author.Rules.{rules}
+use Prim.Native.Nat.{ℕ, ◌+◌, ◌-◌, ◌*◌, ◌≤◌, ◌<◌}
+use mathlib.Core.Path.{◌≡◌}
+use Rattle.theory.proofs.Cases.{by_lt}
+use Rattle.verdict.specs.HeldTerms.{held_demand}
+use Rattle.verdict.specs.HeldParts.{LowerLift}
+use Rattle.verdict.proofs.HeldParts.{line_product_at_most}
+use Rattle.verdict.proofs.LowerLines.{product_of_rest, lift_stays, lift_raised}
+use Rattle.verdict.proofs.lifts.least_lift.Given as goal
+
+abbrev pub invariant-loop-at : goal.invariant-loop-at
+invariant-loop-at l =
+    (l.at ≤ l.end) × LowerLift (held_demand l.terms l.count) (held_demand l.part l.size) l.period l.slope l.lift l.at l.most
+
+abbrev pub decreases-loop-at : goal.decreases-loop-at
+decreases-loop-at l = l.end - l.at

@@ -1,0 +1,46 @@
+-- `verdict::scan_range` meets its contract: the outer loop passes lengths that fit. In one length, the first inner loop adds the demands of the servers to the
+-- ticks that the timer takes there, and the second adds those of the rows to this sum.
+use Prim.Native.Nat.{ℕ, ◌+◌, ◌-◌, ◌*◌, ◌≤◌, ◌<◌}
+use mathlib.Core.Path.{◌≡◌}
+use native.Mathlib.Omega.{arith}
+use borrow.Author.Count.{below_more}
+use Rattle.theory.specs.Lists.{total}
+use Rattle.theory.specs.Ticks.{timer_takes}
+use Rattle.table.specs.declared.Table.{Table}
+use Rattle.table.specs.Limits.{max_servers}
+use Rattle.table.specs.Servers.{no_server}
+use Rattle.table.specs.Tables.{no_row, servers_of, InRange}
+use Rattle.verdict.specs.Demand.{table_demand, max_length}
+use Rattle.verdict.proofs.Sums.{Summed, none_summed, all_summed, summed_more}
+use Rattle.verdict.proofs.Rows.{demand_in, row_places, row_within}
+use Rattle.verdict.proofs.Servers.{server_demand_in, server_places}
+use Rattle.verdict.proofs.Bounds.{most, takes_at_most, demand_at_most, server_demand_at_most, base_at_most, server_sum_fits, sum_fits}
+use Rattle.verdict.proofs.scan_range.Given as goal
+
+-- The ticks that the timer takes are there before the first inner loop.
+abbrev pub timer_part : Table → (L : ℕ) → ℕ
+timer_part t L = timer_takes t.s t.p L
+
+-- The servers' demands and the ticks that the timer takes are there before the second inner loop.
+abbrev pub base_part : Table → (L : ℕ) → ℕ
+base_part t L = total (server_demand_in L) (servers_of t) + timer_part t L
+
+abbrev pub invariant-loop-k : goal.invariant-loop-k
+invariant-loop-k l =
+    Summed (server_demand_in l.length) l.table.servers l.table.serving (timer_part l.table l.length) l.demand l.k
+
+abbrev pub decreases-loop-k : goal.decreases-loop-k
+decreases-loop-k l = l.serving - l.k
+
+abbrev pub invariant-loop-i : goal.invariant-loop-i
+invariant-loop-i l =
+    Summed (demand_in l.length) l.table.rows l.table.count (base_part l.table l.length) l.demand l.i
+
+abbrev pub decreases-loop-i : goal.decreases-loop-i
+decreases-loop-i l = l.count - l.i
+
+abbrev pub invariant-loop-length : goal.invariant-loop-length
+invariant-loop-length l = (l.first ≤ l.length) × ((L : ℕ) → L < l.length → l.first ≤ L → table_demand l.table L ≤ L)
+
+abbrev pub decreases-loop-length : goal.decreases-loop-length
+decreases-loop-length l = l.last + 1 - l.length
