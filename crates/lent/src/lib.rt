@@ -1,5 +1,7 @@
 // Release, tick and end of a run that is lent by exclusive reference and changed in place. Answers and runs are those of the calls by value. (docs/RULES.md,
 // 6.19.)
+#![tactic(auto)]
+
 ghost use Rattle.std.specs.Prelude.{◌≡◌};
 ghost use Rattle.run.specs.Ending.{ended};
 ghost use Rattle.run.specs.Release.{released};
@@ -10,7 +12,7 @@ use kinds::{RowNumber, Serial};
 use run::{EndStep, Ended, ReleaseStep, Released, Run, TickStep, Ticked};
 
 // What a tick of a lent run answers: the answer and the late count of the tick by value. (6.14, 6.19)
-#[derive(Drop)]
+#[derive(Clone, Copy)]
 pub struct TickAnswer {
     pub answer: Ticked,
     pub late: u64,
