@@ -1,4 +1,6 @@
 // What the calls on a live run say to the host: a status, which is never zero, and two numbers beside it. (docs/RULES.md, 9.12.)
+#![tactic(auto)]
+
 ghost use Rattle.std.specs.Prelude.{◌≡◌};
 ghost use Rattle.kinds.specs.Numbering.{refused_says};
 ghost use Rattle.run.specs.Answers.{release_says, tick_says, end_says};
@@ -9,7 +11,7 @@ use kinds::{Refusal, RefusedAt};
 use run::{Ended, Released, StartAnswer, Ticked};
 
 // A status, and the two numbers beside it. (9.4)
-#[derive(Drop)]
+#[derive(Clone, Copy)]
 pub struct Saying {
     pub number: u32,
     pub first: u64,
