@@ -1,5 +1,5 @@
 -- A log's numbers are small, and the log is at most ten times as long as its script. (docs/RULES.md, sections 8.8, 8.11 and 10.6.)
-use Prim.Native.Nat.{ℕ, ◌*◌, ◌≤◌}
+use Prim.Native.Nat.{ℕ, ◌*◌, ◌≤◌, ◌+◌}
 use mathlib.Core.Path.{◌≡◌, refl, ap, ◌∙◌}
 use mathlib.Core.List.{List, [], ◌∷◌, flatten}
 use native.Mathlib.Omega.{arith}
@@ -73,7 +73,7 @@ one_job_each : (time : ℕ) (rs : List Record) (js : List Job) → AskedFor time
 one_job_each time [] [] asked = refl
 one_job_each time [] (j ∷ js) asked = absurd asked
 one_job_each time (r ∷ rs) [] asked = absurd asked
-one_job_each time (r ∷ rs) (j ∷ js) asked = omega (arith, one_job_each _ rs js asked.3)
+one_job_each time (r ∷ rs) (j ∷ js) asked = omega (arith, one_job_each (time + r.gap) rs js asked.3)
 
 pub log_is_short : LogIsShort
 log_is_short t s p table script e =
