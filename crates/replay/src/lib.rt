@@ -1,4 +1,6 @@
 // Replay: a script is played on a table, and a record of each job is written into a log. (docs/RULES.md, section 8.)
+#![tactic(auto)]
+
 mod steps;
 mod ticks;
 
@@ -18,14 +20,14 @@ use rings::TIMES;
 use table::{Row, Server, Table, TableAnswer};
 
 // The outcome of a replay with late jobs: the log's length in bytes, and the number of jobs that finished after their due time. (8.14, 8.15)
-#[derive(Drop)]
+#[derive(Clone, Copy)]
 pub struct LateJobs {
     pub length: usize,
     pub late: u64,
 }
 
 // What a replay answers: all jobs in time, with the log's length; or with late jobs; or refused. (8.15)
-#[derive(Drop)]
+#[derive(Clone, Copy)]
 pub enum Replayed {
     InTime(usize),
     Late(LateJobs),
@@ -34,7 +36,7 @@ pub enum Replayed {
 
 // What is known about a log so far: its length in bytes, the number of jobs late, and whether it is full. Once a record did not fit, the log is full: it stays
 // so, and is not written to any more. (8.13)
-#[derive(Drop)]
+#[derive(Clone, Copy)]
 struct Logged {
     length: usize,
     late: u64,
@@ -43,7 +45,7 @@ struct Logged {
 
 // Where ticks have come to: where the pending jobs stand and how many they are, the clock, and what is written of the log. The three fields of `Logged` stand
 // here one by one: a copy of the whole struct copies its unused bytes too, and takes longer.
-#[derive(Drop)]
+#[derive(Clone, Copy)]
 struct Reached {
     first: usize,
     count: usize,
@@ -55,7 +57,7 @@ struct Reached {
 
 // How far a play has come: where the pending jobs stand and how many they are, the clock, the next serial, and what is written of the log, one by one as in
 // `Reached`.
-#[derive(Drop)]
+#[derive(Clone, Copy)]
 struct Going {
     first: usize,
     count: usize,
@@ -67,21 +69,21 @@ struct Going {
 }
 
 // A server, and its place among the servers of its table. (1.2)
-#[derive(Drop)]
+#[derive(Clone, Copy)]
 struct ServerOf {
     server: Server,
     place: usize,
 }
 
 // Whose job a record releases: a row's or a server's. (1.2)
-#[derive(Drop)]
+#[derive(Clone, Copy)]
 enum Source {
     Row(Row),
     Server(ServerOf),
 }
 
 // What one record does to a play: the play goes on, or it stops with a refusal.
-#[derive(Drop)]
+#[derive(Clone, Copy)]
 enum RecordStep {
     Next(Going),
     Refused(RefusedAt),
