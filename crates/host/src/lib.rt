@@ -1,6 +1,8 @@
 // The host's calls: the verdict and the replay here, and the four calls on a live run in live_run.rt. The host is a C program: it calls them with byte buffers, and
 // gets a status number back (9.1). The status is never zero, and the two numbers beside it are written into the answer buffer (9.5). The caller lends buffers
 // that don't overlap, and no null pointer except with length 0 (9.8). The manual for a C program is include/jyrmekko.h. (docs/RULES.md, section 9.)
+#![tactic(auto)]
+
 mod live_run;
 
 ghost use Rattle.std.specs.Prelude.{◌≡◌, length};

@@ -9,7 +9,7 @@ use live::Saying;
 use run::Run;
 
 // The run after a call, and the call's status.
-#[derive(Drop)]
+#[derive(Clone, Copy)]
 struct LiveStep {
     run: Run,
     status: u32,
