@@ -1,6 +1,6 @@
 -- What it means that a row keeps its newest due times, that a due time is given, and that kept due times are sound. (docs/RULES.md, section 4.)
 use Rattle.std.specs.Prelude.{ℕ, ◌≤◌, ◌<◌, ◌≡◌, true, List, length, take, get_or}
-use Rattle.kinds.specs.Numbering.{max_time, Says, numbered}
+use Rattle.kinds.specs.Numbering.{max_time}
 use Rattle.theory.specs.DueTimes.{due_time}
 use Rattle.table.specs.declared.Row.{Row}
 use Rattle.table.specs.Rows.{row_in_range}

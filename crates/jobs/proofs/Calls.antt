@@ -1,13 +1,11 @@
 -- What each call on pending jobs says, in each of its cases.
-use Prim.Native.Nat.{ℕ, ◌≤◌, ◌<◌}
-use mathlib.Core.Path.{◌≡◌, refl, sym}
-use mathlib.Core.List.{List, [], ◌∷◌}
+use mathlib.Core.Path.{refl, sym}
+use mathlib.Core.List.{[], ◌∷◌}
 use native.Mathlib.Omega.{arith}
-use lib.ListN.{length}
 use borrow.Author.Tests.{lt-ltb, le-ltb, le-leb, lt-leb}
 use Rattle.kinds.specs.Numbering.{values}
 use Rattle.jobs.specs.declared.Job.{Job}
-use Rattle.jobs.specs.Places.{max_places, jobs_of, used, put, put_step, taken_out, take_step}
+use Rattle.jobs.specs.Places.{max_places, jobs_of, used, put, put_step, take_step}
 use Rattle.jobs.specs.Choice.{first_place}
 use Rattle.jobs.specs.Units.{ran_of, given}
 use Rattle.jobs.specs.Answers.{ran_values}

@@ -7,7 +7,6 @@ use Rattle.numbers.specs.declared.Number.{Number}
 use Rattle.numbers.specs.declared.NumberRead.{NumberRead}
 use Rattle.numbers.specs.declared.NumberRead.TheVariants as number
 use Rattle.numbers.specs.declared.Written.{Written}
-use Rattle.numbers.specs.declared.Written.TheVariants.{Refused}
 use Rattle.numbers.specs.Reading.{read_at}
 use Rattle.logs.specs.Log.{values_of, spelled_finish, all_in_range, written_record, rest_after}
 

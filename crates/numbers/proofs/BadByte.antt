@@ -24,7 +24,7 @@ use Rattle.numbers.specs.Reading.{Spelt, number, superfluous_zero, asks_for_more
 use Rattle.numbers.specs.Answers.{number_says}
 use Rattle.numbers.specs.SpelledNumbers.{Bytes, Spelled, NoNumber}
 use Rattle.numbers.specs.BadByte.{bytes_between, Begins, WantsMore, BadByteAt, RefusedAtTheBadByte, OneBadByte, BadByteIfNoNumber}
-use Rattle.numbers.specs.BadByte.{NumbersBetween, nothing_between, number_first, FirstBadByte, OneFirstBadByte, RefusedWithOne, ZeroGroupIsBad, SixthGroupIsBad, CutOffIsBad}
+use Rattle.numbers.specs.BadByte.{NumbersBetween, nothing_between, number_first, OneFirstBadByte, RefusedWithOne, ZeroGroupIsBad, SixthGroupIsBad, CutOffIsBad}
 use Rattle.numbers.proofs.Reading.{limit, limit_pos, Passed, first_passed, next_passed, read_one, read_too_long, read_cut, read_zero, read_last}
 use Rattle.numbers.proofs.Spellings.{groups_last, groups_more, Bytes-cons, spelt_within, number_has_one_spelling, spellings_differ, nothing_past_the_end}
 use Rattle.numbers.proofs.Answers.{numbers_said_apart}

@@ -1,6 +1,6 @@
 -- What the answers of the number reader and the number writer say. (docs/RULES.md, sections 2 and 10.)
 use Rattle.std.specs.Prelude.{ℕ, ◌≡◌, [], ◌∷◌}
-use Rattle.kinds.specs.Numbering.{Said, Says, numbered, values, refusal_number, refused_says, without_place, NeverNumberedZero, SaysApart, refused_with}
+use Rattle.kinds.specs.Numbering.{Says, numbered, values, refusal_number, refused_says, without_place, NeverNumberedZero, SaysApart, refused_with}
 use Rattle.kinds.specs.declared.Refusal.{Refusal}
 use Rattle.numbers.specs.declared.NumberRead.{NumberRead}
 use Rattle.numbers.specs.declared.NumberRead.TheVariants as read

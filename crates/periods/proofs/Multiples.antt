@@ -4,23 +4,7 @@ use Prim.Native.Nat.{ℕ, zero, suc, ◌+◌, ◌*◌, ◌/◌, ◌%◌, ◌≤�
 use mathlib.Core.Path.{◌≡◌, refl}
 use mathlib.Core.Bool.{Bool, true, false, ◌&&◌}
 use mathlib.Core.List.{List, [], ◌∷◌}
-use native.Mathlib.Nat.{
-  le_refl,
-  mul-pos,
-  mod-lt,
-  one-dvd,
-  dvd_refl,
-  dvd_trans,
-  dvd_antisymm,
-  dvd-mul_left,
-  dvd-mul_right,
-  dvd-mul_left_of_dvd,
-  dvd-mod_iff,
-  dvd_of_mod-eq-zero,
-  mod-eq-zero_of_dvd,
-  le_of_dvd,
-  pos_of_dvd_of_pos,
-}
+use native.Mathlib.Nat.{le_refl, mul-pos, mod-lt, one-dvd, dvd_refl, dvd_trans, dvd_antisymm, dvd-mul_left, dvd-mul_right, dvd-mul_left_of_dvd, dvd-mod_iff, dvd_of_mod-eq-zero, mod-eq-zero_of_dvd, le_of_dvd}
 use native.Mathlib.Decide.{dec_le}
 use native.Mathlib.Omega.{arith}
 use lib.Dec.{eqb}

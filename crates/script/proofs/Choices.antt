@@ -1,9 +1,9 @@
 -- What the chooser says about two scripts, by what each begins with and the time that each has reached. (docs/RULES.md, section 7.)
 use Prim.Native.Nat.{ℕ}
 use native.Mathlib.Omega.{arith}
-use mathlib.Core.Path.{◌≡◌, refl, sym, ap, ◌∙◌}
+use mathlib.Core.Path.{◌≡◌, refl, ap, ◌∙◌}
 use mathlib.Core.List.{List}
-use Rattle.kinds.specs.Numbering.{Said, numbered, refused_says}
+use Rattle.kinds.specs.Numbering.{refused_says}
 use Rattle.kinds.specs.declared.RefusedAt.{RefusedAt}
 use Rattle.script.specs.declared.RecordAt.{RecordAt}
 use Rattle.script.specs.declared.RecordRead.{RecordRead}
@@ -11,8 +11,8 @@ use Rattle.script.specs.declared.RecordRead.TheVariants as read
 use Rattle.script.specs.declared.Which.TheVariants as which
 use Rattle.script.specs.Records.{record_at}
 use Rattle.script.specs.Chooser.{refused_in, earlier_of, comes_next, chosen}
-use Rattle.script.specs.Answers.{chosen_says, refusal_in}
-use Rattle.script.specs.TwoScripts.{BeginsWith, HasEnded, RefusedFirst, TwoRecords}
+use Rattle.script.specs.Answers.{chosen_says}
+use Rattle.script.specs.TwoScripts.{BeginsWith, HasEnded, TwoRecords}
 use Rattle.script.specs.ChooserLaws.{FirstUnlessLater, FirstAtEqualTimes, SecondIfEarlier}
 use Rattle.script.specs.ChooserLaws.{FirstAlone, SecondAlone, BothEnded, TooLateInFirst, TooLateInSecond, RefusedInFirst, RefusedInSecond}
 use Rattle.script.proofs.Chooser.{first_earlier, second_earlier, first_too_late, second_too_late, by_records}

@@ -1,7 +1,6 @@
 -- What the chooser can find in its two scripts. (docs/RULES.md, section 7.)
 use Rattle.std.specs.Prelude.{ℕ, ◌≤◌, ◌≡◌, List, [], ◌∷◌, length}
 use Rattle.kinds.specs.Numbering.{max_time, Said, numbered, values}
-use Rattle.script.specs.declared.Record.{Record}
 use Rattle.script.specs.declared.RecordAt.{RecordAt}
 use Rattle.script.specs.declared.RecordRead.TheVariants as read
 use Rattle.script.specs.declared.Which.{Which}

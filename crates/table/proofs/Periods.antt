@@ -1,12 +1,11 @@
 -- The period of a table without servers is that of its timer and its rows. If the timer has p = 1, it is that of the rows alone: every number is a multiple of
 -- 1. (docs/RULES.md, 3.4 and 5.18.)
-use Prim.Native.Nat.{ℕ, zero, suc, ◌+◌, ◌*◌, ◌%◌}
+use Prim.Native.Nat.{ℕ, zero, suc, ◌+◌, ◌*◌}
 use native.Mathlib.Omega.{arith}
 use native.Mathlib.Nat.{mod-one}
 use mathlib.Core.Path.{◌≡◌, refl, ap, ◌∙◌}
-use mathlib.Core.Bool.{cond}
 use mathlib.Core.List.{List, [], ◌∷◌, append-nil}
-use Rattle.periods.specs.Multiples.{is_multiple, product}
+use Rattle.periods.specs.Multiples.{product}
 use Rattle.periods.proofs.Multiples.{period_is_least, alone}
 use Rattle.table.specs.Period.{first_multiple, least_common_multiple, ys_of, PeriodOfOneServer, PeriodWithoutServers, PeriodOfRowsAlone}
 use Rattle.table.proofs.Each.{each_none, Each-cons}

@@ -11,7 +11,7 @@ pub use Rattle.periods.proofs.Multiples.{both_true}
 use Rattle.table.specs.declared.Row.{Row}
 use Rattle.table.specs.Limits.{max_x, max_y, max_d, max_c}
 use Rattle.table.specs.Rows.{within_limit, fine, rule_of_x, rule_of_y, rule_of_d, range_of_c, within_its_d, after_range, rule_of_c, row_in_range, hopeless}
-use Rattle.table.specs.SpelledTables.{WithinLimits, AcceptableRow}
+use Rattle.table.specs.SpelledTables.{WithinLimits}
 use Rattle.table.specs.TableLaws.{HopelessMeans, AcceptableMeans}
 
 -- ---- a value

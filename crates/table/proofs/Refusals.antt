@@ -1,6 +1,6 @@
 -- Bytes are refused exactly as the rules say: for their timer, for their row count, for a bad value, for a hopeless row, for their servers, for bytes after the
 -- servers, or for their H. (docs/RULES.md, 3.3, 3.7 to 3.12, 3.17 and 3.19.)
-use Prim.Native.Nat.{ℕ, ◌+◌, ◌≤◌}
+use Prim.Native.Nat.{ℕ, ◌≤◌}
 use native.Mathlib.Decide.{dec_le}
 use native.Mathlib.Omega.{arith}
 use mathlib.Core.Path.{◌≡◌, refl, ap, ◌∙◌}
@@ -12,7 +12,6 @@ use Rattle.kinds.specs.Numbering.{refusal_number, refused_with}
 use Rattle.kinds.specs.declared.Refusal.TheVariants.{Misspelled, TooManyRows, ExtraBytes, PeriodTooLong, HopelessRow}
 use Rattle.kinds.specs.declared.RefusedAt.{RefusedAt}
 use Rattle.kinds.proofs.Apart.{impossible}
-use Rattle.numbers.specs.declared.Number.{Number}
 use Rattle.numbers.specs.declared.NumberRead.{NumberRead}
 use Rattle.numbers.specs.declared.NumberRead.TheVariants as number
 use Rattle.numbers.specs.Spelling.{spelling}

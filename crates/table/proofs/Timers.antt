@@ -2,12 +2,10 @@
 use Prim.Native.Nat.{ℕ, ◌≤◌, ◌<◌}
 use native.Mathlib.Decide.{dec_le}
 use native.Mathlib.Omega.{arith}
-use mathlib.Core.Path.{◌≡◌, refl, sym, ap, subst, ◌∙◌}
-use mathlib.Core.Bool.{true}
+use mathlib.Core.Path.{◌≡◌, refl, sym, subst, ◌∙◌}
 use mathlib.Core.Option.{Option, none, some}
-use mathlib.Core.List.{List, ◌++◌}
+use mathlib.Core.List.{List}
 use lib.Dec.{ltb}
-use lib.ListN.{length}
 use borrow.Author.Tests.{lt-ltb, le-ltb, ltb-true}
 use Rattle.kinds.specs.Numbering.{refusal_number}
 use Rattle.kinds.specs.declared.Refusal.{Refusal}
@@ -27,8 +25,8 @@ use Rattle.table.specs.declared.TimerRead.{TimerRead}
 use Rattle.table.specs.declared.TimerRead.TheVariants as timer
 use Rattle.table.specs.Limits.{max_p}
 use Rattle.table.specs.Rows.{fine, tested_at, read_value}
-use Rattle.table.specs.Timer.{rule_of_p, rule_of_s, GoodTimer, after_timer_number, read_timer, TimerInRangeMeans}
-use Rattle.table.specs.Refusals.{BadValue, TimerEnds, TimerRefusedSo, no_s, bad_p, s_not_below}
+use Rattle.table.specs.Timer.{rule_of_p, rule_of_s, after_timer_number, read_timer, TimerInRangeMeans}
+use Rattle.table.specs.Refusals.{TimerEnds, TimerRefusedSo, no_s, bad_p, s_not_below}
 use Rattle.table.proofs.Ranges.{both_true, fine_where, fine_limits, within_fine}
 use Rattle.table.proofs.Reading.{tested_fine}
 use Rattle.table.proofs.Spelling.{parted, joined, spelled_stands, number_read, value_read}

@@ -17,7 +17,7 @@ use Rattle.theory.specs.Trace.{Waiting, units, Trace, begin, accept, lost, idle,
 use Rattle.theory.specs.Trace.{ServedOrEnded, served, ended}
 use Rattle.theory.specs.Schedules.{units_before, units_in, who_had, TraceIsASchedule, NothingBeforeRelease, EarliestDueMeets, EarliestDueIsOptimal}
 use Rattle.theory.proofs.Cases.{by_lt}
-use Rattle.theory.proofs.Lists.{all_of_members, all_at, all_imply}
+use Rattle.theory.proofs.Lists.{all_of_members, all_at}
 use Rattle.theory.proofs.Jobs.{weight_inside}
 use Rattle.theory.proofs.Trace.{one_entry_a_tick, released_by_the_clock, only_accepted_have_ticks}
 use Rattle.theory.proofs.EarliestDue.{due_are_over}

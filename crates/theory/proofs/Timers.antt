@@ -8,7 +8,6 @@ use native.Mathlib.Omega.{arith}
 use native.Mathlib.Decide.{le_ind}
 use native.Mathlib.Nat.{add-mul-div_right, add-mul-mod_self_right, div-add-mod', div-eq_of_lt, div-mul_cancel, le_refl, mod-eq_of_lt, mod-lt}
 use borrow.Author.Tests.{lt-ltb, le-ltb}
-use Rattle.theory.specs.Curves.{Curve}
 use Rattle.theory.specs.Ticks.{free_before, free, timer, timer_takes, free_tick_at, TimerTakesAtMost, TimerTakesNoLess}
 use Rattle.theory.specs.Ticks.{TimerTakesFromZero, TimerTakesBetween, TimerIsACurve, NoTimer, FreeTicksAreCounted, FreeTickIsFoundByCount}
 use Rattle.theory.proofs.Cases.{by_lt, by_test}

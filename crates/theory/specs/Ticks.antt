@@ -1,6 +1,6 @@
 -- Free ticks and taken ticks. `taken t` says that no job can have the tick that starts at t. Every other tick is free. Where every tick is free, a window has
 -- as many free ticks as its length.
-use Rattle.std.specs.Prelude.{ℕ, zero, suc, ◌+◌, ◌-◌, ◌*◌, ◌/◌, ◌%◌, ◌≤◌, ◌<◌, min, ◌≡◌, Bool, true, false, cond, eqb, ltb}
+use Rattle.std.specs.Prelude.{ℕ, zero, suc, ◌+◌, ◌-◌, ◌*◌, ◌/◌, ◌%◌, ◌≤◌, ◌<◌, min, ◌≡◌, Bool, false, cond, eqb, ltb}
 use Rattle.std.specs.Int.{◌∣◌}
 use Rattle.std.proofs.Math.Option.{Option, none, some}
 use Rattle.theory.specs.Curves.{Curve}

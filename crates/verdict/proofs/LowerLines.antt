@@ -16,7 +16,7 @@ use Rattle.theory.proofs.Timers.{no_timer}
 use Rattle.theory.proofs.TermCurves.{no_demand_without_weight}
 use Rattle.theory.proofs.Parts.{term_taken_in, timer_taken_in}
 use Rattle.verdict.specs.HeldTerms.{held_s, held_p, held_term, sum_below, held_demand, Held}
-use Rattle.verdict.specs.HeldParts.{held_w, held_up, held_down, held_b, held_a, held_growth, timer_growth, part_demand, line_slope}
+use Rattle.verdict.specs.HeldParts.{held_w, held_up, held_down, held_b, held_a, held_growth, part_demand, line_slope}
 use Rattle.verdict.specs.HeldParts.{Repeats, GoodLine, LeftOutRepeats, LineAbove, LowerLift}
 use Rattle.verdict.proofs.HeldParts.{all_taken_in, all_left_out}
 

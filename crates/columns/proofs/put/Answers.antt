@@ -1,11 +1,7 @@
 -- `columns::put` meets its contract: no place is free, or the job goes in at its place, once an entry is free behind the last job.
-use Prim.Native.Nat.{◌+◌, ◌≤◌, ◌<◌}
 use mathlib.Core.Path.{refl}
-use mathlib.Core.Logic.{⊎_elim}
-use native.Mathlib.Omega.{arith}
-use borrow.Author.Rules.{rules}
 use borrow.Author.Tests.{le-ltb}
-use Rattle.columns.specs.Columns.{Columns, columns, max_entries, put_in}
+use Rattle.columns.specs.Columns.{Columns, columns, put_in}
 use Rattle.columns.proofs.PutContract.{Roomy, room_moved, room_stays, put_answers, put_goes_in}
 use Rattle.columns.proofs.put.Goals as goal
 use Rattle.columns.proofs.put.Goals.{else-start-count-eq-ROOM, then-start-count-eq-ROOM}

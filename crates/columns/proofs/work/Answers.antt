@@ -1,6 +1,5 @@
 -- `columns::work` meets its contract. There are four cases: nothing is pending, no time is left, the first job needs more units than there are ticks, or it
 -- finishes.
-use borrow.Author.Rules.{rules}
 use Rattle.columns.specs.Columns.{Columns, columns}
 use Rattle.columns.proofs.WorkContract.{works_nothing, works_no_time, works_on, works_finished}
 use Rattle.columns.proofs.work.Goals as goal

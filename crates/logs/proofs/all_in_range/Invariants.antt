@@ -1,10 +1,8 @@
 -- `log::all_in_range` meets its contract. The loop's invariant is that the answer depends only on the numbers that are left.
 use Prim.Native.Nat.{◌-◌}
-use native.Mathlib.Omega.{arith}
-use mathlib.Core.Path.{◌≡◌, refl, sym}
+use mathlib.Core.Path.{◌≡◌}
 use lib.ListN.{length, drop}
 use Rattle.logs.specs.Log.{all_in_range}
-use Rattle.logs.proofs.Records.{too_big_here, range_left, all_tested}
 use Rattle.logs.proofs.all_in_range.Given as goal
 
 abbrev pub invariant-loop-k : goal.invariant-loop-k

@@ -1,14 +1,13 @@
 use Prim.Native.Nat.{◌+◌, ◌-◌}
 use native.Mathlib.Omega.{arith}
-use mathlib.Core.Path.{◌≡◌, refl, sym, ap, ◌∙◌}
+use mathlib.Core.Path.{◌≡◌, sym, ap, ◌∙◌}
 use mathlib.Core.Bool.{true}
 use lib.ListN.{length}
-use borrow.Author.Rules.{rules}
 use borrow.Rule.Slice.PartMut.{put_mid}
 use Rattle.numbers.specs.declared.Written.TheVariants.{Length}
 use Rattle.logs.specs.Log.{spelled_numbers, all_in_range}
-use Rattle.logs.proofs.Records.{length-spelled_numbers, answers_too_big, answers_no_room, answers_length}
-use Rattle.logs.proofs.Records.{Counted, none_counted, one_counted, one_too_big, all_counted}
+use Rattle.logs.proofs.Records.{length-spelled_numbers, answers_length}
+use Rattle.logs.proofs.Records.{Counted, one_counted, all_counted}
 use Rattle.logs.proofs.Records.{Standing, none_standing, rest_has_room, never_refused, one_standing, all_standing}
 use Rattle.logs.proofs.write_measured.Goals as goal
 

@@ -1,16 +1,14 @@
 use Prim.Native.Nat.{◌+◌, ◌-◌, ◌*◌, ◌≤◌}
 use native.Mathlib.Omega.{arith}
-use mathlib.Core.Path.{◌≡◌, refl, sym, ap, ◌∙◌}
+use mathlib.Core.Path.{◌≡◌, sym, ap, ◌∙◌}
 use mathlib.Core.Bool.{true}
 use lib.ListN.{length, get_or}
-use borrow.Author.Rules.{rules}
-use borrow.Author.Tests.{not-true, not-false}
 use borrow.Rule.Slice.PartMut.{mid_of, put_mid, mid_len}
 use Rattle.numbers.specs.declared.Written.TheVariants.{Length}
 use Rattle.numbers.specs.Spelling.{max_groups, spelling}
 use Rattle.numbers.proofs.Spellings.{spelling_length, length_answered}
 use Rattle.logs.specs.Log.{all_in_range}
-use Rattle.logs.proofs.Records.{length-spelled_numbers, answers_too_big, answers_length}
+use Rattle.logs.proofs.Records.{length-spelled_numbers, answers_length}
 use Rattle.logs.proofs.Records.{Standing, none_standing, never_refused, one_standing, all_standing}
 use Rattle.logs.proofs.write_record.Goals as goal
 

@@ -2,9 +2,8 @@ use Prim.Native.Nat.{ℕ, ◌+◌, ◌-◌, ◌*◌, ◌<◌}
 use mathlib.Core.Path.{sym, ◌∙◌}
 use native.Mathlib.Omega.{arith}
 use lib.ListN.{get_or}
-use borrow.Author.Rules.{rules}
 use Rattle.numbers.specs.Spelling.{max_groups}
-use Rattle.numbers.proofs.Reading.{limit, Passed, first_passed, next_passed, weight_fits, group_fits}
+use Rattle.numbers.proofs.Reading.{limit, first_passed, next_passed, weight_fits, group_fits}
 use Rattle.numbers.proofs.Reading.{read_one, read_too_long, read_cut, read_zero, read_last}
 use Rattle.numbers.proofs.Spellings.{nothing_past_the_end}
 use Rattle.numbers.proofs.read.Goals as goal

@@ -1,8 +1,6 @@
-use Prim.Native.Nat.{◌+◌, ◌≤◌}
-use mathlib.Core.Path.{◌≡◌, ap}
+use mathlib.Core.Path.{ap}
 use native.Mathlib.Omega.{arith}
 use lib.ListN.{length}
-use Rattle.numbers.specs.Spelling.{max_number, spelling}
 use Rattle.numbers.proofs.Spellings.{spelling_last, spelling_more, spelling_length}
 use Rattle.numbers.proofs.spelled_length.Goals as goal
 

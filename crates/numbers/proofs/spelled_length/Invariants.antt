@@ -1,10 +1,8 @@
 -- `numbers::spelled_length` meets its contract. The loop's invariant is that what is left of the number is spelled in what is left of the length.
 use Prim.Native.Nat.{◌+◌, ◌≤◌}
-use mathlib.Core.Path.{◌≡◌, ap}
-use native.Mathlib.Omega.{arith}
+use mathlib.Core.Path.{◌≡◌}
 use lib.ListN.{length}
 use Rattle.numbers.specs.Spelling.{max_number, spelling}
-use Rattle.numbers.proofs.Spellings.{spelling_last, spelling_more, spelling_length}
 use Rattle.numbers.proofs.spelled_length.Given as goal
 
 abbrev pub invariant-loop-rest : goal.invariant-loop-rest

@@ -1,14 +1,13 @@
-use Prim.Native.Nat.{◌+◌, ◌≤◌}
-use mathlib.Core.Path.{◌≡◌, refl, sym, ap, ◌∙◌}
+use Prim.Native.Nat.{◌+◌}
+use mathlib.Core.Path.{◌≡◌, ap, ◌∙◌}
 use native.Mathlib.Nat.{zero-add}
 use native.Mathlib.Numerals.{add-one}
 use native.Mathlib.Omega.{arith}
-use borrow.Author.Rules.{rules}
-use borrow.Author.Tests.{leb-true, le-leb, lt-leb, not-true, not-false}
+use borrow.Author.Tests.{le-leb}
 use lib.ListN.{length, length-set}
-use lib.Seq.{sets, sets-eq}
+use lib.Seq.{sets-eq}
 use Rattle.numbers.specs.declared.Written.TheVariants.{Length}
-use Rattle.numbers.specs.Spelling.{max_number, spelling}
+use Rattle.numbers.specs.Spelling.{spelling}
 use Rattle.numbers.proofs.Spellings.{spelling_last, spelling_more, spelling_length}
 use Rattle.numbers.proofs.write.Goals as goal
 

@@ -1,9 +1,7 @@
 -- `periods::all_positive` meets its contract. The loop's invariant is `Tested`: the outcome depends only on the numbers that are left.
 use Prim.Native.Nat.{◌-◌}
-use mathlib.Core.Path.{refl}
-use native.Mathlib.Omega.{arith}
 use lib.ListN.{length}
-use Rattle.periods.proofs.Periods.{Tested, none_left, zero_here, tested_more}
+use Rattle.periods.proofs.Periods.{Tested}
 use Rattle.periods.proofs.all_positive.Given as goal
 
 abbrev pub invariant-loop-i : goal.invariant-loop-i

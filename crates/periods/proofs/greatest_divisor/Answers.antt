@@ -1,8 +1,5 @@
-use Prim.Native.Nat.{ℕ}
 use mathlib.Core.Path.{◌≡◌}
-use native.Mathlib.Nat.{mod-lt}
 use native.Mathlib.Omega.{arith}
-use Rattle.periods.specs.Multiples.{IsGreatestDivisor}
 use Rattle.periods.proofs.Divisors.{of_zero, euclid}
 use Rattle.periods.proofs.greatest_divisor.Goals as goal
 

@@ -1,10 +1,6 @@
 -- `periods::greatest_divisor` meets its contract. The loop's invariant is that the greatest common divisor of m and n is also that of a and b.
 use Prim.Native.Nat.{ℕ}
-use mathlib.Core.Path.{◌≡◌}
-use native.Mathlib.Nat.{mod-lt}
-use native.Mathlib.Omega.{arith}
 use Rattle.periods.specs.Multiples.{IsGreatestDivisor}
-use Rattle.periods.proofs.Divisors.{of_zero, euclid}
 use Rattle.periods.proofs.greatest_divisor.Given as goal
 
 abbrev pub invariant-loop-m : goal.invariant-loop-m

@@ -1,11 +1,5 @@
-use Prim.Native.Nat.{◌-◌}
-use mathlib.Core.Path.{◌≡◌, sym, ◌∙◌}
-use native.Mathlib.Omega.{arith}
-use lib.ListN.{length}
-use borrow.Author.Rules.{rules}
-use borrow.Author.Tests.{not-true, not-false}
-use Rattle.periods.specs.Periods.{EachPositive}
-use Rattle.periods.proofs.Periods.{Grown, positive_means, with_zero, no_limit, grown_none, grown_all, some_number, some_divisor, grown_fits, grown_next, grown_too_long}
+use mathlib.Core.Path.{sym, ◌∙◌}
+use Rattle.periods.proofs.Periods.{positive_means, no_limit, grown_none, grown_all, some_number, some_divisor, grown_next, grown_too_long}
 use Rattle.periods.proofs.period_within.Goals as goal
 
 pub returns-then-limit-lt1 : goal.returns-then-limit-lt1

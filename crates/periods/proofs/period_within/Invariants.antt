@@ -1,13 +1,9 @@
 -- `periods::period_within` meets its contract. The loop's invariant is that each number is at least 1, and `Grown`: h stands for the numbers passed, and is
 -- within the limit.
 use Prim.Native.Nat.{◌-◌}
-use mathlib.Core.Path.{◌≡◌, sym, ◌∙◌}
-use native.Mathlib.Omega.{arith}
 use lib.ListN.{length}
-use borrow.Author.Rules.{rules}
-use borrow.Author.Tests.{not-true, not-false}
 use Rattle.periods.specs.Periods.{EachPositive}
-use Rattle.periods.proofs.Periods.{Grown, positive_means, with_zero, no_limit, grown_none, grown_all, some_number, some_divisor, grown_fits, grown_next, grown_too_long}
+use Rattle.periods.proofs.Periods.{Grown}
 use Rattle.periods.proofs.period_within.Given as goal
 
 abbrev pub invariant-loop-i : goal.invariant-loop-i

@@ -1,11 +1,8 @@
 -- `rings::next_due` meets its contract. Past the first three tests the row is ready, and the place for its next due time is one of its ring's. The answer goes
 -- by the due time that stands there.
-use Prim.Native.Nat.{◌+◌, ◌*◌, ◌<◌}
+use Prim.Native.Nat.{◌+◌, ◌*◌}
 use mathlib.Core.Path.{◌≡◌, refl, sym, ap, ◌∙◌}
 use mathlib.Core.Bool.{true}
-use native.Mathlib.Omega.{arith}
-use borrow.Author.Rules.{rules}
-use borrow.Author.Tests.{not-true, not-false}
 use lib.Dec.{leb}
 use lib.ListN.{get_or}
 use Rattle.table.specs.Rows.{row_in_range}
@@ -13,7 +10,6 @@ use Rattle.due.specs.Kept.{max_kept, not_too_late}
 use Rattle.rings.specs.Rings.{rings, due_in}
 use Rattle.rings.specs.OneRing.{due_after}
 use Rattle.rings.specs.RingShapes.{Ready}
-use Rattle.rings.proofs.Keeping.{shape, row_within, place_within}
 use Rattle.rings.proofs.Storing.{place_unused, place_of_oldest, stored_behind, stored_instead}
 use Rattle.rings.proofs.RingAnswers.{answer_by_place, no_such_row, row_out_of_range, not_the_rows}
 use Rattle.rings.proofs.next_due.Goals as goal

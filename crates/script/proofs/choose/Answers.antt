@@ -1,7 +1,6 @@
 -- `script::choose` meets its contract: times above 2^40 are refused first, and then what is read at the start of each script decides.
 use Prim.Native.Nat.{◌≤◌}
 use mathlib.Core.Path.{◌≡◌, refl, sym, ◌∙◌}
-use borrow.Author.Rules.{rules}
 use Rattle.numbers.specs.Spelling.{max_number}
 use Rattle.script.specs.declared.RecordAt.{RecordAt}
 use Rattle.script.specs.declared.RecordRead.{RecordRead}

@@ -1,9 +1,8 @@
 -- `script::chosen_part` meets its contract: a record that comes next ends within its script, so that the part is a part of that script.
 use Prim.Native.Nat.{◌≤◌}
-use mathlib.Core.Path.{◌≡◌, refl, sym, ◌∙◌}
+use mathlib.Core.Path.{◌≡◌, sym, ◌∙◌}
 use lib.ListN.{length}
 use lib.Seq.{length-take-le}
-use borrow.Author.Rules.{rules}
 use Rattle.script.specs.declared.Chosen.TheVariants as answer
 use Rattle.script.specs.Chooser.{chosen}
 use Rattle.script.specs.TwoScripts.{script_named}

@@ -1,6 +1,5 @@
 -- `script::number_at` meets its contract: a number that can be read is the number there, and any other is refused with 14.
 use mathlib.Core.Path.{sym, ◌∙◌}
-use borrow.Author.Rules.{rules}
 use Rattle.script.proofs.Records.{number_stands, number_misspelled}
 use Rattle.script.proofs.number_at.Goals as goal
 

@@ -2,14 +2,10 @@
 use Prim.Native.Nat.{ℕ, ◌≤◌}
 use mathlib.Core.Path.{◌≡◌, sym, ◌∙◌}
 use mathlib.Core.List.{List}
-use native.Mathlib.Omega.{arith}
-use lib.Seq.{length-take-le}
-use borrow.Author.Rules.{rules}
 use Rattle.table.specs.declared.TimerRead.TheVariants as timer
-use Rattle.table.specs.Limits.{max_rows, max_servers}
 use Rattle.table.specs.Timer.{read_timer}
 use Rattle.table.proofs.Timers.{some_p_read}
-use Rattle.table.proofs.ReadTables.{timer_refused, rows_refused, servers_refused, extra_bytes, count_fits, serving_fits, accepted, period_too_long}
+use Rattle.table.proofs.ReadTables.{accepted, period_too_long}
 use Rattle.table.proofs.read_table.Goals as goal
 
 -- The bytes, after the timer was read.

@@ -1,19 +1,11 @@
 -- `verdict::growth` meets its contract: the first loop adds the growths of the servers to that of the timer, and the second adds those of the rows to this sum.
-use Prim.Native.Nat.{ℕ, ◌+◌, ◌-◌, ◌*◌, ◌/◌, ◌≤◌}
-use native.Mathlib.Omega.{arith}
+use Prim.Native.Nat.{ℕ, ◌+◌, ◌-◌, ◌*◌, ◌/◌}
 use Rattle.theory.specs.Lists.{total}
-use Rattle.theory.specs.Demand.{row_growth}
 use Rattle.table.specs.declared.Table.{Table}
-use Rattle.table.specs.SpelledTables.{WithinLimits}
-use Rattle.table.specs.Limits.{max_servers, max_period}
-use Rattle.table.specs.Servers.{GoodServer, no_server}
-use Rattle.table.specs.Tables.{no_row, servers_of, InRange}
-use Rattle.verdict.specs.Demand.{table_growth}
-use Rattle.verdict.proofs.Sums.{Summed, none_summed, all_summed, summed_more}
-use Rattle.verdict.proofs.Rows.{row_at, growth_in, row_places, row_within}
-use Rattle.verdict.proofs.Servers.{server_at, server_growth_in, server_places}
-use Rattle.verdict.proofs.Bounds.{most, timer_growth_at_most, cost_of_x_at_most, growth_at_most, some_b, served_in_period, server_growth_at_most}
-use Rattle.verdict.proofs.Bounds.{base_at_most, server_sum_fits, sum_fits}
+use Rattle.table.specs.Tables.{servers_of}
+use Rattle.verdict.proofs.Sums.{Summed}
+use Rattle.verdict.proofs.Rows.{growth_in}
+use Rattle.verdict.proofs.Servers.{server_growth_in}
 use Rattle.verdict.proofs.growth.Given as goal
 
 -- The timer's part of the growth is there before the first loop.

@@ -1,8 +1,6 @@
 -- `verdict::judge` meets its contract: a small witness is found by the scan of the first lengths, and the quick search settles what is left.
 use Prim.Native.Nat.{◌+◌, ◌≤◌}
-use mathlib.Core.Logic.{⊎_elim}
 use native.Mathlib.Omega.{arith}
-use borrow.Author.Rules.{rules}
 use Rattle.theory.specs.Curves.{FitsUpTo}
 use Rattle.table.specs.Limits.{max_d}
 use Rattle.verdict.specs.declared.Verdict.{Verdict}
@@ -10,9 +8,7 @@ use Rattle.verdict.specs.Demand.{table_demand}
 use Rattle.verdict.specs.Verdict.{RightOf, Judged}
 use Rattle.verdict.proofs.Bounds.{d_at_most}
 use Rattle.verdict.proofs.Accepted.{Known}
-use Rattle.verdict.proofs.RowsAlone.{right_for_same}
-use Rattle.verdict.proofs.Scans.{settled_by_one_period, read_is_known, judged_as_accepted, judged_as_refused}
-use Rattle.verdict.proofs.Verdicts.{smallest_found}
+use Rattle.verdict.proofs.Scans.{settled_by_one_period, read_is_known, judged_as_accepted}
 use Rattle.verdict.proofs.QuickVerdict.{same_curve, same_fits}
 use Rattle.verdict.proofs.judge.Goals as goal
 use Rattle.verdict.proofs.judge.Goals.{else-early-gt-EARLY, then-early-gt-EARLY}

@@ -1,16 +1,13 @@
 -- `verdict::judge_every_length` meets its contract: the lengths that are scanned settle the verdict, and what the scan finds is that verdict.
 use Prim.Native.Nat.{◌+◌, ◌*◌, ◌≤◌}
-use mathlib.Core.Logic.{⊎_elim}
 use native.Mathlib.Omega.{arith}
-use borrow.Author.Rules.{rules}
 use Rattle.verdict.specs.declared.Verdict.{Verdict}
 use Rattle.verdict.specs.Demand.{max_length}
 use Rattle.verdict.specs.Verdict.{RightOf, Judged}
 use Rattle.verdict.proofs.Bounds.{last_at_most}
 use Rattle.verdict.proofs.Accepted.{Known}
 use Rattle.verdict.proofs.Scans.{Settles, settled_by_one_period, settled_by_many_periods}
-use Rattle.verdict.proofs.Scans.{read_is_known, judged_as_accepted, judged_as_refused}
-use Rattle.verdict.proofs.Verdicts.{smallest_found}
+use Rattle.verdict.proofs.Scans.{read_is_known, judged_as_accepted}
 use Rattle.verdict.proofs.judge_every_length.Goals as goal
 use Rattle.verdict.proofs.judge_every_length.Goals.{else-period-growth, then-period-growth}
 

@@ -1,9 +1,7 @@
-use Prim.Native.Nat.{◌-◌, ◌≤◌}
-use mathlib.Core.Path.{◌≡◌, refl}
-use mathlib.Core.Logic.{⊎_elim}
+use mathlib.Core.Path.{refl}
 use native.Mathlib.Omega.{arith}
 use Rattle.verdict.specs.Demand.{largest_of}
-use Rattle.verdict.proofs.Rows.{first_rows, largest_more}
+use Rattle.verdict.proofs.Rows.{largest_more}
 use Rattle.verdict.proofs.largest_d.Goals as goal
 use Rattle.verdict.proofs.largest_d.Goals.{else-largest-row, then-largest-row}
 

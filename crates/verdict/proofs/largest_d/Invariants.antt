@@ -1,10 +1,8 @@
 -- `verdict::largest_d` meets its contract. The loop's invariant: `largest` is the largest d of the rows passed.
 use Prim.Native.Nat.{◌-◌, ◌≤◌}
-use mathlib.Core.Path.{◌≡◌, refl}
-use mathlib.Core.Logic.{⊎_elim}
-use native.Mathlib.Omega.{arith}
+use mathlib.Core.Path.{◌≡◌}
 use Rattle.verdict.specs.Demand.{largest_of}
-use Rattle.verdict.proofs.Rows.{first_rows, largest_more}
+use Rattle.verdict.proofs.Rows.{first_rows}
 use Rattle.verdict.proofs.largest_d.Given as goal
 
 abbrev pub invariant-loop-i : goal.invariant-loop-i

@@ -1,9 +1,6 @@
 -- `verdict::row_demand` meets its contract: below d and from d on it answers by the rule, and no step on the way overflows.
 use mathlib.Core.Path.{sym}
-use native.Mathlib.Omega.{arith}
-use borrow.Author.Rules.{rules}
 use Rattle.theory.proofs.Demand.{no_demand_below_d, demand_from_d}
-use Rattle.verdict.proofs.Bounds.{spaces_at_most, jobs_at_most, cost_at_most}
 use Rattle.verdict.proofs.row_demand.Goals as goal
 
 pub returns-then-length-row : goal.returns-then-length-row

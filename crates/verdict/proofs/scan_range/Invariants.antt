@@ -1,20 +1,14 @@
 -- `verdict::scan_range` meets its contract: the outer loop passes lengths that fit. In one length, the first inner loop adds the demands of the servers to the
 -- ticks that the timer takes there, and the second adds those of the rows to this sum.
-use Prim.Native.Nat.{ℕ, ◌+◌, ◌-◌, ◌*◌, ◌≤◌, ◌<◌}
-use mathlib.Core.Path.{◌≡◌}
-use native.Mathlib.Omega.{arith}
-use borrow.Author.Count.{below_more}
+use Prim.Native.Nat.{ℕ, ◌+◌, ◌-◌, ◌≤◌, ◌<◌}
 use Rattle.theory.specs.Lists.{total}
 use Rattle.theory.specs.Ticks.{timer_takes}
 use Rattle.table.specs.declared.Table.{Table}
-use Rattle.table.specs.Limits.{max_servers}
-use Rattle.table.specs.Servers.{no_server}
-use Rattle.table.specs.Tables.{no_row, servers_of, InRange}
-use Rattle.verdict.specs.Demand.{table_demand, max_length}
-use Rattle.verdict.proofs.Sums.{Summed, none_summed, all_summed, summed_more}
-use Rattle.verdict.proofs.Rows.{demand_in, row_places, row_within}
-use Rattle.verdict.proofs.Servers.{server_demand_in, server_places}
-use Rattle.verdict.proofs.Bounds.{most, takes_at_most, demand_at_most, server_demand_at_most, base_at_most, server_sum_fits, sum_fits}
+use Rattle.table.specs.Tables.{servers_of}
+use Rattle.verdict.specs.Demand.{table_demand}
+use Rattle.verdict.proofs.Sums.{Summed}
+use Rattle.verdict.proofs.Rows.{demand_in}
+use Rattle.verdict.proofs.Servers.{server_demand_in}
 use Rattle.verdict.proofs.scan_range.Given as goal
 
 -- The ticks that the timer takes are there before the first inner loop.

@@ -1,11 +1,8 @@
 use Prim.Native.Nat.{suc, ◌+◌, ◌-◌, ◌*◌, ◌≤◌, ◌<◌}
 use mathlib.Core.Path.{◌≡◌, refl}
-use native.Mathlib.Nat.{add-zero}
 use native.Mathlib.Omega.{arith}
-use lib.ListN.{length, take, drop}
+use lib.ListN.{drop}
 use lib.Seq.{get_or-drop}
-use borrow.Author.Rules.{rules}
-use borrow.Author.Tests.{le-leb, lt-leb}
 use Rattle.words.specs.Words.{word_length, from_lowest_first}
 use Rattle.words.proofs.Storing.{limit, limit_of_word, says_what_fits, says_one_more}
 use Rattle.words.proofs.get.Goals as goal

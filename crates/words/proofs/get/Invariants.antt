@@ -1,14 +1,8 @@
 -- `words::get` meets its contract. The loop goes from the highest byte down. Its invariant is that the bytes passed say the value so far.
-use Prim.Native.Nat.{suc, ◌+◌, ◌-◌, ◌*◌, ◌≤◌, ◌<◌}
-use mathlib.Core.Path.{◌≡◌, refl}
-use native.Mathlib.Nat.{add-zero}
-use native.Mathlib.Omega.{arith}
-use lib.ListN.{length, take, drop}
-use lib.Seq.{get_or-drop}
-use borrow.Author.Rules.{rules}
-use borrow.Author.Tests.{le-leb, lt-leb}
+use Prim.Native.Nat.{◌+◌, ◌-◌, ◌≤◌}
+use mathlib.Core.Path.{◌≡◌}
+use lib.ListN.{take, drop}
 use Rattle.words.specs.Words.{word_length, from_lowest_first}
-use Rattle.words.proofs.Storing.{limit, limit_of_word, says_what_fits, says_one_more}
 use Rattle.words.proofs.get.Given as goal
 
 abbrev pub invariant-loop-i : goal.invariant-loop-i

@@ -1,10 +1,10 @@
-use Prim.Native.Nat.{suc, ◌-◌, ◌≤◌}
-use mathlib.Core.Path.{◌≡◌, refl, ◌∙◌}
-use native.Mathlib.Numerals.{add-one, unary_clauses}
+use Prim.Native.Nat.{suc, ◌-◌}
+use mathlib.Core.Path.{◌≡◌, ◌∙◌}
+use native.Mathlib.Numerals.{add-one}
 use native.Mathlib.Omega.{arith}
-use lib.ListN.{length, length-set}
-use lib.Seq.{sets, sets-eq}
-use borrow.Author.Tests.{le-leb, lt-leb}
+use lib.ListN.{length-set}
+use lib.Seq.{sets-eq}
+use borrow.Author.Tests.{le-leb}
 use Rattle.words.specs.Words.{word_length, lowest_first}
 use Rattle.words.proofs.Storing.{length-lowest_first, lowest_first_more}
 use Rattle.words.proofs.put.Goals as goal

@@ -1,13 +1,9 @@
 -- `words::put` meets its contract. The loop's invariant is that what is left of the number, written into the bytes that are left, completes the word.
-use Prim.Native.Nat.{suc, ◌-◌, ◌≤◌}
-use mathlib.Core.Path.{◌≡◌, refl, ◌∙◌}
-use native.Mathlib.Numerals.{add-one, unary_clauses}
-use native.Mathlib.Omega.{arith}
-use lib.ListN.{length, length-set}
-use lib.Seq.{sets, sets-eq}
-use borrow.Author.Tests.{le-leb, lt-leb}
+use Prim.Native.Nat.{◌-◌, ◌≤◌}
+use mathlib.Core.Path.{◌≡◌}
+use lib.ListN.{length}
+use lib.Seq.{sets}
 use Rattle.words.specs.Words.{word_length, lowest_first}
-use Rattle.words.proofs.Storing.{length-lowest_first, lowest_first_more}
 use Rattle.words.proofs.put.Given as goal
 
 abbrev pub invariant-loop-i : goal.invariant-loop-i

@@ -1,8 +1,4 @@
-use Prim.Native.Nat.{◌-◌, ◌≤◌}
-use mathlib.Core.Path.{◌≡◌, refl}
 use native.Mathlib.Omega.{arith}
-use lib.ListN.{length}
-use Rattle.columns.specs.Columns.{max_entries, moved_down}
 use Rattle.columns.proofs.Moving.{moved_more}
 use Rattle.columns.proofs.places.move_down.Goals as goal
 

@@ -1,10 +1,8 @@
 -- `columns::places::move_down` meets its contract. The loop has moved the first i of the entries to the front.
 use Prim.Native.Nat.{◌-◌, ◌≤◌}
-use mathlib.Core.Path.{◌≡◌, refl}
-use native.Mathlib.Omega.{arith}
+use mathlib.Core.Path.{◌≡◌}
 use lib.ListN.{length}
 use Rattle.columns.specs.Columns.{max_entries, moved_down}
-use Rattle.columns.proofs.Moving.{moved_more}
 use Rattle.columns.proofs.places.move_down.Given as goal
 
 abbrev pub invariant-loop-i : goal.invariant-loop-i

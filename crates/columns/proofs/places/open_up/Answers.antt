@@ -1,9 +1,7 @@
-use Prim.Native.Nat.{◌≤◌}
 use mathlib.Core.Path.{◌≡◌}
 use native.Mathlib.Omega.{arith}
-use lib.ListN.{length, get_or}
-use Rattle.columns.specs.Columns.{max_entries, opened_up}
-use Rattle.columns.proofs.Moving.{opened_none, opened_more, set-opened_up}
+use lib.ListN.{get_or}
+use Rattle.columns.proofs.Moving.{opened_more, set-opened_up}
 use Rattle.columns.proofs.places.open_up.Goals as goal
 
 pub loop-i-preserved : goal.loop-i-preserved

@@ -1,10 +1,8 @@
 -- `columns::places::open_up` meets its contract. The loop has moved the entries from i to `end` up by one place.
 use Prim.Native.Nat.{◌≤◌}
 use mathlib.Core.Path.{◌≡◌}
-use native.Mathlib.Omega.{arith}
 use lib.ListN.{length, get_or}
 use Rattle.columns.specs.Columns.{max_entries, opened_up}
-use Rattle.columns.proofs.Moving.{opened_none, opened_more, set-opened_up}
 use Rattle.columns.proofs.places.open_up.Given as goal
 
 abbrev pub invariant-loop-i : goal.invariant-loop-i

@@ -1,9 +1,6 @@
-use Prim.Native.Nat.{◌+◌, ◌≤◌}
 use mathlib.Core.Path.{sym, ◌∙◌}
 use native.Mathlib.Omega.{arith}
-use borrow.Author.Rules.{rules}
-use borrow.Author.Tests.{not-true, not-false}
-use Rattle.columns.proofs.Finding.{Looked, looked_none, looked_more, looked_last, looked_all}
+use Rattle.columns.proofs.Finding.{looked_none, looked_more, looked_last}
 use Rattle.columns.proofs.places.place_for.Goals as goal
 
 pub loop-at-init : goal.loop-at-init

@@ -1,10 +1,6 @@
 -- `columns::places::place_for` meets its contract. The loop has looked at the jobs from the entry `at` on, and the job goes before each of them.
 use Prim.Native.Nat.{◌+◌, ◌≤◌}
-use mathlib.Core.Path.{sym, ◌∙◌}
-use native.Mathlib.Omega.{arith}
-use borrow.Author.Rules.{rules}
-use borrow.Author.Tests.{not-true, not-false}
-use Rattle.columns.proofs.Finding.{Looked, looked_none, looked_more, looked_last, looked_all}
+use Rattle.columns.proofs.Finding.{Looked}
 use Rattle.columns.proofs.places.place_for.Given as goal
 
 abbrev pub invariant-loop-at : goal.invariant-loop-at

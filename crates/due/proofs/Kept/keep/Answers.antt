@@ -1,16 +1,15 @@
-use Prim.Native.Nat.{◌+◌, ◌-◌, ◌≤◌, ◌<◌}
-use mathlib.Core.Path.{◌≡◌, refl, sym, ◌∙◌}
+use Prim.Native.Nat.{◌+◌, ◌-◌, ◌<◌}
+use mathlib.Core.Path.{◌≡◌, sym, ◌∙◌}
 use mathlib.Core.Bool.{true}
 use native.Mathlib.Omega.{arith}
 use borrow.Author.Rules.{rules}
-use borrow.Author.Tests.{not-true, not-false}
 use lib.ListN.{length}
 use Rattle.kinds.proofs.Lists.{length_mapped}
 use Rattle.table.specs.Rows.{row_in_range}
 use Rattle.table.specs.SpelledTables.{WithinLimits}
 use Rattle.table.proofs.SpelledTables.{in_range_means}
 use Rattle.due.specs.Kept.{max_kept, kept_times}
-use Rattle.due.proofs.Lists.{moved_down, moved_one_more}
+use Rattle.due.proofs.Lists.{moved_one_more}
 use Rattle.due.proofs.Keeping.{no_time, length-kept_times, keep_refused, keep_done, kept_behind, kept_moved}
 use Rattle.due.proofs.Kept.keep.Goals as goal
 

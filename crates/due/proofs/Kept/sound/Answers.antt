@@ -1,11 +1,9 @@
-use Prim.Native.Nat.{◌-◌}
-use mathlib.Core.Path.{◌≡◌, refl, sym, ◌∙◌}
-use native.Mathlib.Omega.{arith}
+use mathlib.Core.Path.{◌≡◌, sym, ◌∙◌}
 use borrow.Author.Rules.{rules}
 use lib.ListN.{length, drop}
 use Rattle.kinds.proofs.Lists.{length_mapped}
 use Rattle.due.specs.Kept.{kept_times, none_too_late, kept_sound}
-use Rattle.due.proofs.Keeping.{length-kept_times, unsound_count, sound_count, none_late_past, late_at, in_time_at}
+use Rattle.due.proofs.Keeping.{length-kept_times, unsound_count, sound_count, none_late_past, late_at}
 use Rattle.due.proofs.Kept.sound.Goals as goal
 
 pub returns-then-row-self : goal.returns-then-row-self

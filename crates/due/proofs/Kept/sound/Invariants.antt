@@ -1,12 +1,8 @@
 -- `due::Kept::sound` meets its contract. The loop's invariant: whether any kept due time is above 2^40 is settled by those from place `i` on.
 use Prim.Native.Nat.{◌-◌}
-use mathlib.Core.Path.{◌≡◌, refl, sym, ◌∙◌}
-use native.Mathlib.Omega.{arith}
-use borrow.Author.Rules.{rules}
-use lib.ListN.{length, drop}
-use Rattle.kinds.proofs.Lists.{length_mapped}
-use Rattle.due.specs.Kept.{kept_times, none_too_late, kept_sound}
-use Rattle.due.proofs.Keeping.{length-kept_times, unsound_count, sound_count, none_late_past, late_at, in_time_at}
+use mathlib.Core.Path.{◌≡◌}
+use lib.ListN.{drop}
+use Rattle.due.specs.Kept.{kept_times, none_too_late}
 use Rattle.due.proofs.Kept.sound.Given as goal
 
 abbrev pub invariant-loop-i : goal.invariant-loop-i

@@ -1,20 +1,16 @@
 -- `due::odd_due` meets its contract. The values of a server in range are small enough for the sums to fit, and where the branches meet, `later` is the later of
 -- the release and the last due time.
-use Prim.Native.Nat.{◌+◌, ◌-◌, ◌*◌, ◌/◌, ◌≤◌, ◌<◌, max}
+use Prim.Native.Nat.{◌+◌, ◌-◌, ◌*◌, ◌/◌, ◌<◌, max}
 use mathlib.Core.Path.{◌≡◌, sym, ap, ◌∙◌}
 use mathlib.Core.Bool.{true}
-use mathlib.Core.Logic.{⊎_elim}
 use native.Mathlib.Omega.{arith}
-use native.Mathlib.Nat.{mul-le-mul, div-le_self}
-use borrow.Author.Rules.{rules}
-use borrow.Author.Tests.{not-true, not-false, le-leb, lt-leb}
+use borrow.Author.Tests.{le-leb, lt-leb}
 use Rattle.kinds.specs.Numbering.{max_time}
 use Rattle.kinds.specs.declared.Refusal.TheVariants.{DueTooLate}
 use Rattle.theory.specs.Servers.{ticks_for, server_due}
-use Rattle.table.specs.Limits.{max_b, max_c}
+use Rattle.table.specs.Limits.{max_c}
 use Rattle.table.specs.Rows.{from_one_to}
-use Rattle.table.specs.Servers.{server_in_range, GoodServer}
-use Rattle.table.proofs.ReadingServers.{server_in_range_means}
+use Rattle.table.specs.Servers.{server_in_range}
 use Rattle.due.specs.declared.Due.TheVariants.{Refused}
 use Rattle.due.specs.OddJobs.{odd_due_of}
 use Rattle.due.proofs.OddJobs.{odd_due_given, odd_due_too_late, odd_due_cost, odd_due_out_of_range}

@@ -1,10 +1,8 @@
 -- `Pending::after` meets its contract: if the unit is the last the job is taken out, and otherwise it keeps its place.
-use Prim.Native.Nat.{◌<◌}
 use mathlib.Core.Path.{◌≡◌}
-use native.Mathlib.Omega.{arith}
 use borrow.Author.Rules.{rules}
 use borrow.Author.Tests.{le-leb, lt-leb}
-use lib.ListN.{length, length-take}
+use lib.ListN.{length}
 use Rattle.kinds.proofs.Lists.{length_mapped}
 use Rattle.jobs.specs.Places.{max_places}
 use Rattle.jobs.specs.Units.{after}

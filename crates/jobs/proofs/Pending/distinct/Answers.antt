@@ -1,13 +1,12 @@
-use Prim.Native.Nat.{◌-◌, ◌≤◌}
-use mathlib.Core.Path.{◌≡◌, refl, sym, ◌∙◌}
+use Prim.Native.Nat.{◌≤◌}
+use mathlib.Core.Path.{◌≡◌, sym, ◌∙◌}
 use native.Mathlib.Omega.{arith}
 use borrow.Author.Rules.{rules}
-use lib.ListN.{length, take, drop, length-take}
+use lib.ListN.{length, take, length-take}
 use Rattle.kinds.proofs.Lists.{length_mapped, take_as_many}
 use Rattle.jobs.specs.Places.{jobs_of, used}
-use Rattle.jobs.specs.Serials.{distinct_serials}
 use Rattle.jobs.proofs.Places.{used_is}
-use Rattle.jobs.proofs.Serials.{rising_distinct, not_distinct, distinct_goes_on, rest_end}
+use Rattle.jobs.proofs.Serials.{rising_distinct}
 use Rattle.jobs.proofs.Pending.distinct.Goals as goal
 
 -- There are at least as many places as are counted, and these hold the pending jobs.

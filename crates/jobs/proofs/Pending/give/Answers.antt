@@ -1,5 +1,5 @@
 -- `Pending::give` meets its contract: nobody is pending at the place, or the job there has the unit.
-use mathlib.Core.Path.{◌≡◌, refl}
+use mathlib.Core.Path.{◌≡◌}
 use native.Mathlib.Omega.{arith}
 use borrow.Author.Rules.{rules}
 use borrow.Author.Tests.{lt-ltb, le-ltb}

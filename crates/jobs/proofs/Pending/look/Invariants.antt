@@ -1,21 +1,11 @@
 -- `Pending::look` meets its contract. The loop has seen the jobs before the place i: going on with the best of them finds the job that goes first among all, and
 -- the late ones counted, with those from i on, are all.
-use Prim.Native.Nat.{◌+◌, ◌-◌, ◌≤◌, ◌<◌}
-use mathlib.Core.Path.{◌≡◌, sym, ◌∙◌}
-use mathlib.Core.Bool.{true, false}
-use mathlib.Core.Logic.{⊎_elim}
-use borrow.Author.Rules.{rules}
-use native.Mathlib.Omega.{arith}
+use Prim.Native.Nat.{◌+◌, ◌-◌, ◌≤◌}
+use mathlib.Core.Path.{◌≡◌}
 use lib.ListN.{drop, get_or}
-use Rattle.kinds.proofs.Lists.{length_mapped}
 use Rattle.jobs.specs.Places.{no_job, jobs_of, used}
 use Rattle.jobs.specs.Choice.{first_from, first_place}
 use Rattle.jobs.specs.Late.{late_count}
-use Rattle.jobs.proofs.Places.{used_is}
-use Rattle.jobs.proofs.First.{first_start, first_next}
-use Rattle.jobs.proofs.Late.{late_next}
-use Rattle.jobs.proofs.Changes.{place_holds_job}
-use Rattle.jobs.proofs.OneLook.{look_at_nobody, look_at_all}
 use Rattle.jobs.proofs.Pending.look.Given as goal
 
 abbrev pub invariant-loop-i : goal.invariant-loop-i

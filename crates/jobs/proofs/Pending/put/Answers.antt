@@ -1,5 +1,4 @@
 -- `Pending::put` meets its contract: a place is unused, or the job is refused and nothing changes.
-use borrow.Author.Rules.{rules}
 use borrow.Author.Tests.{lt-ltb, le-ltb}
 use Rattle.jobs.specs.Places.{put, put_step}
 use Rattle.jobs.proofs.Pending.put.Goals as goal

@@ -1,11 +1,11 @@
-use Prim.Native.Nat.{◌+◌, ◌-◌, ◌≤◌, ◌<◌}
+use Prim.Native.Nat.{◌+◌, ◌-◌, ◌<◌}
 use mathlib.Core.Path.{◌≡◌}
 use borrow.Author.Rules.{rules}
 use native.Mathlib.Omega.{arith}
 use lib.ListN.{length, length-take}
 use Rattle.kinds.proofs.Lists.{length_mapped}
 use Rattle.jobs.specs.Places.{no_job, used}
-use Rattle.jobs.proofs.Places.{used_is, moved, moved_none, moved_more, moved_is_taken_out}
+use Rattle.jobs.proofs.Places.{used_is, moved_none, moved_more, moved_is_taken_out}
 use Rattle.jobs.proofs.Pending.without.Goals as goal
 
 -- The count is the number of places in use.

@@ -1,12 +1,7 @@
 -- `Pending::without` meets its contract. The loop has moved the jobs of the places from `at` to i down by one.
-use Prim.Native.Nat.{◌+◌, ◌-◌, ◌≤◌, ◌<◌}
+use Prim.Native.Nat.{◌-◌, ◌≤◌}
 use mathlib.Core.Path.{◌≡◌}
-use borrow.Author.Rules.{rules}
-use native.Mathlib.Omega.{arith}
-use lib.ListN.{length, length-take}
-use Rattle.kinds.proofs.Lists.{length_mapped}
-use Rattle.jobs.specs.Places.{no_job, used}
-use Rattle.jobs.proofs.Places.{used_is, moved, moved_none, moved_more, moved_is_taken_out}
+use Rattle.jobs.proofs.Places.{moved}
 use Rattle.jobs.proofs.Pending.without.Given as goal
 
 abbrev pub invariant-loop-i : goal.invariant-loop-i

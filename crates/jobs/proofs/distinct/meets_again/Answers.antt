@@ -1,11 +1,8 @@
-use Prim.Native.Nat.{◌+◌, ◌-◌, ◌<◌}
-use mathlib.Core.Path.{◌≡◌, refl, sym, ap, ◌∙◌}
+use mathlib.Core.Path.{sym, ap, ◌∙◌}
 use mathlib.Core.Bool.{not}
 use native.Mathlib.Omega.{arith}
-use lib.ListN.{take, drop}
-use Rattle.jobs.specs.Serials.{has_not}
 use Rattle.jobs.specs.JobChanges.{serial_at}
-use Rattle.jobs.proofs.Serials.{met, not_met, rest_end}
+use Rattle.jobs.proofs.Serials.{met, not_met}
 use Rattle.jobs.proofs.distinct.meets_again.Goals as goal
 
 pub returns-then-other-job : goal.returns-then-other-job

@@ -1,12 +1,9 @@
 -- `jobs::distinct::meets_again` meets its contract. The loop's invariant: the serial stands at a later place exactly if it stands at `i` or after it.
 use Prim.Native.Nat.{◌+◌, ◌-◌, ◌<◌}
-use mathlib.Core.Path.{◌≡◌, refl, sym, ap, ◌∙◌}
-use mathlib.Core.Bool.{not}
-use native.Mathlib.Omega.{arith}
+use mathlib.Core.Path.{◌≡◌}
 use lib.ListN.{take, drop}
 use Rattle.jobs.specs.Serials.{has_not}
 use Rattle.jobs.specs.JobChanges.{serial_at}
-use Rattle.jobs.proofs.Serials.{met, not_met, rest_end}
 use Rattle.jobs.proofs.distinct.meets_again.Given as goal
 
 abbrev pub invariant-loop-i : goal.invariant-loop-i

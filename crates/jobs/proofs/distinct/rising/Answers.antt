@@ -1,9 +1,6 @@
-use Prim.Native.Nat.{◌-◌, ◌≤◌}
-use mathlib.Core.Path.{◌≡◌, sym, ◌∙◌}
+use mathlib.Core.Path.{sym, ◌∙◌}
 use native.Mathlib.Omega.{arith}
-use lib.ListN.{take}
-use Rattle.jobs.specs.Serials.{rising_serials}
-use Rattle.jobs.proofs.Serials.{rising_from_place, rising_start, rising_stops, rising_goes_on, rest_end}
+use Rattle.jobs.proofs.Serials.{rising_goes_on}
 use Rattle.jobs.proofs.distinct.rising.Goals as goal
 
 pub loop-i-preserved : goal.loop-i-preserved

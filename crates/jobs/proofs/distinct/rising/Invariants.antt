@@ -1,10 +1,9 @@
 -- `jobs::distinct::rising` meets its contract. The loop's invariant: all serials rise exactly if those from `i` on do, above the one before `i`.
 use Prim.Native.Nat.{◌-◌, ◌≤◌}
-use mathlib.Core.Path.{◌≡◌, sym, ◌∙◌}
-use native.Mathlib.Omega.{arith}
+use mathlib.Core.Path.{◌≡◌}
 use lib.ListN.{take}
 use Rattle.jobs.specs.Serials.{rising_serials}
-use Rattle.jobs.proofs.Serials.{rising_from_place, rising_start, rising_stops, rising_goes_on, rest_end}
+use Rattle.jobs.proofs.Serials.{rising_from_place}
 use Rattle.jobs.proofs.distinct.rising.Given as goal
 
 abbrev pub invariant-loop-i : goal.invariant-loop-i

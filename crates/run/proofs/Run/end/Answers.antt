@@ -4,8 +4,6 @@ use Prim.Native.Nat.{◌≤◌, ◌<◌}
 use mathlib.Core.Path.{◌≡◌, sym, ◌∙◌}
 use native.Mathlib.Omega.{arith}
 use lib.ListN.{get_or}
-use borrow.Author.Rules.{rules}
-use borrow.Author.Tests.{not-true, not-false}
 use Rattle.jobs.specs.declared.Choice.TheVariants.{Place}
 use Rattle.jobs.specs.Places.{max_places, no_job, used, take_step}
 use Rattle.jobs.proofs.Changes.{place_holds_job}

@@ -1,13 +1,10 @@
 -- `run::Run::sound` meets its contract. A test that fails settles the answer, and the last test settles it where all others hold. The arrays of every run have
 -- all their places.
 use mathlib.Core.Path.{◌≡◌, sym, ◌∙◌}
-use lib.Seq.{length-take-le}
-use native.Mathlib.Omega.{arith}
 use borrow.Author.Rules.{rules}
-use borrow.Author.Tests.{not-true, not-false}
 use Rattle.kinds.proofs.Lists.{length_mapped}
 use Rattle.run.specs.Sound.{Whole}
-use Rattle.run.proofs.Sound.{jobs_passed, AllBefore, enough_limits, jobs_tested, bound_settles}
+use Rattle.run.proofs.Sound.{jobs_passed, AllBefore, jobs_tested, bound_settles}
 use Rattle.run.proofs.Sound.{timer_out_of_range, too_many_rows, too_many_servers, clock_too_late, too_many_pending, too_many_ended}
 use Rattle.run.proofs.Sound.{rows_unsound, servers_unsound, jobs_unsound}
 use Rattle.run.proofs.Run.sound.Goals as goal

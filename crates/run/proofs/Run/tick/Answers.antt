@@ -1,8 +1,7 @@
 -- `run::Run::tick` meets its contract. Each of the two tests gives its refusal. Past them the timer takes the tick, or the tick is one turn of the pending jobs.
 use mathlib.Core.Path.{◌≡◌, sym, ◌∙◌}
 use native.Mathlib.Omega.{arith}
-use borrow.Author.Rules.{rules}
-use borrow.Author.Tests.{not-true, not-false, lt-ltb, le-ltb}
+use borrow.Author.Tests.{lt-ltb, le-ltb}
 use Rattle.run.specs.Ticking.{ticked}
 use Rattle.run.proofs.Ticking.{Good, facts, step_of, tick_unsound, tick_too_late, tick_taken, tick_is_a_turn}
 use Rattle.run.proofs.Run.tick.Goals as goal

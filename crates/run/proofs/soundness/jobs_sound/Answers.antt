@@ -1,17 +1,13 @@
-use Prim.Native.Nat.{◌-◌, ◌≤◌, ◌<◌}
-use mathlib.Core.Path.{◌≡◌, refl, sym, ap, ◌∙◌}
+use Prim.Native.Nat.{◌≤◌, ◌<◌}
+use mathlib.Core.Path.{sym, ap, ◌∙◌}
 use mathlib.Core.Bool.{Bool, ◌&&◌}
-use mathlib.Core.Logic.{⊎_elim}
 use native.Mathlib.Omega.{arith}
-use borrow.Author.Rules.{rules}
-use borrow.Author.Tests.{not-true, not-false}
 use lib.ListN.{length, length-take}
 use Rattle.kinds.proofs.Apart.{impossible}
-use Rattle.kinds.proofs.Lists.{length_mapped}
 use Rattle.jobs.specs.Places.{jobs_of}
 use Rattle.jobs.specs.Serials.{distinct_serials}
 use Rattle.jobs.proofs.Changes.{rising_is_distinct}
-use Rattle.run.proofs.Sound.{JobsFrom, RisenTo, job_not_allowed, job_does_not_fit, job_does_fit, no_job_left, serial_below, risen_to_none, all_risen, rises_on}
+use Rattle.run.proofs.Sound.{job_not_allowed, job_does_not_fit, job_does_fit, no_job_left, serial_below, all_risen, rises_on}
 use Rattle.run.proofs.soundness.jobs_sound.Goals as goal
 use Rattle.run.proofs.soundness.jobs_sound.Goals.{else-job-lowest, then-job-lowest}
 

@@ -1,13 +1,8 @@
-use Prim.Native.Nat.{◌-◌}
 use mathlib.Core.Bool.{true}
-use mathlib.Core.Path.{◌≡◌, refl, sym, ◌∙◌}
-use native.Mathlib.Omega.{arith}
-use borrow.Author.Rules.{rules}
-use borrow.Author.Tests.{not-true, not-false}
-use Rattle.kinds.proofs.Lists.{length_mapped}
+use mathlib.Core.Path.{◌≡◌, sym, ◌∙◌}
 use Rattle.table.specs.Rows.{row_acceptable}
 use Rattle.run.specs.Runs.{row_at}
-use Rattle.run.proofs.Sound.{RowsFrom, row_unacceptable, kept_unsound, row_sound, no_row_left}
+use Rattle.run.proofs.Sound.{row_unacceptable, kept_unsound, row_sound}
 use Rattle.run.proofs.soundness.rows_sound.Goals as goal
 
 pub returns-then-not-acceptable : goal.returns-then-not-acceptable

@@ -1,13 +1,8 @@
-use Prim.Native.Nat.{◌-◌}
 use mathlib.Core.Bool.{true}
-use mathlib.Core.Path.{◌≡◌, refl, sym, ◌∙◌}
-use native.Mathlib.Omega.{arith}
+use mathlib.Core.Path.{◌≡◌, sym, ◌∙◌}
 use lib.ListN.{get_or}
-use borrow.Author.Rules.{rules}
-use borrow.Author.Tests.{not-true, not-false}
-use Rattle.kinds.proofs.Lists.{length_mapped}
 use Rattle.table.specs.Servers.{server_in_range, no_server}
-use Rattle.run.proofs.Sound.{ServersFrom, server_out_of_range, last_too_late, server_sound, no_server_left}
+use Rattle.run.proofs.Sound.{server_out_of_range, last_too_late}
 use Rattle.run.proofs.soundness.servers_sound.Goals as goal
 
 pub returns-then-not-in_range : goal.returns-then-not-in_range

@@ -1,21 +1,13 @@
 -- `Table::periods` meets its contract. The first loop's invariant is `YsWritten`: p and, behind it, the y of each row passed are written. The second loop's is
 -- `BsWritten`: behind the y of every row in use, the b of each server passed is written.
-use Prim.Native.Nat.{ℕ, suc, ◌+◌, ◌-◌, ◌≤◌, ◌<◌}
-use mathlib.Core.Path.{◌≡◌, refl, sym, ap, ◌∙◌}
-use mathlib.Core.List.{List, [], ◌∷◌, ◌++◌, map, map-append, append_assoc, append-nil}
-use native.Mathlib.Numerals.{add-one}
-use native.Mathlib.Omega.{arith}
-use lib.ListN.{length, take, get_or, set, length-set}
-use lib.Seq.{take-suc, take-suc-set}
-use borrow.Author.Rules.{rules}
-use Rattle.kinds.proofs.Lists.{length_mapped}
-use Rattle.table.specs.declared.Row.{Row}
-use Rattle.table.specs.declared.Server.{Server}
+use Prim.Native.Nat.{ℕ, ◌+◌, ◌-◌, ◌≤◌}
+use mathlib.Core.Path.{◌≡◌}
+use mathlib.Core.List.{List, ◌∷◌, ◌++◌}
+use lib.ListN.{length, take}
 use Rattle.table.specs.declared.Table.{Table}
-use Rattle.table.specs.Limits.{max_rows, max_servers, max_sources}
-use Rattle.table.specs.Period.{ys_of, bs_of, periods_of}
-use Rattle.table.specs.Servers.{no_server}
-use Rattle.table.specs.Tables.{no_row, rows_of, servers_of, content_of}
+use Rattle.table.specs.Limits.{max_sources}
+use Rattle.table.specs.Period.{ys_of, bs_of}
+use Rattle.table.specs.Tables.{rows_of}
 use Rattle.table.proofs.Table.periods.Given as goal
 
 -- The timer's p and the y of each of the first i rows are written.

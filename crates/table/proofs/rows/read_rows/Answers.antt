@@ -1,10 +1,7 @@
-use Prim.Native.Nat.{◌-◌}
 use mathlib.Core.Path.{◌≡◌, sym, ◌∙◌}
-use native.Mathlib.Omega.{arith}
-use borrow.Author.Rules.{rules}
 use Rattle.numbers.specs.declared.NumberRead.TheVariants as number
 use Rattle.numbers.specs.Reading.{read_at}
-use Rattle.table.proofs.Reading.{ReadSoFar, count_misspelled, too_many_rows, none_read, row_more, row_refused, all_read}
+use Rattle.table.proofs.Reading.{none_read, row_more, row_refused, all_read}
 use Rattle.table.proofs.rows.read_rows.Goals as goal
 
 -- The row count is read.

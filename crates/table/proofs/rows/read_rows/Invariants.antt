@@ -1,12 +1,7 @@
 -- `rows::read_rows` meets its contract. The loop's invariant is `ReadSoFar`: the answer is the rows read so far, in front of what is read from here on. Each
 -- answer of the code is a law of `Reading`.
 use Prim.Native.Nat.{◌-◌}
-use mathlib.Core.Path.{◌≡◌, sym, ◌∙◌}
-use native.Mathlib.Omega.{arith}
-use borrow.Author.Rules.{rules}
-use Rattle.numbers.specs.declared.NumberRead.TheVariants as number
-use Rattle.numbers.specs.Reading.{read_at}
-use Rattle.table.proofs.Reading.{ReadSoFar, count_misspelled, too_many_rows, none_read, row_more, row_refused, all_read}
+use Rattle.table.proofs.Reading.{ReadSoFar}
 use Rattle.table.proofs.rows.read_rows.Given as goal
 
 abbrev pub invariant-loop-i : goal.invariant-loop-i

@@ -1,10 +1,7 @@
-use Prim.Native.Nat.{◌-◌}
 use mathlib.Core.Path.{◌≡◌, sym, ◌∙◌}
-use native.Mathlib.Omega.{arith}
-use borrow.Author.Rules.{rules}
 use Rattle.numbers.specs.declared.NumberRead.TheVariants as number
 use Rattle.numbers.specs.Reading.{read_at}
-use Rattle.table.proofs.ReadingServers.{ServersSoFar, server_count_misspelled, too_many_servers, no_server_read}
+use Rattle.table.proofs.ReadingServers.{no_server_read}
 use Rattle.table.proofs.ReadingServers.{server_more, server_refused, all_servers_read}
 use Rattle.table.proofs.servers.read_servers.Goals as goal
 

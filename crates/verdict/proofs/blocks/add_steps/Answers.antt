@@ -1,16 +1,12 @@
 use Prim.Native.Nat.{ℕ, ◌+◌, ◌-◌, ◌*◌, ◌/◌, ◌≤◌, ◌<◌}
 use mathlib.Core.Path.{◌≡◌, refl, ap}
 use native.Mathlib.Omega.{arith}
-use native.Mathlib.Nat.{div-le_self, mod-lt}
 use lib.ListN.{get_or}
 use Rattle.theory.specs.Terms.{term_demand}
-use Rattle.theory.specs.Steps.{rise_at, RisesNext}
+use Rattle.theory.specs.Steps.{RisesNext}
 use Rattle.verdict.specs.HeldTerms.{group_of, held_term, GoodAt}
-use Rattle.verdict.specs.Blocks.{terms_demand}
-use Rattle.verdict.proofs.HeldTerms.{most_v}
-use Rattle.verdict.proofs.BlockRises.{Counting, none_yet, not_counted, one_counted, all_of_them, no_step, no_demand, rise_within}
-use Rattle.verdict.proofs.BlockRises.{StepAt, at_the_step, soon, later, first_step, both_some, gap_some, product_within, number_within, steps_within}
-use Rattle.verdict.proofs.BlockRises.{nearer, nearer_by_more}
+use Rattle.verdict.proofs.BlockRises.{none_yet, not_counted, one_counted, all_of_them, no_step, no_demand, rise_within}
+use Rattle.verdict.proofs.BlockRises.{StepAt, at_the_step, soon, later, first_step, both_some}
 use Rattle.verdict.proofs.blocks.add_steps.Goals as goal
 
 pub returns-then-a-end-eq0 : goal.returns-then-a-end-eq0

@@ -1,17 +1,9 @@
 -- `verdict::blocks::add_steps` meets its contract. The steps of the term before the length at k are counted, and the next step is there.
-use Prim.Native.Nat.{ℕ, ◌+◌, ◌-◌, ◌*◌, ◌/◌, ◌≤◌, ◌<◌}
-use mathlib.Core.Path.{◌≡◌, refl, ap}
-use native.Mathlib.Omega.{arith}
-use native.Mathlib.Nat.{div-le_self, mod-lt}
-use lib.ListN.{get_or}
-use Rattle.theory.specs.Terms.{term_demand}
-use Rattle.theory.specs.Steps.{rise_at, RisesNext}
-use Rattle.verdict.specs.HeldTerms.{group_of, held_term, GoodAt}
+use Prim.Native.Nat.{◌+◌, ◌-◌}
+use Rattle.verdict.specs.HeldTerms.{held_term}
 use Rattle.verdict.specs.Blocks.{terms_demand}
-use Rattle.verdict.proofs.HeldTerms.{most_v}
-use Rattle.verdict.proofs.BlockRises.{Counting, none_yet, not_counted, one_counted, all_of_them, no_step, no_demand, rise_within}
-use Rattle.verdict.proofs.BlockRises.{StepAt, at_the_step, soon, later, first_step, both_some, gap_some, product_within, number_within, steps_within}
-use Rattle.verdict.proofs.BlockRises.{nearer, nearer_by_more}
+use Rattle.verdict.proofs.BlockRises.{Counting}
+use Rattle.verdict.proofs.BlockRises.{StepAt}
 use Rattle.verdict.proofs.blocks.add_steps.Given as goal
 
 abbrev pub invariant-loop-k : goal.invariant-loop-k

@@ -1,12 +1,10 @@
 -- `verdict::blocks::blocks` meets its contract. The lengths below `base` fit, and each block that is looked at ends at or below `hi`.
 use Prim.Native.Nat.{◌+◌, ◌-◌, ◌≤◌}
-use mathlib.Core.Path.{◌≡◌, refl}
-use mathlib.Core.Logic.{⊎_elim}
-use native.Mathlib.Omega.{arith}
+use mathlib.Core.Path.{◌≡◌}
 use lib.ListN.{length}
 use Rattle.verdict.specs.HeldTerms.{held_demand}
-use Rattle.verdict.specs.Blocks.{block_size, InBlock}
-use Rattle.verdict.proofs.Searches.{FitsBelow, fits_further, smallest_found, none_fails_at_all}
+use Rattle.verdict.specs.Blocks.{block_size}
+use Rattle.verdict.proofs.Searches.{FitsBelow}
 use Rattle.verdict.proofs.blocks.blocks.Given as goal
 
 abbrev pub invariant-loop-base : goal.invariant-loop-base

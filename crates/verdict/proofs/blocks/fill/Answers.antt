@@ -1,9 +1,5 @@
-use Prim.Native.Nat.{ℕ, ◌+◌, ◌-◌, ◌≤◌, ◌<◌}
-use mathlib.Core.Path.{◌≡◌}
 use native.Mathlib.Omega.{arith}
-use lib.ListN.{length, get_or, length-set}
-use Rattle.verdict.specs.Blocks.{block_size, terms_demand, RisesOf}
-use Rattle.verdict.proofs.BlockRises.{one_zero_more, no_terms_yet}
+use Rattle.verdict.proofs.BlockRises.{no_terms_yet}
 use Rattle.verdict.proofs.blocks.fill.Goals as goal
 
 pub loop-i-init : goal.loop-i-init

@@ -1,10 +1,8 @@
 -- `verdict::blocks::fill` meets its contract. The first loop sets the entries to 0, and the second adds the steps of one term after another.
-use Prim.Native.Nat.{ℕ, ◌+◌, ◌-◌, ◌≤◌, ◌<◌}
+use Prim.Native.Nat.{ℕ, ◌-◌, ◌≤◌, ◌<◌}
 use mathlib.Core.Path.{◌≡◌}
-use native.Mathlib.Omega.{arith}
-use lib.ListN.{length, get_or, length-set}
+use lib.ListN.{length, get_or}
 use Rattle.verdict.specs.Blocks.{block_size, terms_demand, RisesOf}
-use Rattle.verdict.proofs.BlockRises.{one_zero_more, no_terms_yet}
 use Rattle.verdict.proofs.blocks.fill.Given as goal
 
 abbrev pub invariant-loop-k : goal.invariant-loop-k

@@ -1,13 +1,11 @@
-use Prim.Native.Nat.{ℕ, ◌+◌, ◌-◌, ◌%◌, ◌≤◌, ◌<◌}
-use mathlib.Core.Path.{◌≡◌, refl, ap, ◌∙◌}
+use Prim.Native.Nat.{ℕ, ◌+◌, ◌-◌, ◌%◌}
+use mathlib.Core.Path.{◌≡◌, ap, ◌∙◌}
 use native.Mathlib.Omega.{arith}
-use native.Mathlib.Nat.{mod-add-mod, mod-lt}
+use native.Mathlib.Nat.{mod-add-mod}
 use lib.ListN.{get_or}
-use borrow.Author.Rules.{rules}
 use Rattle.theory.proofs.Cases.{by_lt}
 use Rattle.verdict.specs.HeldTerms.{held_p, held_demand}
 use Rattle.verdict.proofs.HeldTerms.{held_at_most}
-use Rattle.verdict.proofs.Searches.{FitsBelow, none_fails_at_all}
 use Rattle.verdict.proofs.BlockRises.{added_one}
 use Rattle.verdict.proofs.blocks.look.Goals as goal
 

@@ -1,15 +1,8 @@
 -- `verdict::blocks::look` meets its contract. The lengths of the block before the one that is looked at fit, and the sum is the demand in the last of them.
-use Prim.Native.Nat.{ℕ, ◌+◌, ◌-◌, ◌%◌, ◌≤◌, ◌<◌}
-use mathlib.Core.Path.{◌≡◌, refl, ap, ◌∙◌}
-use native.Mathlib.Omega.{arith}
-use native.Mathlib.Nat.{mod-add-mod, mod-lt}
-use lib.ListN.{get_or}
-use borrow.Author.Rules.{rules}
-use Rattle.theory.proofs.Cases.{by_lt}
+use Prim.Native.Nat.{◌+◌, ◌-◌, ◌%◌, ◌≤◌}
+use mathlib.Core.Path.{◌≡◌}
 use Rattle.verdict.specs.HeldTerms.{held_p, held_demand}
-use Rattle.verdict.proofs.HeldTerms.{held_at_most}
-use Rattle.verdict.proofs.Searches.{FitsBelow, none_fails_at_all}
-use Rattle.verdict.proofs.BlockRises.{added_one}
+use Rattle.verdict.proofs.Searches.{FitsBelow}
 use Rattle.verdict.proofs.blocks.look.Given as goal
 
 abbrev pub invariant-loop-k : goal.invariant-loop-k

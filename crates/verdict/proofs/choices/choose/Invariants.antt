@@ -1,9 +1,5 @@
 -- `verdict::classes::choose` meets its contract: every step that is tried divides the period into parts, and so is at most the period.
-use borrow.Author.Rules.{rules}
-use native.Mathlib.Omega.{arith}
-use Prim.Native.Nat.{◌*◌, ◌/◌, ◌≤◌}
-use mathlib.Core.Logic.{⊎_elim}
-use native.Mathlib.Nat.{div-le_self, le-div_iff_mul-le}
+use Prim.Native.Nat.{◌≤◌}
 use Rattle.verdict.proofs.choices.choose.Given as goal
 
 abbrev pub invariant-loop-parts : goal.invariant-loop-parts

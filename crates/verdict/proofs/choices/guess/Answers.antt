@@ -1,9 +1,4 @@
-use borrow.Author.Rules.{rules}
 use native.Mathlib.Omega.{arith}
-use Prim.Native.Nat.{ℕ, ◌+◌, ◌-◌, ◌*◌, ◌/◌, ◌≤◌, ◌<◌}
-use mathlib.Core.Logic.{⊎_elim}
-use native.Mathlib.Nat.{div-le_self, le_trans, mul-le-mul}
-use Rattle.table.specs.Limits.{max_period}
 use Rattle.verdict.proofs.HeldParts.{part_at_most}
 use Rattle.verdict.proofs.choices.guess.Goals as goal
 

@@ -1,5 +1,4 @@
 -- `verdict::classes::guess_part` meets its contract: the line of the part has small numbers, and the lowered one too.
-use borrow.Author.Rules.{rules}
 use native.Mathlib.Omega.{arith}
 use Rattle.verdict.proofs.HeldParts.{made_in_parts, made_good_line}
 use Rattle.verdict.proofs.LowerLines.{lower_good_line}

@@ -1,10 +1,7 @@
-use borrow.Author.Rules.{rules}
 use native.Mathlib.Omega.{arith}
-use Prim.Native.Nat.{◌+◌, ◌≤◌}
-use Rattle.verdict.specs.HeldTerms.{held_demand}
 use Rattle.verdict.proofs.HeldParts.{made_in_parts, made_good_line}
 use Rattle.verdict.proofs.LowerLines.{lower_good_line, lower_in_parts}
-use Rattle.verdict.proofs.Searches.{ClassesDone, looks_settle, no_class_done, all_classes_done, class_done, no_class_fails, class_fails}
+use Rattle.verdict.proofs.Searches.{looks_settle, all_classes_done, class_done}
 use Rattle.verdict.proofs.classes.classes.Goals as goal
 
 pub lowered-lift-requires : goal.lowered-lift-requires

@@ -1,10 +1,10 @@
-use Prim.Native.Nat.{◌+◌, ◌≤◌}
+use Prim.Native.Nat.{◌+◌}
 use native.Mathlib.Omega.{arith}
 use Rattle.theory.specs.Descent.{raised, FitsBetween}
 use Rattle.theory.specs.Parts.{part_and_line}
 use Rattle.verdict.specs.HeldTerms.{held_demand}
 use Rattle.verdict.proofs.HeldParts.{part_at_most, part_never_falls}
-use Rattle.verdict.proofs.Searches.{FitsAbove, passed_down, none_fails, largest_found}
+use Rattle.verdict.proofs.Searches.{passed_down, none_fails}
 use Rattle.verdict.proofs.classes.descend_part.Goals as goal
 
 pub overflow_add-demand : goal.overflow_add-demand

@@ -1,12 +1,10 @@
 -- `verdict::classes::descend_part` meets its contract. The part and its line never fall, so that each look at a length that fits
 -- passes all lengths down to the height that was found.
-use Prim.Native.Nat.{◌+◌, ◌≤◌}
-use native.Mathlib.Omega.{arith}
-use Rattle.theory.specs.Descent.{raised, FitsBetween}
+use Prim.Native.Nat.{◌≤◌}
+use Rattle.theory.specs.Descent.{raised}
 use Rattle.theory.specs.Parts.{part_and_line}
 use Rattle.verdict.specs.HeldTerms.{held_demand}
-use Rattle.verdict.proofs.HeldParts.{part_at_most, part_never_falls}
-use Rattle.verdict.proofs.Searches.{FitsAbove, passed_down, none_fails, largest_found}
+use Rattle.verdict.proofs.Searches.{FitsAbove}
 use Rattle.verdict.proofs.classes.descend_part.Given as goal
 
 abbrev pub invariant-loop-at : goal.invariant-loop-at

@@ -1,9 +1,6 @@
-use borrow.Author.Rules.{rules}
 use native.Mathlib.Omega.{arith}
-use Prim.Native.Nat.{ℕ, ◌+◌, ◌-◌, ◌*◌, ◌/◌, ◌≤◌}
-use native.Mathlib.Nat.{div-le_self, div-mul-le_self, mul-le-mul_right}
+use Prim.Native.Nat.{◌+◌, ◌/◌}
 use Rattle.verdict.proofs.HeldParts.{part_at_most}
-use Rattle.verdict.proofs.Searches.{InTurn}
 use Rattle.verdict.proofs.classes.settled_from.Goals as goal
 
 pub overflow_add-demand : goal.overflow_add-demand

@@ -1,9 +1,5 @@
 -- `verdict::classes::settled_from` meets its contract: the lengths that are looked at are in the class.
-use borrow.Author.Rules.{rules}
-use native.Mathlib.Omega.{arith}
-use Prim.Native.Nat.{ℕ, ◌+◌, ◌-◌, ◌*◌, ◌/◌, ◌≤◌}
-use native.Mathlib.Nat.{div-le_self, div-mul-le_self, mul-le-mul_right}
-use Rattle.verdict.proofs.HeldParts.{part_at_most}
+use Prim.Native.Nat.{◌-◌}
 use Rattle.verdict.proofs.Searches.{InTurn}
 use Rattle.verdict.proofs.classes.settled_from.Given as goal
 

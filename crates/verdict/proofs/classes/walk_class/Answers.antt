@@ -1,6 +1,5 @@
 -- `verdict::classes::walk_class` meets its contract: the lengths before `end` are walked along, and a look at `end` settles the later ones.
-use native.Mathlib.Omega.{arith}
-use Rattle.verdict.proofs.Searches.{found_before_end, none_before_best}
+use Rattle.verdict.proofs.Searches.{none_before_best}
 use Rattle.verdict.proofs.classes.walk_class.Goals as goal
 
 pub returns : goal.returns

@@ -1,9 +1,9 @@
-use Prim.Native.Nat.{◌+◌, ◌≤◌}
+use Prim.Native.Nat.{◌+◌}
 use native.Mathlib.Omega.{arith}
 use Rattle.theory.specs.Descent.{raised, FitsBetween}
 use Rattle.verdict.specs.HeldTerms.{held_demand}
 use Rattle.verdict.proofs.HeldTerms.{held_at_most, held_never_falls}
-use Rattle.verdict.proofs.Searches.{FitsAbove, passed_down, none_fails, largest_found}
+use Rattle.verdict.proofs.Searches.{passed_down, none_fails}
 use Rattle.verdict.proofs.descent.descend.Goals as goal
 
 pub overflow_add-demand : goal.overflow_add-demand

@@ -1,10 +1,8 @@
 -- `verdict::descent::descend` meets its contract. The lengths above `at` fit, and each look at a length that fits passes all lengths down to its demand.
-use Prim.Native.Nat.{◌+◌, ◌≤◌}
-use native.Mathlib.Omega.{arith}
-use Rattle.theory.specs.Descent.{raised, FitsBetween}
+use Prim.Native.Nat.{◌≤◌}
+use Rattle.theory.specs.Descent.{raised}
 use Rattle.verdict.specs.HeldTerms.{held_demand}
-use Rattle.verdict.proofs.HeldTerms.{held_at_most, held_never_falls}
-use Rattle.verdict.proofs.Searches.{FitsAbove, passed_down, none_fails, largest_found}
+use Rattle.verdict.proofs.Searches.{FitsAbove}
 use Rattle.verdict.proofs.descent.descend.Given as goal
 
 abbrev pub invariant-loop-at : goal.invariant-loop-at

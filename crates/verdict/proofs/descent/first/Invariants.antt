@@ -1,10 +1,8 @@
 -- `verdict::descent::first` meets its contract. The lengths below `low` fit, and each stretch that is looked at ends at `high`, which is at most `hi`.
 use Prim.Native.Nat.{◌+◌, ◌-◌, ◌≤◌}
-use mathlib.Core.Logic.{⊎_elim}
-use native.Mathlib.Omega.{arith}
-use Rattle.theory.specs.Descent.{raised, LargestFrom}
+use Rattle.theory.specs.Descent.{raised}
 use Rattle.verdict.specs.HeldTerms.{held_demand}
-use Rattle.verdict.proofs.Searches.{FitsBelow, fits_further, smallest_found, none_fails_at_all}
+use Rattle.verdict.proofs.Searches.{FitsBelow}
 use Rattle.verdict.proofs.descent.first.Given as goal
 
 abbrev pub invariant-loop-low : goal.invariant-loop-low

@@ -4,7 +4,6 @@ use Prim.Native.Nat.{ℕ, ◌+◌, ◌-◌, ◌*◌, ◌≤◌}
 use mathlib.Core.Path.{◌≡◌, sym}
 use native.Mathlib.Omega.{arith}
 use native.Mathlib.Nat.{mul-le-mul}
-use borrow.Author.Rules.{rules}
 use Rattle.theory.specs.Curves.{Curve, FitsUpTo}
 use Rattle.theory.specs.Descent.{raised, SmallestFrom, periods_to_fail}
 use Rattle.theory.proofs.Descent.{tightest_fails, fails_soon, late}

@@ -1,9 +1,7 @@
 -- `verdict::descent::least_slack` meets its contract. The lengths above `top` have at least `slack` ticks to spare, and one of them has no more.
 use Prim.Native.Nat.{◌≤◌}
-use native.Mathlib.Omega.{arith}
-use Rattle.theory.specs.Descent.{LargestFrom, raised}
 use Rattle.verdict.specs.HeldTerms.{held_demand}
-use Rattle.verdict.proofs.Searches.{SlackAbove, slack_at_end, slack_lower, slack_is_least}
+use Rattle.verdict.proofs.Searches.{SlackAbove}
 use Rattle.verdict.proofs.descent.least_slack.Given as goal
 
 abbrev pub invariant-loop-top : goal.invariant-loop-top

@@ -2,11 +2,10 @@
 -- they settle the verdict.
 use Prim.Native.Nat.{◌+◌}
 use native.Mathlib.Omega.{arith}
-use borrow.Author.Rules.{rules}
 use Rattle.theory.specs.Curves.{FitsUpTo}
 use Rattle.theory.proofs.Curves.{settled_within_a_period}
 use Rattle.verdict.specs.HeldTerms.{held_demand}
-use Rattle.verdict.proofs.Searches.{first_is_smallest, all_fit}
+use Rattle.verdict.proofs.Searches.{all_fit}
 use Rattle.verdict.proofs.descent.search.Goals as goal
 
 -- The lengths up to d + period fit, where none was found to fail.

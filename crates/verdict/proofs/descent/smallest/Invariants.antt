@@ -1,9 +1,8 @@
 -- `verdict::descent::smallest` meets its contract. The length `high` fails, and those below `low` fit.
 use Prim.Native.Nat.{◌-◌, ◌≤◌, ◌<◌}
-use native.Mathlib.Omega.{arith}
 use Rattle.theory.specs.Descent.{raised}
 use Rattle.verdict.specs.HeldTerms.{held_demand}
-use Rattle.verdict.proofs.Searches.{FitsBelow, fits_further}
+use Rattle.verdict.proofs.Searches.{FitsBelow}
 use Rattle.verdict.proofs.descent.smallest.Given as goal
 
 abbrev pub invariant-loop-low : goal.invariant-loop-low

@@ -1,10 +1,7 @@
 use native.Mathlib.Omega.{arith}
-use borrow.Author.Rules.{rules}
-use Prim.Native.Nat.{ℕ, ◌+◌, ◌-◌, ◌*◌, ◌≤◌, ◌<◌}
+use Prim.Native.Nat.{◌+◌, ◌-◌, ◌*◌}
 use mathlib.Core.Path.{◌≡◌}
-use Rattle.theory.proofs.Cases.{by_lt}
 use Rattle.verdict.specs.HeldTerms.{held_demand}
-use Rattle.verdict.specs.HeldParts.{LowerLift}
 use Rattle.verdict.proofs.HeldParts.{line_product_at_most}
 use Rattle.verdict.proofs.LowerLines.{product_of_rest, lift_stays, lift_raised}
 use Rattle.verdict.proofs.lifts.least_lift.Goals as goal

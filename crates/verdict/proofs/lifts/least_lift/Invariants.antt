@@ -1,13 +1,7 @@
 -- `verdict::lifts::least_lift` meets its contract: with the largest of the heights so far the line is above what is left out in the lengths below `at`.
-use native.Mathlib.Omega.{arith}
-use borrow.Author.Rules.{rules}
-use Prim.Native.Nat.{ℕ, ◌+◌, ◌-◌, ◌*◌, ◌≤◌, ◌<◌}
-use mathlib.Core.Path.{◌≡◌}
-use Rattle.theory.proofs.Cases.{by_lt}
+use Prim.Native.Nat.{◌-◌, ◌≤◌}
 use Rattle.verdict.specs.HeldTerms.{held_demand}
 use Rattle.verdict.specs.HeldParts.{LowerLift}
-use Rattle.verdict.proofs.HeldParts.{line_product_at_most}
-use Rattle.verdict.proofs.LowerLines.{product_of_rest, lift_stays, lift_raised}
 use Rattle.verdict.proofs.lifts.least_lift.Given as goal
 
 abbrev pub invariant-loop-at : goal.invariant-loop-at

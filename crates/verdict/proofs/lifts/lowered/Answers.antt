@@ -1,6 +1,5 @@
 -- `verdict::lifts::lowered` meets its contract: what is left out repeats itself every `turn`, so that the lengths below d + turn stand for all.
 use native.Mathlib.Omega.{arith}
-use borrow.Author.Tests.{not-false}
 use Rattle.verdict.proofs.LowerLines.{lower_line_above}
 use Rattle.verdict.proofs.lifts.lowered.Goals as goal
 

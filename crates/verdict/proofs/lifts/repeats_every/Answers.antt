@@ -1,11 +1,6 @@
-use borrow.Author.Rules.{rules}
 use native.Mathlib.Omega.{arith}
-use Prim.Native.Nat.{◌-◌, ◌≤◌}
 use mathlib.Core.Path.{◌≡◌}
-use borrow.Author.Tests.{not-false}
-use Rattle.verdict.specs.HeldParts.{LeftOutRepeats}
 use Rattle.theory.proofs.Cases.{by_lt}
-use Rattle.verdict.proofs.LowerLines.{not_said}
 use Rattle.verdict.proofs.lifts.repeats_every.Goals as goal
 
 pub loop-i-preserved : goal.loop-i-preserved

@@ -1,12 +1,6 @@
 -- `verdict::lifts::repeats_every` meets its contract: each term before i was found to be taken in or to repeat itself.
-use borrow.Author.Rules.{rules}
-use native.Mathlib.Omega.{arith}
 use Prim.Native.Nat.{◌-◌, ◌≤◌}
-use mathlib.Core.Path.{◌≡◌}
-use borrow.Author.Tests.{not-false}
 use Rattle.verdict.specs.HeldParts.{LeftOutRepeats}
-use Rattle.theory.proofs.Cases.{by_lt}
-use Rattle.verdict.proofs.LowerLines.{not_said}
 use Rattle.verdict.proofs.lifts.repeats_every.Given as goal
 
 abbrev pub invariant-loop-i : goal.invariant-loop-i

@@ -1,6 +1,4 @@
 -- `verdict::lifts::turn_of` meets its contract: nothing overflows, and the multiples come to an end.
-use borrow.Author.Rules.{rules}
-use native.Mathlib.Omega.{arith}
 use Prim.Native.Nat.{◌+◌, ◌-◌, ◌≤◌}
 use Rattle.verdict.proofs.lifts.turn_of.Given as goal
 

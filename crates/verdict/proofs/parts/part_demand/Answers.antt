@@ -1,8 +1,7 @@
 -- `verdict::classes::part_demand` meets its contract: nothing overflows, and a line without slope has the height 0.
 use native.Mathlib.Omega.{arith}
-use borrow.Author.Rules.{rules}
 use Rattle.theory.specs.Lines.{line_at}
-use Rattle.verdict.proofs.HeldParts.{flat_line, line_product_at_most, part_at_most}
+use Rattle.verdict.proofs.HeldParts.{flat_line, part_at_most}
 use Rattle.verdict.proofs.parts.part_demand.Goals as goal
 
 pub returns-then-slope-eq0 : goal.returns-then-slope-eq0

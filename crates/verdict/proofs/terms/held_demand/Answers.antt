@@ -1,7 +1,6 @@
-use Prim.Native.Nat.{◌+◌, ◌-◌, ◌≤◌}
-use mathlib.Core.Path.{◌≡◌, sym, ◌∙◌}
+use Prim.Native.Nat.{◌+◌}
+use mathlib.Core.Path.{sym, ◌∙◌}
 use native.Mathlib.Omega.{arith}
-use Rattle.verdict.specs.HeldTerms.{held_demand}
 use Rattle.verdict.proofs.HeldTerms.{no_terms, one_term_more, held_at_most}
 use Rattle.verdict.proofs.terms.held_demand.Goals as goal
 

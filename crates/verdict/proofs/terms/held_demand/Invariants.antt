@@ -1,9 +1,7 @@
 -- `verdict::terms::held_demand` meets its contract: the loop adds the demands of the terms to the ticks that the timer takes.
-use Prim.Native.Nat.{◌+◌, ◌-◌, ◌≤◌}
-use mathlib.Core.Path.{◌≡◌, sym, ◌∙◌}
-use native.Mathlib.Omega.{arith}
+use Prim.Native.Nat.{◌-◌, ◌≤◌}
+use mathlib.Core.Path.{◌≡◌}
 use Rattle.verdict.specs.HeldTerms.{held_demand}
-use Rattle.verdict.proofs.HeldTerms.{no_terms, one_term_more, held_at_most}
 use Rattle.verdict.proofs.terms.held_demand.Given as goal
 
 abbrev pub invariant-loop-i : goal.invariant-loop-i

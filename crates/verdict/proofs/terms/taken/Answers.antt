@@ -1,8 +1,6 @@
 -- `verdict::terms::taken` meets its contract: the reciprocal of p gives the whole periods, and the smaller of s and the rest is added.
 use native.Mathlib.Omega.{arith}
-use borrow.Author.Rules.{rules}
-use Rattle.verdict.proofs.Bounds.{taken_at_most}
-use Rattle.verdict.proofs.HeldTerms.{timer_product_at_most, whole_within, rest_of_it, taken_by_reciprocal}
+use Rattle.verdict.proofs.HeldTerms.{whole_within, rest_of_it, taken_by_reciprocal}
 use Rattle.verdict.proofs.terms.taken.Goals as goal
 
 pub overflow_sub-rest : goal.overflow_sub-rest

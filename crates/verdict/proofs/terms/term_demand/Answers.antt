@@ -1,7 +1,6 @@
 -- `verdict::terms::term_demand` meets its contract: the reciprocal gives the quotient, and no step overflows.
 use Prim.Native.Nat.{◌+◌}
 use native.Mathlib.Omega.{arith}
-use borrow.Author.Rules.{rules}
 use lib.ListN.{get_or}
 use Rattle.verdict.specs.HeldTerms.{group_of}
 use Rattle.verdict.proofs.HeldTerms.{product_at_most, term_by_reciprocal, term_at_most}

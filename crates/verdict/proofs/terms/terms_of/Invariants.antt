@@ -1,15 +1,7 @@
 -- `verdict::terms::terms_of` meets its contract: the first loop fills in the servers after the timer, and the second the rows after the servers.
 use Prim.Native.Nat.{◌+◌, ◌-◌, ◌≤◌}
-use mathlib.Core.Path.{refl}
-use native.Mathlib.Omega.{arith}
-use native.Mathlib.Nat.{div-le_self}
-use borrow.Author.Rules.{rules}
-use Rattle.verdict.specs.HeldTerms.{parts}
-use Rattle.verdict.proofs.Rows.{row_within}
-use Rattle.verdict.proofs.Bounds.{some_b, cost_of_x_at_most}
 use Rattle.verdict.proofs.FilledTerms.{Filled, Placed}
-use Rattle.verdict.proofs.TableTerms.{servers_to, rows_to, OfTable, timer_filled, server_filled, servers_filled, row_filled, all_filled}
-use Rattle.verdict.proofs.TableTerms.{timer_placed, server_placed, servers_placed, row_placed, all_repeat}
+use Rattle.verdict.proofs.TableTerms.{servers_to, rows_to, OfTable}
 use Rattle.verdict.proofs.terms.terms_of.Given as goal
 
 abbrev pub invariant-loop-k : goal.invariant-loop-k
