@@ -38,6 +38,7 @@ found_has_it s (j ∷ js) = by_eq j.name s
 
 -- Where names are distinct, the job with a serial is the one that is found for it.
 pub finds_the_job : {j : Job} {js : List Job} → DistinctNames js → Memᴰ j js → job_of_serial j.name js ≡ j
+finds_the_job {j = j} {js = []} apart none = elim none [ ]
 finds_the_job {j = j} {js = i ∷ js} apart (Memᴰ.head e) = rw (eq-eqb i.name j.name (sym (ap (λ (k : Job). k.name) e))) (sym e)
 finds_the_job {j = j} {js = i ∷ js} apart (Memᴰ.tail m) =
     let other = all_at (λ (k : Job). k.name ≢ i.name) apart.0 m in
@@ -54,6 +55,7 @@ among_means s (e ∷ l) = by_eq e.serial s
 
 -- The serial of one of the ended jobs is among them.
 pub is_among : {e : EndedJob} {l : List EndedJob} (s : ℕ) → Memᴰ e l → e.serial ≡ s → is_among_ended s l ≡ true
+is_among {e = e} {l = []} s none h = elim none [ ]
 is_among {e = e} {l = d ∷ l} s (Memᴰ.head q) h = let same : d.serial ≡ s = sym (ap (λ (k : EndedJob). k.serial) q) ∙ h in rw (eq-eqb d.serial s same)
 is_among {e = e} {l = d ∷ l} s (Memᴰ.tail m) h = by_test (eqb d.serial s) (λ q. rw q) (λ q. rw q (is_among s m h))
 

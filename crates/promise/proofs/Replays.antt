@@ -139,7 +139,7 @@ records_end_none : (t : List ℕ) (calls : List Call) (rs : List Record) → end
 unfolding calls_after
 records_end_none t calls [] none = none
 records_end_none t calls (r ∷ rs) none =
-    records_end_none t _ rs (release_ends_none t _ r.row.0 r.cost (ticks_end_none t r.gap calls none))
+    records_end_none t (Call.release r.row.0 r.cost ∷ more_ticks r.gap calls) rs (release_ends_none t _ r.row.0 r.cost (ticks_end_none t r.gap calls none))
 
 -- A replay ends no job.
 pub replay_ends_none : (t : List ℕ) (rs : List Record) (final : ℕ) → ended_in (trace t (calls_of rs final)) ≡ []

@@ -1,6 +1,6 @@
 -- A script whose replay ends in 22 was served in time. The replay is a trace, on a feasible table every job of a trace had its cost before its due time, and
 -- the log was written from the trace's finished jobs. (6.26, 8.8, 9.5)
-use Prim.Native.Nat.{ℕ, ◌-◌}
+use Prim.Native.Nat.{ℕ, ◌-◌, ◌+◌}
 use mathlib.Core.Path.{◌≡◌, refl, sym, ap, subst, ◌∙◌}
 use mathlib.Core.Logic.{⊎_elim}
 use mathlib.Core.Bool.{false}
@@ -57,7 +57,7 @@ as_many_as_asked : (time : ℕ) (rs : List Record) (js : List PendingJob) → As
 as_many_as_asked time [] [] asked = refl
 as_many_as_asked time [] (j ∷ js) asked = absurd asked
 as_many_as_asked time (r ∷ rs) [] asked = absurd asked
-as_many_as_asked time (r ∷ rs) (j ∷ js) asked = omega (arith, as_many_as_asked _ rs js asked.3)
+as_many_as_asked time (r ∷ rs) (j ∷ js) asked = omega (arith, as_many_as_asked (time + r.gap) rs js asked.3)
 
 -- ---- a replay that ends in 22
 
