@@ -33,7 +33,7 @@ enum { IS_MEASURED = 1 };
 enum { IS_MEASURED = 0 };
 #endif
 
-enum { ROOM = 16384 }; /* JYRMEKKO_STACK_SIZE and JYRMEKKO_RUN_STACK_SIZE leave so many bytes. */
+enum { ROOM = 16384 }; /* JYRMEKKO_STACK_SIZE and JYRMEKKO_RUN_STACK_SIZE leave at least so many bytes. */
 
 static unsigned passed, failed;
 
