@@ -1,6 +1,8 @@
 // The probe, which is for comparisons only: calls by which another program can compare what the host's calls don't reach. They are the number writer, the
 // chooser, the verdict by every length, a trace of calls on a run, and four calls on a run that is lent. Numbers are lent as words of eight bytes, lowest byte
 // first.
+#![tactic(auto)]
+
 ghost use Rattle.std.specs.Prelude.{◌≡◌, ◌+◌, ◌*◌, ◌≤◌, length, take};
 ghost use Rattle.std.proofs.lemmas.List.Edits.{sets};
 ghost use Rattle.numbers.specs.Answers.{written_says};
@@ -181,7 +183,7 @@ pub extern "C" fn verdict_every_length(table: &[u8], answer: &mut [u8]) -> u32
 // ---- a trace
 
 // The run after a call, and the call's answer in four words.
-#[derive(Drop)]
+#[derive(Clone, Copy)]
 struct Played {
     run: Run,
     answer: [u64; 4],
@@ -328,13 +330,13 @@ pub extern "C" fn trace(table: &[u8], calls: &[u8], answers: &mut [u8]) -> u32
 
 // The answer of a call on a lent run: the four words that a trace writes.
 #[repr(C)]
-#[derive(Drop)]
+#[derive(Clone, Copy)]
 pub struct FourWords {
     pub words: [u64; 4],
 }
 
 // The run after a call, and the call's answer in words.
-#[derive(Drop)]
+#[derive(Clone, Copy)]
 struct LentStep {
     run: Run,
     answer: FourWords,

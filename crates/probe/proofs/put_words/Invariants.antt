@@ -1,0 +1,24 @@
+-- `probe::put_words` meets its contract. The loop's invariant is that storing the other words behind those that are written completes the buffer.
+use Prim.Native.Nat.{◌+◌, ◌-◌, ◌*◌, ◌≤◌}
+use mathlib.Core.Path.{◌≡◌, refl}
+use mathlib.Core.List.{flatten}
+use native.Mathlib.Nat.{add-zero}
+use native.Mathlib.Numerals.{add-one}
+use native.Mathlib.Omega.{arith}
+use lib.ListN.{length, get_or}
+use lib.Seq.{sets, slice, slice_empty, length-sets}
+use borrow.Author.Rules.{rules}
+use Rattle.words.specs.Words.{word_length}
+use Rattle.kinds.proofs.Lists.{sets-append}
+use Rattle.words.proofs.Storing.{length-lowest_first, put_stores}
+use Rattle.probe.specs.Words.{words_bytes}
+use Rattle.probe.proofs.Words.{words_next}
+use Rattle.probe.proofs.put_words.Given as goal
+
+abbrev pub invariant-loop-k : goal.invariant-loop-k
+invariant-loop-k l =
+    (l.k ≤ l.count) × (length l.buffer ≡ length l.initial.buffer)
+    × (sets l.buffer (l.at + l.k * word_length) (words_bytes (slice l.k l.count l.words)) ≡ sets l.initial.buffer l.at (words_bytes (slice 0 l.count l.words)))
+
+abbrev pub decreases-loop-k : goal.decreases-loop-k
+decreases-loop-k l = l.count - l.k

@@ -1,0 +1,14 @@
+-- `probe::write_number` meets its contract: a spelling has at most six bytes, so its length fits the number that is returned.
+use mathlib.Core.Path.{sym, ap, ◌∙◌}
+use native.Mathlib.Omega.{arith}
+use borrow.Author.Rules.{rules}
+use Rattle.numbers.proofs.Spellings.{length_answered, spelling_length}
+use Rattle.numbers.specs.Answers.{written_says}
+use Rattle.probe.specs.Written.{in_one_number}
+use Rattle.probe.proofs.write_number.Goals as goal
+
+pub overflow_cast-result : goal.overflow_cast-result
+overflow_cast-result c =
+    let a = c.args in
+    let e = c.write.ensures in
+    omega (arith, length_answered a.number _ c.in-Length.n (sym e.0 ∙ c.in-Length.is), spelling_length a.number)
