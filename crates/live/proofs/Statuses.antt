@@ -6,7 +6,6 @@ use native.Mathlib.Omega.{arith}
 use lib.Dec.{leb}
 use borrow.Author.Tests.{ne_eqb, lt-leb}
 use Rattle.kinds.specs.Numbering.{refusal_number}
-use Rattle.kinds.specs.declared.Refusal.{Refusal}
 use Rattle.kinds.specs.declared.Refusal.TheVariants as refusal
 use Rattle.kinds.proofs.Numbering.{never_zero}
 use Rattle.jobs.specs.declared.Finished.{Finished}

@@ -1,5 +1,5 @@
 -- The laws of what stops a play and how it comes to its end: each refusal comes exactly where its rule says. (docs/RULES.md, sections 8.1 to 8.7, 8.12 and 10.)
-use Rattle.std.specs.Prelude.{ℕ, ◌+◌, ◌-◌, ◌<◌, ◌≡◌, ◌↔◌, List, length}
+use Rattle.std.specs.Prelude.{ℕ, ◌+◌, ◌<◌, ◌≡◌, ◌↔◌, List, length}
 use Rattle.kinds.specs.Numbering.{refusal_number, refused_with}
 use Rattle.kinds.specs.declared.RefusedAt.{RefusedAt}
 use Rattle.numbers.specs.SpelledNumbers.{Bytes}

@@ -1,10 +1,10 @@
 -- Hopeless rows are refused is proved: the table's reader refuses them with 16, and the verdict, a start, a replay and the host's calls hand the refusal on.
 -- (docs/RULES.md, 3.3, 6.4, 6.21, 8.1 and 9.5.)
-use Prim.Native.Nat.{ℕ, ◌+◌, ◌≤◌, ◌<◌}
+use Prim.Native.Nat.{ℕ, ◌≤◌, ◌<◌}
 use native.Mathlib.Decide.{dec_le}
 use native.Mathlib.Omega.{arith}
 use mathlib.Core.Path.{◌≡◌, refl, sym, ap, subst, ◌∙◌}
-use mathlib.Core.Logic.{◌≢◌, ◌⊎◌, ⊎_elim}
+use mathlib.Core.Logic.{◌≢◌, ⊎_elim}
 use mathlib.Core.Bool.{Bool, true, false}
 use mathlib.Core.List.{List, [], ◌∷◌, ◌++◌, flatten, map, append_assoc, Memᴰ}
 use lib.Dec.{leb, eqb}

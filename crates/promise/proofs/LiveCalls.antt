@@ -44,7 +44,7 @@ use Rattle.run.proofs.Ticking.{facts, counted, busy_keeps}
 use Rattle.run.proofs.Ending.{each_end, found_there}
 use Rattle.live.specs.Statuses.{start_said, release_said, tick_said, end_said, release_read, tick_read, late_read, end_read}
 use Rattle.host.specs.Answer.{answer_length, answer_bytes}
-use Rattle.host.specs.Live.{step_after, release_told, release_leaves, tick_told, tick_leaves, end_told, end_leaves}
+use Rattle.host.specs.Live.{step_after, release_told, tick_told, tick_leaves, end_told}
 use Rattle.promise.specs.Traces.{Call, Event, run_after, event_of, run_at, trace, clock_of, unfinished_in}
 use Rattle.promise.specs.Refusals.{next_due, release_answer, end_answer}
 use Rattle.promise.specs.LiveCalls.{LiveCall, Seen, live_left, live_status, live_told, seen_after, live_run_at, seen}

@@ -1,8 +1,8 @@
 -- The live run, as a C program sees it. The program starts a run in its own memory, makes any calls on it in any order, with any answer buffers, and has after
 -- each of them a status and the bytes of its answer buffer. What it reads from these alone is a trace of the same calls. So each promise about traces is a
 -- promise about what the program reads: in time, never more, share, refused exactly when. 11 never comes. (1.20, 9.9 to 9.15)
-use Rattle.std.specs.Prelude.{ℕ, ◌+◌, ◌-◌, ◌≤◌, ◌<◌, ◌≡◌, ◌↔◌, ◌⊎◌, ◌≢◌, true, false, cond, eqb, length, take, drop}
-use mathlib.Core.List.{List, [], ◌∷◌, ◌++◌, Memᴰ}
+use Rattle.std.specs.Prelude.{ℕ, ◌+◌, ◌-◌, ◌≤◌, ◌<◌, ◌≡◌, ◌↔◌, ◌⊎◌, ◌≢◌, false, cond, eqb, length, take, drop}
+use mathlib.Core.List.{List, [], ◌∷◌, Memᴰ}
 use Rattle.kinds.specs.Numbering.{Said, refused_says, max_time}
 use Rattle.numbers.specs.SpelledNumbers.{Bytes}
 use Rattle.words.specs.Words.{word_length, from_lowest_first}
@@ -12,7 +12,7 @@ use Rattle.verdict.specs.declared.Verdict.{Verdict}
 use Rattle.verdict.specs.declared.Verdict.TheVariants as verdict
 use Rattle.verdict.specs.Verdict.{Judged}
 use Rattle.run.specs.declared.Run.{Run}
-use Rattle.live.specs.Statuses.{release_said, tick_said, end_said, release_read, tick_read, late_read, end_read}
+use Rattle.live.specs.Statuses.{release_said, end_said, release_read, tick_read, late_read, end_read}
 use Rattle.host.specs.Answer.{answer_length, VerdictAnswered}
 use Rattle.host.specs.Live.{answer_after, start_told, start_leaves, release_told, release_leaves, tick_told, tick_leaves, end_told, end_leaves}
 use Rattle.promise.specs.Sources.{source_at, source_demand}

@@ -1,6 +1,6 @@
 -- Sources. A row number in use names a row or a server, and either is a source of jobs. What is promised about demand, share, due times and the witness's
 -- jobs is promised for every source alike. (1.2, 3.14, 5.12)
-use Rattle.std.specs.Prelude.{ℕ, ◌+◌, ◌≤◌, ◌<◌, ◌≡◌, cond, List, ◌++◌, map, length, get_or}
+use Rattle.std.specs.Prelude.{ℕ, ◌+◌, ◌<◌, ◌≡◌, cond, List, ◌++◌, map, length, get_or}
 use Rattle.theory.specs.Curves.{sum_over}
 use Rattle.theory.specs.Ticks.{timer_takes}
 use Rattle.theory.specs.DueTimes.{due_time}

@@ -1,8 +1,8 @@
 -- Free ticks as the code counts them: how many come before a time, and when the n-th of them has ended. (docs/RULES.md, 6.5.)
-use Prim.Native.Nat.{ℕ, suc, ◌+◌, ◌-◌, ◌*◌, ◌/◌, ◌%◌, ◌≤◌, ◌<◌, min}
+use Prim.Native.Nat.{ℕ, suc, ◌+◌, ◌-◌, ◌*◌, ◌/◌, ◌≤◌, ◌<◌}
 use mathlib.Core.Path.{◌≡◌, ap, ◌∙◌}
 use native.Mathlib.Omega.{arith}
-use native.Mathlib.Nat.{div-add-mod', mod-lt, mul-le-mul_right}
+use native.Mathlib.Nat.{div-add-mod', mul-le-mul_right}
 use Rattle.kinds.specs.Numbering.{max_time}
 use Rattle.theory.specs.Ticks.{free_before, free, timer, timer_takes, free_tick_at}
 use Rattle.theory.proofs.Cases.{by_lt}

@@ -19,13 +19,13 @@ use Rattle.jobs.specs.Units.{last_unit}
 use Rattle.jobs.specs.Turns.{first_job, finish_at}
 use Rattle.columns.specs.declared.WorkAnswer.{WorkAnswer}
 use Rattle.columns.specs.declared.WorkAnswer.TheVariants as work
-use Rattle.columns.specs.Ticks.{Reached, nobody_at, finished_at, first_of, after_tick, worked_for}
+use Rattle.columns.specs.Ticks.{Reached, finished_at, first_of, after_tick, worked_for}
 use Rattle.columns.proofs.Strides.{tick_finishes, tick_goes_on}
 use Rattle.run.specs.declared.Run.{Run}
 use Rattle.run.specs.Ticking.{is_taken, ticked}
 use Rattle.run.specs.ManyTicks.{finished_by, SoFar, one_more_tick, ticks_while_pending}
 use Rattle.run.proofs.Ticking.{Good, counted, tick_taken, tick_keeps_good, tick_gives_one_unit}
-use Rattle.play.proofs.SingleTicks.{TicksFrom, first_is_pending, tick_clock, tick_table, tick_conserves, no_ticks, one_tick_keeps}
+use Rattle.play.proofs.SingleTicks.{TicksFrom, first_is_pending, tick_clock, tick_conserves, no_ticks, one_tick_keeps}
 use Rattle.replay.specs.Arrays.{HasTimer}
 
 -- ---- what ticks keep

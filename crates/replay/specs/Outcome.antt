@@ -1,5 +1,5 @@
 -- What a replay answers, and what it leaves in the log buffer. (docs/RULES.md, 8.8 to 8.17 and 9.5.)
-use Rattle.std.specs.Prelude.{ℕ, ◌+◌, cond, List, [], ◌++◌, leb, eqb, length, drop, replicate}
+use Rattle.std.specs.Prelude.{ℕ, cond, List, [], ◌++◌, leb, eqb, length, drop, replicate}
 use Rattle.kinds.specs.Numbering.{Said, refused_says}
 use Rattle.kinds.specs.declared.Finish.{Finish}
 use Rattle.kinds.specs.declared.Refusal.TheVariants.{NoRoom}

@@ -1,7 +1,6 @@
 -- `host::say` meets its contract: the two numbers fill the answer buffer.
 use mathlib.Core.Path.{refl, ◌∙◌}
 use native.Mathlib.Omega.{arith}
-use borrow.Author.Rules.{rules}
 use Rattle.words.specs.Words.{word_length}
 use Rattle.words.proofs.Storing.{put_stores_first, put_stores}
 use Rattle.host.proofs.Bytes.{both_numbers}

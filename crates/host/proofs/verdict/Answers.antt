@@ -1,12 +1,11 @@
 -- `host::verdict` meets its contract: it returns and writes what the verdict says.
 use Prim.Native.Nat.{ℕ}
-use mathlib.Core.Path.{◌≡◌, refl}
+use mathlib.Core.Path.{◌≡◌}
 use mathlib.Core.List.{List}
 use native.Mathlib.Omega.{arith}
-use borrow.Author.Rules.{rules}
 use Rattle.verdict.specs.declared.Verdict.{Verdict}
 use Rattle.verdict.specs.Verdict.{verdict_says}
-use Rattle.host.specs.Answer.{answer_bytes, VerdictAnswered, wrong_size, said}
+use Rattle.host.specs.Answer.{answer_bytes, VerdictAnswered, said}
 use Rattle.host.proofs.verdict.Goals as goal
 
 pub returns-in-Feasible : goal.returns-in-Feasible

@@ -1,15 +1,13 @@
-use Prim.Native.Nat.{◌-◌, ◌<◌}
+use Prim.Native.Nat.{◌<◌}
 use native.Mathlib.Omega.{arith}
 use mathlib.Core.Path.{refl, sym, ◌∙◌}
-use mathlib.Core.Logic.{⊎_elim}
 use lib.ListN.{length}
 use lib.Seq.{length-take-le}
-use borrow.Author.Rules.{rules}
 use Rattle.numbers.specs.SpelledNumbers.{Bytes}
 use Rattle.run.proofs.Ticking.{facts}
 use Rattle.replay.specs.Arrays.{Lists, lists, logged_by, SourceOf}
-use Rattle.replay.proofs.Replaying.{Plays, Asks, plays_first, good_timer, limits_within, log_as_long, plays_in_bounds}
-use Rattle.replay.proofs.Replaying.{plays_refused, plays_ready, row_in_table, server_in_table, of_row, of_server, source_in_range, can_go, later_place}
+use Rattle.replay.proofs.Replaying.{Asks, plays_first, good_timer, limits_within, log_as_long, plays_in_bounds}
+use Rattle.replay.proofs.Replaying.{plays_refused, plays_ready, server_in_table, of_row, of_server, source_in_range, can_go, later_place}
 use Rattle.replay.proofs.Replaying.{plays_stopped, plays_next}
 use Rattle.replay.proofs.Replaying.{PlaysWhole, plays_too_long, plays_whole, stopped_ends, full_ends, in_time_ends, late_ends}
 use Rattle.replay.proofs.play.Goals as goal

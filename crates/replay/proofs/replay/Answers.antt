@@ -1,6 +1,5 @@
 -- `replay::replay` meets its contract. A table that is refused stops it at once, and otherwise the script is played on the fresh run of the table. After a refusal
 -- the log is filled with zeros.
-use borrow.Author.Rules.{rules}
 use Rattle.replay.proofs.Replaying.{started_ready, table_refused, replay_in_time, replay_late, replay_refused}
 use Rattle.replay.proofs.replay.Goals as goal
 

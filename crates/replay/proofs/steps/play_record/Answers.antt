@@ -1,13 +1,9 @@
 -- `replay::steps::play_record` meets its contract: the ticks until the record's script time are given, and then its release settles the answer.
 use native.Mathlib.Omega.{arith}
 use mathlib.Core.Path.{refl}
-use mathlib.Core.Logic.{⊎_elim}
-use Prim.Native.Nat.{◌<◌}
-use borrow.Author.Rules.{rules}
-use Rattle.jobs.specs.Places.{max_places}
 use Rattle.rings.specs.Rings.{rings}
 use Rattle.replay.specs.Arrays.{lists}
-use Rattle.replay.proofs.Releasing.{WasAsked, not_full, stops_full, stops_due, goes_further}
+use Rattle.replay.proofs.Releasing.{WasAsked, stops_full, stops_due, goes_further}
 use Rattle.replay.proofs.steps.play_record.Goals as goal
 use Rattle.replay.proofs.steps.play_record.Goals.{in-Row, in-Server}
 

@@ -1,6 +1,5 @@
 -- `replay::ticks::free_before` meets its contract: the ticks before a time are the free ones and those that the timer takes.
 use native.Mathlib.Omega.{arith}
-use borrow.Author.Rules.{rules}
 use Rattle.replay.proofs.FreeTicks.{free_and_taken, all_before_free}
 use Rattle.replay.proofs.ticks.free_before.Goals as goal
 

@@ -1,13 +1,9 @@
 use native.Mathlib.Omega.{arith}
-use mathlib.Core.Path.{◌≡◌, refl}
+use mathlib.Core.Path.{refl}
 use Prim.Native.Nat.{◌≤◌}
-use borrow.Author.Rules.{rules}
-use Rattle.kinds.specs.Numbering.{max_time}
 use Rattle.theory.specs.Ticks.{free_before, timer}
-use Rattle.columns.specs.Columns.{columns}
-use Rattle.replay.specs.Arrays.{tick_arrays}
 use Rattle.replay.proofs.FreeTicks.{free_and_taken}
-use Rattle.replay.proofs.Ticking.{TicksOn, no_ticks_yet, no_ticks_due, one_less, some_free, free_in_time, free_so, finished_on, nobody_on, nothing_pending}
+use Rattle.replay.proofs.Ticking.{no_ticks_due, one_less, some_free, free_in_time, free_so, finished_on, nobody_on, nothing_pending}
 use Rattle.replay.proofs.ticks.run_until.Goals as goal
 
 pub returns-then-until-clock : goal.returns-then-until-clock

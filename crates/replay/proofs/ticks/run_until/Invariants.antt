@@ -1,15 +1,10 @@
 -- `replay::ticks::run_until` meets its contract. The loop's invariant is that the play that the arrays hold comes to the same with the ticks that are still to
 -- come, and that `free` is the number of free ticks before the clock. The measure is the number of pending jobs.
-use native.Mathlib.Omega.{arith}
-use mathlib.Core.Path.{◌≡◌, refl}
-use Prim.Native.Nat.{◌≤◌}
-use borrow.Author.Rules.{rules}
-use Rattle.kinds.specs.Numbering.{max_time}
+use mathlib.Core.Path.{◌≡◌}
 use Rattle.theory.specs.Ticks.{free_before, timer}
 use Rattle.columns.specs.Columns.{columns}
 use Rattle.replay.specs.Arrays.{tick_arrays}
-use Rattle.replay.proofs.FreeTicks.{free_and_taken}
-use Rattle.replay.proofs.Ticking.{TicksOn, no_ticks_yet, no_ticks_due, one_less, some_free, free_in_time, free_so, finished_on, nobody_on, nothing_pending}
+use Rattle.replay.proofs.Ticking.{TicksOn}
 use Rattle.replay.proofs.ticks.run_until.Given as goal
 
 abbrev pub invariant-loop-count : goal.invariant-loop-count
