@@ -5,8 +5,7 @@ use mathlib.Core.List.{List, [], ◌∷◌}
 use native.Mathlib.Omega.{arith}
 use lib.ListN.{length}
 use lib.Seq.{sets}
-use borrow.Author.Tests.{eq-eqb, ne_eqb}
-use borrow.Author.Rules.{rules}
+use borrow.Author.Tests.{eq-eqb}
 use Rattle.script.specs.declared.Chosen.{Chosen}
 use Rattle.script.specs.Chooser.{chosen, part_of}
 use Rattle.probe.specs.Words.{words_bytes}

@@ -1,16 +1,13 @@
-use Prim.Native.Nat.{◌+◌, ◌-◌, ◌*◌, ◌≤◌}
-use mathlib.Core.Path.{◌≡◌, refl}
+use Prim.Native.Nat.{◌+◌, ◌*◌}
+use mathlib.Core.Path.{◌≡◌}
 use mathlib.Core.List.{flatten}
-use native.Mathlib.Nat.{add-zero}
 use native.Mathlib.Numerals.{add-one}
 use native.Mathlib.Omega.{arith}
-use lib.ListN.{length, get_or}
-use lib.Seq.{sets, slice, slice_empty, length-sets}
-use borrow.Author.Rules.{rules}
+use lib.ListN.{get_or}
+use lib.Seq.{slice_empty, length-sets}
 use Rattle.words.specs.Words.{word_length}
 use Rattle.kinds.proofs.Lists.{sets-append}
 use Rattle.words.proofs.Storing.{length-lowest_first, put_stores}
-use Rattle.probe.specs.Words.{words_bytes}
 use Rattle.probe.proofs.Words.{words_next}
 use Rattle.probe.proofs.put_words.Goals as goal
 

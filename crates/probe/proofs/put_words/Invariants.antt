@@ -1,18 +1,10 @@
 -- `probe::put_words` meets its contract. The loop's invariant is that storing the other words behind those that are written completes the buffer.
 use Prim.Native.Nat.{◌+◌, ◌-◌, ◌*◌, ◌≤◌}
-use mathlib.Core.Path.{◌≡◌, refl}
-use mathlib.Core.List.{flatten}
-use native.Mathlib.Nat.{add-zero}
-use native.Mathlib.Numerals.{add-one}
-use native.Mathlib.Omega.{arith}
-use lib.ListN.{length, get_or}
-use lib.Seq.{sets, slice, slice_empty, length-sets}
-use borrow.Author.Rules.{rules}
+use mathlib.Core.Path.{◌≡◌}
+use lib.ListN.{length}
+use lib.Seq.{sets, slice}
 use Rattle.words.specs.Words.{word_length}
-use Rattle.kinds.proofs.Lists.{sets-append}
-use Rattle.words.proofs.Storing.{length-lowest_first, put_stores}
 use Rattle.probe.specs.Words.{words_bytes}
-use Rattle.probe.proofs.Words.{words_next}
 use Rattle.probe.proofs.put_words.Given as goal
 
 abbrev pub invariant-loop-k : goal.invariant-loop-k

@@ -1,9 +1,7 @@
-use Prim.Native.Nat.{◌-◌}
 use mathlib.Core.Path.{refl, sym, ◌∙◌}
 use mathlib.Core.List.{flatten}
-use borrow.Author.Rules.{rules}
 use native.Mathlib.Omega.{arith}
-use Rattle.probe.proofs.Traces.{Standing, start_standing, one_standing, all_standing}
+use Rattle.probe.proofs.Traces.{one_standing, all_standing}
 use Rattle.probe.proofs.trace.Goals as goal
 
 pub returns-then-shown-eq0 : goal.returns-then-shown-eq0

@@ -1,10 +1,6 @@
 -- `probe::trace` meets its contract: each turn of the loop writes one more answer into the buffer.
 use Prim.Native.Nat.{◌-◌}
-use mathlib.Core.Path.{refl, sym, ◌∙◌}
-use mathlib.Core.List.{flatten}
-use borrow.Author.Rules.{rules}
-use native.Mathlib.Omega.{arith}
-use Rattle.probe.proofs.Traces.{Standing, start_standing, one_standing, all_standing}
+use Rattle.probe.proofs.Traces.{Standing}
 use Rattle.probe.proofs.trace.Given as goal
 
 abbrev pub invariant-loop-i : goal.invariant-loop-i

@@ -4,11 +4,10 @@ use mathlib.Core.Path.{◌≡◌, refl, ap, ◌∙◌}
 use mathlib.Core.List.{List, [], ◌∷◌, ◌++◌, append-nil, flatten}
 use native.Mathlib.Omega.{arith}
 use lib.Seq.{sets}
-use borrow.Author.Rules.{rules}
 use Rattle.words.specs.Words.{word_length, lowest_first}
 use Rattle.verdict.specs.declared.Verdict.{Verdict}
 use Rattle.verdict.specs.Verdict.{verdict_says}
-use Rattle.host.specs.Answer.{VerdictAnswered, wrong_size, said}
+use Rattle.host.specs.Answer.{VerdictAnswered, said}
 use Rattle.probe.specs.Words.{words_bytes}
 use Rattle.probe.proofs.Words.{words_fill}
 use Rattle.probe.proofs.verdict_every_length.Goals as goal

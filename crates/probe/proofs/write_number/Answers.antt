@@ -1,10 +1,7 @@
 -- `probe::write_number` meets its contract: a spelling has at most six bytes, so its length fits the number that is returned.
-use mathlib.Core.Path.{sym, ap, ◌∙◌}
+use mathlib.Core.Path.{sym, ◌∙◌}
 use native.Mathlib.Omega.{arith}
-use borrow.Author.Rules.{rules}
 use Rattle.numbers.proofs.Spellings.{length_answered, spelling_length}
-use Rattle.numbers.specs.Answers.{written_says}
-use Rattle.probe.specs.Written.{in_one_number}
 use Rattle.probe.proofs.write_number.Goals as goal
 
 pub overflow_cast-result : goal.overflow_cast-result
