@@ -50,7 +50,7 @@ pub fn end(run: &mut Run, serial: Serial) -> Ended
 }
 
 // A release by value that goes through the release of a lent run: the run is lent, and handed back beside the answer. Its parameters are plain values, so that
-// code which calls it needs no proof by hand. (6.19)
+// code can use it which has no run to lend. (6.19)
 pub fn release_lent(run: Run, row: RowNumber, cost: u64) -> ReleaseStep
     ensures { result ≡ released run row.0 cost }
 {
@@ -60,7 +60,7 @@ pub fn release_lent(run: Run, row: RowNumber, cost: u64) -> ReleaseStep
 }
 
 // A tick by value that goes through the tick of a lent run: the run is lent, and handed back beside the answer. Its parameters are plain values, so that code
-// which calls it needs no proof by hand. (6.19)
+// can use it which has no run to lend. (6.19)
 pub fn tick_lent(run: Run) -> TickStep
     ensures { result ≡ ticked run }
 {
@@ -74,7 +74,7 @@ pub fn tick_lent(run: Run) -> TickStep
 }
 
 // An end by value that goes through the end of a lent run: the run is lent, and handed back beside the answer. Its parameters are plain values, so that code
-// which calls it needs no proof by hand. (6.19)
+// can use it which has no run to lend. (6.19)
 pub fn end_lent(run: Run, serial: Serial) -> EndStep
     ensures { result ≡ ended run serial.0 }
 {

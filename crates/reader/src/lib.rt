@@ -39,7 +39,7 @@ impl<'a> ScriptReader<'a> {
     }
 }
 
-// One step of a script reader that holds this script at this place. Its parameters are plain, so that code which calls it needs no proof by hand. (7.7)
+// One step of a script reader that holds this script at this place. Its parameters are plain, so that code can use it which has no reader. (7.7)
 pub fn read_through(script: &[u8], at: usize) -> Yielded
     ensures { result ≡ yielded script.now at }
 {

@@ -1,6 +1,7 @@
--- What the proofs by hand of the four exported calls on a live run have in common. Each goes through the function's MIR, the compiler's code, one step after
--- another: it opens the borrow of the run, copies the run out, passes it to the step by value with the answer buffer, stores the run that this returns, and
--- closes the borrow at it. The steps below are proved for any types, as a run is too large to be compared at every step when it is spelled out.
+-- What proofs by hand of the four calls on a live run have in common. Nothing cites it now, since the check makes these proofs by itself. Such a proof goes
+-- through the function's MIR, the compiler's code, one step after another: it opens the borrow of the run, copies the run out, passes it to the step by value
+-- with the answer buffer, stores the run that this returns, and closes the borrow at it. The steps below are proved for any types, as a run is too large to be
+-- compared at every step when it is spelled out.
 use mathlib.Core.Path.{refl, ap, sym, subst}
 use Prim.Native.Nat.{ℕ, zero}
 use mathlib.Core.List.{[], ◌∷◌, List}
