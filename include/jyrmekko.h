@@ -24,18 +24,18 @@
  *
  * Time and stack. Both are measured, and not proved. The times are microseconds on an AMD EPYC processor with little
  * other work beside it, on the slowest inputs that were found for each call. For replay() they are microseconds for
- * each job. They are of the library as the kit before this one compiled it. The stack is the most bytes that a call
+ * each job. They are of an earlier library. The stack is the most bytes that a call
  * takes below its caller, with any input. In the first call of a program the dynamic linker binds memcpy() and
  * memset(), which takes some thousand bytes more, 3,200 on that processor. Times and stack are measured by
  * bench/worst.c and c/test_stack_use.c, which stand in the repository. The numbers are the highest median of ten runs,
  * the slowest of all calls in them, and the stack:
  *
- *     verdict()       5,100     7,900    54,300
- *     replay()          0.5       0.7    69,000
- *     run_start()         6        69   104,400
- *     run_release()      24       150   238,000
- *     run_tick()         11        56   138,400
- *     run_end()          24       139   177,500
+ *     verdict()       5,100     7,900    55,200
+ *     replay()          0.5       0.7    73,100
+ *     run_start()         6        69    63,100
+ *     run_release()      24       150   225,800
+ *     run_tick()         11        56   138,500
+ *     run_end()          24       139   221,900
  *
  * A verdict on a small table takes less than a microsecond. The times of replay() are for jobs of which each goes before
  * 255 others that wait. Where each goes behind those that wait, or none waits, it takes 0.02 to 0.06 microseconds for
@@ -197,15 +197,15 @@ extern "C" {
 
 /*
  * The bytes of stack with which a thread can make verdict() and replay(). With what the system itself puts on a
- * thread's stack, a thread needs at most 77,824 bytes for them. The other 20,480 are room, for the functions that make
+ * thread's stack, a thread needs at most 81,920 bytes for them. The other 16,384 are room, for the functions that make
  * the call and for signal handlers.
  */
 #define JYRMEKKO_STACK_SIZE 98304
 
 /*
  * The bytes of stack with which a thread can make every call. A live call works on copies of the run, and they stand
- * on the stack. With what the system itself puts on a thread's stack, a thread needs at most 245,760 bytes. The other
- * 61,440 are room, as above.
+ * on the stack. With what the system itself puts on a thread's stack, a thread needs at most 233,472 bytes. The other
+ * 73,728 are room, as above.
  */
 #define JYRMEKKO_RUN_STACK_SIZE 307200
 

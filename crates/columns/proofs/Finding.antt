@@ -42,32 +42,24 @@ module _ (due serial : ℕ) where
 
 -- The jobs that stand from `first` on have been looked at from the last down to the entry `at`, and a job with this due time and serial goes before all these.
 abbrev pub Looked : (due serial : ℕ) (dues serials : List ℕ) (first count at : ℕ) → Type 0
-Looked due serial dues serials first count at = length dues ≡ max_entries → length serials ≡ max_entries
-    → AfterFrom due serial (entries first count dues) (entries first count serials) (at - first)
+Looked due serial dues serials first count at = AfterFrom due serial (entries first count dues) (entries first count serials) (at - first)
 
 -- The entry `at` is the one where a job with this due time and serial goes in.
 abbrev pub Found : (due serial : ℕ) (dues serials : List ℕ) (first count at : ℕ) → Type 0
-Found due serial dues serials first count at = length dues ≡ max_entries → length serials ≡ max_entries
-    → at ≡ first + (count - behind due serial (entries first count dues) (entries first count serials))
+Found due serial dues serials first count at =
+    at ≡ first + (count - behind due serial (entries first count dues) (entries first count serials))
 
 -- The entry at k of a part of a list is that at `first + k` of the list.
 entry_at : (l : List ℕ) (first count k : ℕ) → k < count → get_or (entries first count l) k 0 ≡ get_or l (first + k) 0
 entry_at l first count k h = get_or-take count (drop first l) k 0 h ∙ get_or-drop first l k 0
 
-module _ (due serial : ℕ) (dues serials : List ℕ) (first count : ℕ) (within : first + count ≤ max_entries) where
+module _ (due serial : ℕ) (dues serials : List ℕ) (d : length dues ≡ max_entries) (s : length serials ≡ max_entries) (first count : ℕ)
+    (within : first + count ≤ max_entries) where
   -- At the start no job has been looked at.
   pub looked_none : Looked due serial dues serials first count (first + count)
-  looked_none d s =
+  looked_none =
       after_none due serial (entries first count dues) (entries first count serials) (first + count - first)
       (omega (arith, entries_many dues first count (omega arith)))
-
-  -- Once all jobs have been looked at, the job goes in before the first of them.
-  pub looked_all : (at : ℕ) → first ≤ at → at ≤ first → Looked due serial dues serials first count at → Found due serial dues serials first count at
-  looked_all at h k looked d s =
-      let none : at - first ≡ 0 = omega arith in
-      let all : behind due serial (entries first count dues) (entries first count serials) ≡ length (entries first count dues) - 0 =
-      rw none at (looked d s) in
-      omega (arith, entries_many dues first count (omega arith))
 
   module _ (at : ℕ) (h : first < at) (k : at ≤ first + count) (looked : Looked due serial dues serials first count at) where
     -- The job before the entry `at` is looked at by its place among the jobs.
@@ -79,21 +71,21 @@ module _ (due serial : ℕ) (dues serials : List ℕ) (first count : ℕ) (withi
 
     -- Where the job goes before the one before the entry `at`, that one has been looked at too.
     pub looked_more : due_before due serial (get_or dues (at - 1) 0) (get_or serials (at - 1) 0) ≡ true → Looked due serial dues serials first count (at - 1)
-    looked_more t d s =
+    looked_more t =
         let e : at - first ≡ suc (at - 1 - first) = omega arith in
         let dues_many = entries_many dues first count (omega arith) in
         let serials_many = entries_many serials first count (omega arith) in
         after_more due serial (entries first count dues) (entries first count serials) (at - 1 - first) (serials_many ∙ sym dues_many)
-        (omega arith) (rw e at (looked d s)) (looked_here ∙ t)
+        (omega arith) (rw e at looked) (looked_here ∙ t)
 
     -- Where the job does not go before the one before the entry `at`, it goes in there.
     pub looked_last : due_before due serial (get_or dues (at - 1) 0) (get_or serials (at - 1) 0) ≡ false → Found due serial dues serials first count at
-    looked_last t d s =
+    looked_last t =
         let e : at - first ≡ suc (at - 1 - first) = omega arith in
         let dues_many = entries_many dues first count (omega arith) in
         let serials_many = entries_many serials first count (omega arith) in
         omega (
           arith,
           after_last due serial (entries first count dues) (entries first count serials) (at - 1 - first) (serials_many ∙ sym dues_many)
-              (omega arith) (rw e at (looked d s)) (looked_here ∙ t),
+              (omega arith) (rw e at looked) (looked_here ∙ t),
         )

@@ -1,4 +1,5 @@
 -- What columns hold: the jobs whose fields stand in the used entries, also after a job was put in and after ticks. (docs/RULES.md, section 6.)
+use Rattle.std.specs.Prelude.{Some}
 use Prim.Native.Nat.{ℕ, zero, suc, ◌+◌, ◌-◌, ◌≤◌, ◌<◌, min}
 use mathlib.Core.Path.{◌≡◌, refl, sym, ap, ◌∙◌}
 use mathlib.Core.List.{List, [], ◌∷◌, ◌++◌, map, append_assoc}
@@ -11,8 +12,9 @@ use borrow.Author.Tests.{lt-ltb, le-ltb, eq-eqb, ne_eqb, le-leb, lt-leb}
 use Rattle.jobs.specs.declared.Job.{Job}
 use Rattle.jobs.specs.Places.{max_places}
 use Rattle.jobs.specs.Turns.{finish_at}
-use Rattle.columns.specs.declared.WorkAnswer.TheVariants as answer
-use Rattle.columns.specs.Columns.{Columns, columns, ColumnsHold, max_entries, used_in, start_in, entries, serials_of, dues_of, behind, moved_down, opened_up}
+use Rattle.columns.specs.declared.Columns.{Columns}
+use lib.ListN.{length-replicate}
+use Rattle.columns.specs.Columns.{columns, AllEntries, empty_columns, ColumnsHold, max_entries, used_in, start_in, entries, serials_of, dues_of, behind, moved_down, opened_up}
 use Rattle.columns.specs.Columns.{settled, with_room, place_for, put_at, put_in}
 use Rattle.columns.specs.Ticks.{units_to_go, worked_by, first_finish, work_on, work_answer}
 use Rattle.columns.specs.Ordered.{in_place}
@@ -143,6 +145,14 @@ nothing_is_held c all e = record {
   dues_are = rw e;
   left_are = rw e;
 }
+
+-- The empty columns have all their entries, and hold no job.
+pub empty_has_all : AllEntries empty_columns
+empty_has_all =
+    let all = length-replicate {A = ℕ} max_entries 0 in record { of_serials = all; of_rows = all; of_releases = all; of_dues = all; of_left = all }
+
+pub empty_holds_nothing : ColumnsHold empty_columns []
+empty_holds_nothing = nothing_is_held empty_columns empty_has_all refl
 
 -- The job whose fields stand at an entry. Columns hold no stated cost, so 0 stands for it.
 abbrev job_at : Columns → ℕ → Job
@@ -312,7 +322,7 @@ work_holds c (j ∷ js) clock until h =
                 record {
                   holds = rw (some, test, ticks, same, enough) (rest_holds h);
                   clock_so = rw (some, test, ticks, same, enough);
-                  answer_so = rw (some, test, ticks, same, enough) (ap answer.Finished (finish_is h (clock + units)));
+                  answer_so = rw (some, test, ticks, same, enough) (ap Some (finish_is h (clock + units)));
                 }
             | no l ↦
                 let few = lt-ltb (until - clock) units (omega arith) in

@@ -1,30 +1,11 @@
 -- Which job is chosen, by lists of due times and serials. (docs/RULES.md, 6.11.)
-use Prim.Native.Nat.{ℕ, suc, ◌≤◌, ◌<◌}
+use Prim.Native.Nat.{ℕ, suc}
 use mathlib.Core.Path.{◌≡◌, refl}
-use mathlib.Core.Bool.{true, false}
 use mathlib.Core.List.{List, [], ◌∷◌}
-use native.Mathlib.Omega.{arith}
-use lib.Dec.{ltb}
-use borrow.Author.Tests.{lt-ltb, le-ltb}
 use Rattle.jobs.specs.declared.Job.{Job}
 use Rattle.jobs.specs.Choice.{goes_before, first_from, first_place}
 use Rattle.kinds.proofs.Apart.{impossible}
-use Rattle.columns.specs.Columns.{serials_of, dues_of, due_before}
-
--- ---- which of two jobs is chosen
-
-module _ (due serial other its : ℕ) where
-  -- A job with the earlier due time goes before the other.
-  pub before_by_due : due < other → true ≡ due_before due serial other its
-  before_by_due h = rw (lt-ltb due other h)
-
-  -- A job with the later due time does not go before the other.
-  pub not_before_by_due : other < due → false ≡ due_before due serial other its
-  not_before_by_due h = rw (le-ltb due other (omega arith), lt-ltb other due h)
-
-  -- Among equal due times the serial decides.
-  pub before_by_serial : other ≤ due → due ≤ other → ltb serial its ≡ due_before due serial other its
-  before_by_serial h k = rw (le-ltb due other h, le-ltb other due k)
+use Rattle.columns.specs.Columns.{serials_of, dues_of}
 
 -- ---- jobs with the same due times and serials have the same choice
 

@@ -1,20 +1,18 @@
 -- What the two calls on columns answer, in numbers. (docs/RULES.md, sections 6 and 10.)
-use Rattle.std.specs.Prelude.{[], ◌∷◌}
+use Rattle.std.specs.Prelude.{[], ◌∷◌, Option, Some, None, Result, Ok, Err}
 use Rattle.kinds.specs.Numbering.{Says, numbered, values, refused_says, without_place, NeverNumberedZero, SaysApart}
-use Rattle.columns.specs.declared.PutAnswer.{PutAnswer}
-use Rattle.columns.specs.declared.PutAnswer.TheVariants as put
-use Rattle.columns.specs.declared.WorkAnswer.{WorkAnswer}
-use Rattle.columns.specs.declared.WorkAnswer.TheVariants as work
+use Rattle.kinds.specs.declared.Finish.{Finish}
+use Rattle.kinds.specs.declared.Refusal.{Refusal}
 
--- What the answer to a job put in says: the entry of the first job and how many jobs are pending now, or the refusal, which names no place. (1.17, 6.8, 10.2)
-abbrev pub put_in_says : PutAnswer → Says
-put_in_says (put.Stand s) = values (s.first ∷ s.count ∷ [])
-put_in_says (put.Refused r) = numbered (refused_says (without_place r))
+-- What the answer to a job put in says: no value, or the refusal, which names no place. (1.17, 6.8, 10.2)
+abbrev pub put_in_says : Result (Unit {0}) Refusal → Says
+put_in_says (Ok _) = values []
+put_in_says (Err r) = numbered (refused_says (without_place r))
 
 -- What the answer of `work` says: serial, row number, release, due time and finish of the job that finished, or no value where none did. (1.17, 6.13)
-abbrev pub work_says : WorkAnswer → Says
-work_says (work.Finished f) = values (f.serial.0 ∷ f.row.0 ∷ f.release.0 ∷ f.due.0 ∷ f.finish.0 ∷ [])
-work_says work.Nobody = values []
+abbrev pub work_says : Option Finish → Says
+work_says (Some f) = values (f.serial.0 ∷ f.row.0 ∷ f.release.0 ∷ f.due.0 ∷ f.finish.0 ∷ [])
+work_says None = values []
 
 -- ---- what is proved (proofs/Answers.antt)
 

@@ -1,12 +1,12 @@
 -- The laws of columns: what they hold, a job put in, and ticks given to the job that goes first. (docs/RULES.md, section 6.)
-use Rattle.std.specs.Prelude.{ℕ, suc, ◌+◌, ◌≤◌, ◌<◌, ◌≡◌, true, false, List, [], length, set}
+use Rattle.std.specs.Prelude.{ℕ, suc, ◌+◌, ◌≤◌, ◌<◌, ◌≡◌, true, false, List, [], length, set, Some, None}
 use Rattle.kinds.specs.declared.Finish.{Finish}
 use Rattle.jobs.specs.declared.Job.{Job}
 use Rattle.jobs.specs.Places.{max_places, without}
 use Rattle.jobs.specs.Choice.{first_place}
 use Rattle.jobs.specs.Units.{last_unit}
-use Rattle.columns.specs.declared.WorkAnswer.TheVariants as answer
-use Rattle.columns.specs.Columns.{Columns, AllEntries, used_in, ColumnsHold, put_in}
+use Rattle.columns.specs.declared.Columns.{Columns}
+use Rattle.columns.specs.Columns.{AllEntries, used_in, ColumnsHold, put_in}
 use Rattle.columns.specs.Ticks.{nobody_at, finished_at, first_of, after_tick, worked_for, units_to_go, worked_by}
 use Rattle.columns.specs.Ordered.{in_place}
 use Rattle.columns.specs.Outcomes.{HeldJobs, WorksAs, NobodyYet, OneFinished}
@@ -69,19 +69,19 @@ NoMoreThanItsUnits = (n clock : ℕ) (js : List Job) → length (worked_for n cl
 
 -- If no job finishes in n ticks, then n + m ticks are those n ticks followed by m more.
 abbrev pub InTwoParts : Type 0
-InTwoParts = (n m clock : ℕ) (js : List Job) → (worked_for n clock js).answer ≡ answer.Nobody
+InTwoParts = (n m clock : ℕ) (js : List Job) → (worked_for n clock js).answer ≡ None
     → worked_for (n + m) clock js ≡ worked_for m (worked_for n clock js).clock (worked_for n clock js).jobs
 
 -- If a job finishes in n ticks, allowing m more ticks changes nothing.
 abbrev pub FinishedStays : Type 0
-FinishedStays = (n m clock : ℕ) (js : List Job) (f : Finish) → (worked_for n clock js).answer ≡ answer.Finished f
+FinishedStays = (n m clock : ℕ) (js : List Job) (f : Finish) → (worked_for n clock js).answer ≡ Some f
     → worked_for (n + m) clock js ≡ worked_for n clock js
 
 -- If no job finishes in n ticks, as many jobs are pending as before, and the clock has gone up by n unless nothing was pending. (6.10, 6.13)
 abbrev pub NobodyMeans : Type 0
-NobodyMeans = (n clock : ℕ) (js : List Job) → (worked_for n clock js).answer ≡ answer.Nobody → NobodyYet n clock js (worked_for n clock js)
+NobodyMeans = (n clock : ℕ) (js : List Job) → (worked_for n clock js).answer ≡ None → NobodyYet n clock js (worked_for n clock js)
 
 -- If a job finishes in n ticks, one job fewer is pending, and its finish is the clock that was reached. (6.13)
 abbrev pub FinishedMeans : Type 0
-FinishedMeans = (n clock : ℕ) (js : List Job) (f : Finish) → (worked_for n clock js).answer ≡ answer.Finished f
+FinishedMeans = (n clock : ℕ) (js : List Job) (f : Finish) → (worked_for n clock js).answer ≡ Some f
     → OneFinished n clock js f (worked_for n clock js)

@@ -1,26 +1,15 @@
--- Pending jobs in five lists of numbers, one list for each field of a job: which jobs the lists hold, and how a job is put in. The jobs stand in the order in
--- which they are chosen. (docs/RULES.md, section 6.)
-use Rattle.std.specs.Prelude.{ℕ, suc, ◌+◌, ◌-◌, ◌*◌, min, ◌≡◌, Bool, true, false, cond, ◌&&◌, List, [], ◌∷◌, ◌++◌, map, eqb, ltb, length, take, drop}
+-- Pending jobs in five lists of numbers, one list for each field of a job, and where the jobs stand in them: from the entry `first` on, as many as the count
+-- says, in the order in which they are chosen. Which jobs the lists hold, and how a job is put in. (docs/RULES.md, section 6.)
+use Rattle.std.specs.Prelude.{ℕ, suc, ◌+◌, ◌-◌, ◌*◌, min, ◌≡◌, Bool, true, false, cond, ◌&&◌, List, [], ◌∷◌, ◌++◌, map, eqb, ltb, length, take, drop, replicate, Result, Ok, Err}
+use Rattle.kinds.specs.declared.Refusal.{Refusal}
 use Rattle.kinds.specs.declared.Refusal.TheVariants as refusal
 use Rattle.jobs.specs.declared.Job.{Job}
 use Rattle.jobs.specs.Places.{max_places}
-use Rattle.columns.specs.declared.Span.{Span}
-use Rattle.columns.specs.declared.PutAnswer.{PutAnswer}
-use Rattle.columns.specs.declared.PutAnswer.TheVariants as answer
+use Rattle.columns.specs.declared.Columns.{Columns}
 
 -- A list has this many entries: twice as many as there are places. (6.2)
 abbrev pub max_entries : ℕ
 max_entries = 2 * max_places
-
--- Columns are five lists of numbers, and where jobs stand in them: from the entry `first` on, as many as the count says.
-pub record Columns : Type 0 where
-  pub serials : List ℕ
-  pub rows : List ℕ
-  pub releases : List ℕ
-  pub dues : List ℕ
-  pub left : List ℕ
-  pub first : ℕ
-  pub count : ℕ
 
 -- The columns that five lists, a first entry and a count make.
 abbrev pub columns : (serials rows releases dues left : List ℕ) (first count : ℕ) → Columns
@@ -33,6 +22,11 @@ columns serials rows releases dues left first count = record {
   first = first;
   count = count;
 }
+
+-- No job is pending, and every entry is 0. (6.3)
+abbrev pub empty_columns : Columns
+empty_columns =
+    let zeros = replicate max_entries 0 in columns zeros zeros zeros zeros zeros 0 0
 
 -- Every list has all its entries.
 pub record AllEntries (c : Columns) : Type 0 where
@@ -148,14 +142,6 @@ put_at c at j =
 unfoldable pub put_in : Columns → Job → Columns
 put_in c j = cond (ltb c.count max_places) (put_at (with_room c) (place_for (with_room c) j) j) c
 
--- The answer to a job that is put in: where the jobs stand now, or refusal 8 where all places are in use. (6.8, 10.7)
-abbrev pub put_answer : Columns → PutAnswer
-put_answer c =
-    cond (ltb c.count max_places)
-    (answer.Stand (record { first = (with_room c).first; count = c.count + 1 }))
-    (answer.Refused refusal.PlacesFull)
-
--- Where the jobs stand after a job was put in or refused.
-abbrev pub span_after : PutAnswer → (first count : ℕ) → Span
-span_after (answer.Stand s) first count = s
-span_after (answer.Refused r) first count = record { first = first; count = count }
+-- The answer to a job that is put in: it is done, or it is refusal 8 where all places are in use. (6.8, 10.7)
+abbrev pub put_answer : Columns → Result (Unit {0}) Refusal
+put_answer c = cond (ltb c.count max_places) (Ok tt) (Err refusal.PlacesFull)

@@ -2,7 +2,8 @@
 use Rattle.std.specs.Prelude.{ℕ, ◌+◌, ◌-◌, ◌≤◌, ◌<◌, ◌≡◌, List, length}
 use Rattle.kinds.specs.declared.Finish.{Finish}
 use Rattle.jobs.specs.declared.Job.{Job}
-use Rattle.columns.specs.Columns.{Columns, ColumnsHold}
+use Rattle.columns.specs.declared.Columns.{Columns}
+use Rattle.columns.specs.Columns.{ColumnsHold}
 use Rattle.columns.specs.Ticks.{Reached, worked_first, work_on, work_answer}
 
 -- A list of jobs that these columns hold.
@@ -15,7 +16,7 @@ pub record HeldJobs (c : Columns) : Type 0 where
 pub record WorksAs (c : Columns) (js : List Job) (clock until : ℕ) : Type 0 where
   pub holds : ColumnsHold (work_on c clock until) (worked_first (until - clock) clock js).jobs
   pub clock_so : (work_answer c clock until).clock.0 ≡ (worked_first (until - clock) clock js).clock
-  pub answer_so : (work_answer c clock until).answer ≡ (worked_first (until - clock) clock js).answer
+  pub answer_so : (work_answer c clock until).finished ≡ (worked_first (until - clock) clock js).answer
 
 -- No job has finished in n ticks: as many jobs are pending as before, and the clock has gone up by n unless nothing was pending.
 pub record NobodyYet (n clock : ℕ) (js : List Job) (r : Reached) : Type 0 where

@@ -1,5 +1,5 @@
 -- Ticks on pending jobs until one of them finishes, and what such ticks make of columns, in which the first job goes first. (docs/RULES.md, section 6.)
-use Rattle.std.specs.Prelude.{ℕ, zero, suc, ◌+◌, ◌-◌, cond, ◌||◌, List, [], ◌∷◌, eqb, leb, ltb, length, get_or, set}
+use Rattle.std.specs.Prelude.{ℕ, zero, suc, ◌+◌, ◌-◌, cond, ◌||◌, List, [], ◌∷◌, eqb, leb, ltb, length, get_or, set, Option, Some, None}
 use Rattle.kinds.specs.declared.Finish.{Finish}
 use Rattle.jobs.specs.declared.Job.{Job}
 use Rattle.jobs.specs.Places.{no_job}
@@ -8,23 +8,22 @@ use Rattle.jobs.specs.Units.{last_unit}
 use Rattle.jobs.specs.Turns.{finish_at}
 use Rattle.jobs.specs.JobChanges.{unit_at}
 use Rattle.columns.specs.declared.Worked.{Worked}
-use Rattle.columns.specs.declared.WorkAnswer.{WorkAnswer}
-use Rattle.columns.specs.declared.WorkAnswer.TheVariants as answer
-use Rattle.columns.specs.Columns.{Columns, columns, used_in, start_in, settled}
+use Rattle.columns.specs.declared.Columns.{Columns}
+use Rattle.columns.specs.Columns.{columns, used_in, start_in, settled}
 
 -- What some ticks have led to: the jobs that are pending, the clock, and the job that finished, if one did.
 pub record Reached : Type 0 where
   pub jobs : List Job
   pub clock : ℕ
-  pub answer : WorkAnswer
+  pub answer : Option Finish
 
 -- At this clock these jobs are pending, and no job has finished.
 abbrev pub nobody_at : (clock : ℕ) → List Job → Reached
-nobody_at clock js = record { jobs = js; clock = clock; answer = answer.Nobody }
+nobody_at clock js = record { jobs = js; clock = clock; answer = None }
 
 -- A job finished at this clock, and these jobs are still pending. (6.13)
 abbrev pub finished_at : (clock : ℕ) → Job → List Job → Reached
-finished_at clock j js = record { jobs = js; clock = clock; answer = answer.Finished (finish_at clock j) }
+finished_at clock j js = record { jobs = js; clock = clock; answer = Some (finish_at clock j) }
 
 -- The job that the next tick chooses: the earliest due time, and the lowest serial among equal due times. (6.11)
 abbrev pub first_of : List Job → Job
@@ -83,16 +82,11 @@ work_on c clock until =
     (columns c.serials c.rows c.releases c.dues (set c.left (start_in c) (get_or c.left (start_in c) 0 - (until - clock))) (start_in c) (used_in c))
     (columns c.serials c.rows c.releases c.dues c.left (start_in c + 1) (used_in c - 1)))
 
--- The clock, the place of the jobs and the job that finished, if one did, after ticks from `clock` up to `until`. (6.10 to 6.13)
+-- The clock and the job that finished, if one did, after ticks from `clock` up to `until`. (6.10 to 6.13)
 unfoldable pub work_answer : Columns → (clock until : ℕ) → Worked
 work_answer c clock until =
     cond (eqb (used_in c) 0 || leb until clock)
-    (record { clock = record { 0 = clock }; first = start_in c; count = used_in c; answer = answer.Nobody })
+    (record { clock = record { 0 = clock }; finished = None })
     (cond (ltb (until - clock) (units_of_first c))
-    (record { clock = record { 0 = until }; first = start_in c; count = used_in c; answer = answer.Nobody })
-    (record {
-      clock = record { 0 = clock + units_of_first c };
-      first = start_in c + 1;
-      count = used_in c - 1;
-      answer = answer.Finished (first_finish c (clock + units_of_first c));
-    }))
+    (record { clock = record { 0 = until }; finished = None })
+    (record { clock = record { 0 = clock + units_of_first c }; finished = Some (first_finish c (clock + units_of_first c)) }))

@@ -1,4 +1,4 @@
-// Pending jobs in lent arrays of numbers, one array for each field of a job. They stand in the order in which they are chosen, so that the first of them goes
+// Pending jobs in arrays of numbers, one array for each field of a job. They stand in the order in which they are chosen, so that the first of them goes
 // first. A job is put in where it belongs, and ticks are given until a job finishes. Nothing here depends on tables, scripts or logs, and no call copies an
 // array. (docs/RULES.md, section 6.)
 #![tactic(auto)]
@@ -6,153 +6,129 @@
 mod places;
 
 ghost use Rattle.std.specs.Prelude.{◌≡◌};
-ghost use Rattle.columns.specs.Columns.{columns, AllEntries, put_in, put_answer, span_after};
+ghost use Rattle.columns.specs.Columns.{empty_columns, put_in, put_answer};
 ghost use Rattle.columns.specs.Ticks.{work_on, work_answer};
 
-use crate::places::{in_use, move_down, open_up, place_for, start_of, units_to_go};
+use crate::places::{move_down, open_up, place_for, start_of, units_to_go};
 use jobs::{Job, Pending};
 use kinds::{Finish, Refusal, RowNumber, Serial, Tick};
 
 // The entries of each array: twice as many as there are places, so that a job that leaves at the front seldom makes the others move.
 pub const ROOM: usize = 2 * Pending::PLACES;
 
-// Where the jobs stand in the arrays: the entry of the first, and how many they are.
-#[derive(Clone, Copy)]
-pub struct Span {
+// Pending jobs in five arrays of numbers, one array for each field of a job that is still needed. They stand in the order in which they are chosen, from the
+// entry `first` on, as many as the count says. A count above the number of places means all of them, and jobs that would reach past the end are the last
+// entries. (6.1)
+// There are five arrays, and not one of jobs: the search for a job's place reads due times and serials alone, which then lie close together.
+#[derive(Drop)]
+pub struct Columns {
+    pub serials: [u64; ROOM],
+    pub rows: [u64; ROOM],
+    pub releases: [u64; ROOM],
+    pub dues: [u64; ROOM],
+    pub left: [u64; ROOM],
     pub first: usize,
     pub count: usize,
 }
 
-// The answer to a job that is put in: where the jobs stand now, or a refusal.
-#[derive(Clone, Copy)]
-pub enum PutAnswer {
-    Stand(Span),
-    Refused(Refusal),
-}
-
-// The answer of some ticks: the job that finished, or that no job did.
-#[derive(Clone, Copy)]
-pub enum WorkAnswer {
-    Finished(Finish),
-    Nobody,
-}
-
-// What some ticks have led to: the clock, where the jobs stand, and the job that finished, if one did.
+// What some ticks have led to: the clock, and the job that finished, if one did.
 #[derive(Clone, Copy)]
 pub struct Worked {
     pub clock: Tick,
-    pub first: usize,
-    pub count: usize,
-    pub answer: WorkAnswer,
+    pub finished: Option<Finish>,
 }
 
-// Puts a job in behind those that are chosen before it. Where all places are in use, that is refusal 8. Where no entry is left behind the last job, all jobs
-// move to the front first. A count above the number of places means all of them, and jobs that would reach past the end are the last entries. (6.7, 6.8, 6.11,
-// 10.7)
-pub fn put(
-    serials: &mut [u64; ROOM],
-    rows: &mut [u64; ROOM],
-    releases: &mut [u64; ROOM],
-    dues: &mut [u64; ROOM],
-    left: &mut [u64; ROOM],
-    first: usize,
-    count: usize,
-    job: Job,
-) -> PutAnswer
-    ensures { (result ≡ put_answer
-        (columns serials.old rows.old releases.old dues.old left.old first count))
-        × (AllEntries (columns serials.old rows.old releases.old dues.old left.old first count)
-        → columns serials.new rows.new releases.new dues.new left.new
-        (span_after result first count).first (span_after result first count).count
-        ≡ put_in (columns serials.old rows.old releases.old dues.old left.old first count) job) }
-{
-    if Pending::PLACES <= count {
-        return PutAnswer::Refused(Refusal::PlacesFull);
+impl Columns {
+    // No job is pending, and every entry is 0. (6.3)
+    pub fn empty() -> Columns
+        ensures { result ≡ empty_columns }
+    {
+        Columns {
+            serials: [0; ROOM],
+            rows: [0; ROOM],
+            releases: [0; ROOM],
+            dues: [0; ROOM],
+            left: [0; ROOM],
+            first: 0,
+            count: 0,
+        }
     }
-    let mut start = start_of(first, count);
-    let more = count + 1;
-    if start + count == ROOM {
-        move_down(serials, start, count);
-        move_down(rows, start, count);
-        move_down(releases, start, count);
-        move_down(dues, start, count);
-        move_down(left, start, count);
-        start = 0;
-    }
-    let at = place_for(dues, serials, start, count, job.due.0, job.serial.0);
-    let end = start + count;
-    open_up(serials, at, end, job.serial.0);
-    open_up(rows, at, end, job.row.0);
-    open_up(releases, at, end, job.release.0);
-    open_up(dues, at, end, job.due.0);
-    open_up(left, at, end, job.left);
-    PutAnswer::Stand(Span {
-        first: start,
-        count: more,
-    })
-}
 
-// Gives ticks until a job finishes, until the clock is at `until`, or until nothing is pending. All of them go to the first job, so they are counted in one
-// step. A count above the number of places means all of them, and jobs that would reach past the end are the last entries. (6.10 to 6.13)
-pub fn work(
-    serials: &[u64; ROOM],
-    rows: &[u64; ROOM],
-    releases: &[u64; ROOM],
-    dues: &[u64; ROOM],
-    left: &mut [u64; ROOM],
-    first: usize,
-    count: usize,
-    clock: Tick,
-    until: Tick,
-) -> Worked
-    ensures { (result ≡ work_answer
-        (columns serials.now rows.now releases.now dues.now left.old first count) clock.0 until.0)
-        × (columns serials.now rows.now releases.now dues.now left.new result.first result.count
-        ≡ work_on
-        (columns serials.now rows.now releases.now dues.now left.old first count)
-        clock.0 until.0) }
-{
-    let many = in_use(count);
-    let at = start_of(first, many);
-    if many == 0 {
-        return Worked {
-            clock,
-            first: at,
-            count: many,
-            answer: WorkAnswer::Nobody,
-        };
+    // Puts a job in behind those that are chosen before it. Where all places are in use, that is refusal 8, and nothing changes. Where no entry is left behind
+    // the last job, all jobs move to the front first. (6.7, 6.8, 6.11, 10.7)
+    pub fn put(&mut self, job: Job) -> Result<(), Refusal>
+        ensures answer { result ≡ put_answer self.old }
+        ensures columns { self.new ≡ put_in self.old job }
+    {
+        if Pending::PLACES <= self.count {
+            return Err(Refusal::PlacesFull);
+        }
+        let count = self.count;
+        let mut start = start_of(self.first, count);
+        if start + count == ROOM {
+            move_down(&mut self.serials, start, count);
+            move_down(&mut self.rows, start, count);
+            move_down(&mut self.releases, start, count);
+            move_down(&mut self.dues, start, count);
+            move_down(&mut self.left, start, count);
+            start = 0;
+        }
+        let at = place_for(
+            &self.dues,
+            &self.serials,
+            start,
+            count,
+            job.due.0,
+            job.serial.0,
+        );
+        let end = start + count;
+        open_up(&mut self.serials, at, end, job.serial.0);
+        open_up(&mut self.rows, at, end, job.row.0);
+        open_up(&mut self.releases, at, end, job.release.0);
+        open_up(&mut self.dues, at, end, job.due.0);
+        open_up(&mut self.left, at, end, job.left);
+        self.first = start;
+        self.count = count + 1;
+        Ok(())
     }
-    if until.0 <= clock.0 {
-        return Worked {
-            clock,
-            first: at,
-            count: many,
-            answer: WorkAnswer::Nobody,
-        };
-    }
-    let ticks = until.0 - clock.0;
-    let units = units_to_go(left[at]);
-    if ticks < units {
-        left[at] = units - ticks;
-        return Worked {
-            clock: until,
-            first: at,
-            count: many,
-            answer: WorkAnswer::Nobody,
-        };
-    }
-    let end = clock.0 + units;
-    let job = Finish {
-        serial: Serial(serials[at]),
-        row: RowNumber(rows[at]),
-        release: Tick(releases[at]),
-        due: Tick(dues[at]),
-        finish: Tick(end),
-    };
-    Worked {
-        clock: Tick(end),
-        first: at + 1,
-        count: many - 1,
-        answer: WorkAnswer::Finished(job),
+
+    // Gives ticks until a job finishes, until the clock is at `until`, or until nothing is pending. All of them go to the first job, so they are counted in one
+    // step. (6.10 to 6.13)
+    pub fn work(&mut self, clock: Tick, until: Tick) -> Worked
+        ensures answer { result ≡ work_answer self.old clock.0 until.0 }
+        ensures columns { self.new ≡ work_on self.old clock.0 until.0 }
+    {
+        let many = self.count.min(Pending::PLACES);
+        let at = start_of(self.first, many);
+        self.first = at;
+        self.count = many;
+        if many == 0 || until <= clock {
+            return Worked {
+                clock,
+                finished: None,
+            };
+        }
+        let ticks = until.0 - clock.0;
+        let units = units_to_go(self.left[at]);
+        if ticks < units {
+            self.left[at] = units - ticks;
+            return Worked {
+                clock: until,
+                finished: None,
+            };
+        }
+        let end = Tick(clock.0 + units);
+        self.first = at + 1;
+        self.count = many - 1;
+        Worked {
+            clock: end,
+            finished: Some(Finish {
+                serial: Serial(self.serials[at]),
+                row: RowNumber(self.rows[at]),
+                release: Tick(self.releases[at]),
+                due: Tick(self.dues[at]),
+                finish: end,
+            }),
+        }
     }
 }

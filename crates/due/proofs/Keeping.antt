@@ -4,13 +4,14 @@ use Prim.Native.Nat.{ℕ, ◌+◌, ◌-◌, ◌≤◌, ◌<◌, min, max}
 use mathlib.Core.Path.{◌≡◌, sym, ap, ◌∙◌}
 use mathlib.Core.Bool.{true, false}
 use mathlib.Core.List.{List, [], ◌∷◌, ◌++◌, map}
-use native.Mathlib.Numerals.{add-one}
 use native.Mathlib.Omega.{arith}
-use borrow.Author.Tests.{le-leb, lt-leb}
-use lib.ListN.{length, take, drop, get_or, set, take-append-drop, drop_of_length-le, get_or-map}
+use borrow.Author.Tests.{le-leb}
+use lib.ListN.{length, take, drop, get_or, set, take-append-drop, get_or-map}
 use lib.ListN.{length-append, length-take, length-drop, length-map, length-reverse}
-use lib.Seq.{length-take-le, drop-cons, get_or-take}
-use Rattle.kinds.specs.Numbering.{max_time}
+use lib.Seq.{length-take-le, get_or-take}
+use Rattle.std.specs.Prelude.{Ok, Err}
+use Rattle.std.specs.List.{copy_within}
+use Rattle.std.proofs.lemmas.List.{get_or-reverse}
 use Rattle.kinds.specs.declared.Tick.{Tick}
 use Rattle.kinds.specs.declared.Refusal.TheVariants.{ValueOutOfRange}
 use Rattle.kinds.proofs.Lists.{take_as_many}
@@ -19,9 +20,8 @@ use Rattle.theory.proofs.DueTimes.{due_time_at_least_d, due_of_the_first, due_of
 use Rattle.table.specs.declared.Row.{Row}
 use Rattle.table.specs.Rows.{row_in_range}
 use Rattle.due.specs.declared.Kept.{Kept}
-use Rattle.due.specs.declared.KeepAnswer.TheVariants as keep
 use Rattle.due.specs.Kept.{max_kept, kept_times, earlier, last_ones, kept_as, kept_with, keep_step, none_too_late, kept_sound}
-use Rattle.due.proofs.Lists.{get_or-reverse, last_ones_all, last_ones_and_one, last_ones-take, stored_behind, moved_down}
+use Rattle.due.proofs.Lists.{last_ones_all, last_ones_and_one, last_ones-take, stored_behind}
 
 -- An unused place of the array holds the time 0.
 abbrev pub no_time : Tick
@@ -47,7 +47,7 @@ length-kept_times k n whole counted = length-take k.count k.times ∙ ap (min k.
 
 module _ (k : Kept) (n : ℕ) (used : length (kept_times k) ≡ n) where
   -- The kept due times are the first n of the array.
-  kept_first : kept_times k ≡ take n k.times
+  pub kept_first : kept_times k ≡ take n k.times
   kept_first = sym (take_as_many k.count k.times) ∙ ap (λ m. take m k.times) used
 
   -- The array has at least n places.
@@ -68,9 +68,9 @@ module _ (k : Kept) (n : ℕ) (used : length (kept_times k) ≡ n) where
   earlier_at : (x : ℕ) → 1 ≤ x → x ≤ n → get_or (earlier k) (x - 1) 0 ≡ (get_or k.times (n - x) no_time).0
   earlier_at x p h =
       let numbers = map number (kept_times k) in
-      let all : length numbers ≡ n = length-map (kept_times k) number ∙ used in
-      get_or-reverse numbers x 0 p (omega arith)
-      ∙ ap (λ m. get_or numbers (m - x) 0) all
+      let place : length numbers - 1 - (x - 1) ≡ n - x = omega (arith, length-map (kept_times k) number) in
+      get_or-reverse numbers (x - 1) 0 (omega (arith, length-map (kept_times k) number))
+      ∙ ap (λ m. get_or numbers m 0) place
       ∙ get_or-map number (kept_times k) (n - x) no_time
       ∙ ap number (kept_at (n - x) (omega arith))
 
@@ -101,12 +101,12 @@ keeps_all k r t out = rw out
 
 -- For a row out of range keeping is refused, and nothing changes.
 pub keep_refused : (k : Kept) (r : Row) (t : Tick) → row_in_range r ≡ false
-    → keep_step k r t ≡ record { kept = k; answer = keep.Refused ValueOutOfRange }
+    → keep_step k r t ≡ record { kept = k; answer = Err ValueOutOfRange }
 keep_refused k r t out = rw (keeps_all k r t out, out)
 
 -- For a row in range the due time is kept, and the answer says so.
 pub keep_done : (k : Kept) (r : Row) (t : Tick) {m : Kept} → row_in_range r ≡ true → kept_with k r t ≡ m
-    → keep_step k r t ≡ record { kept = m; answer = keep.Done }
+    → keep_step k r t ≡ record { kept = m; answer = Ok tt }
 keep_done k r t fine e = rw (e, fine)
 
 -- If an array begins with some due times, storing one at the place right after them keeps them and that one.
@@ -129,46 +129,25 @@ module _ (k : Kept) (n : ℕ) (used : length (kept_times k) ≡ n) (r : Row) (t 
 
   -- With x or more kept, the newest x - 1 move down to the start, and the new one goes right after them.
   pub kept_moved : 1 ≤ r.x → r.x ≤ n
-      → kept_with k r t ≡ record { times = set (moved_down (n - (r.x - 1)) (r.x - 1) k.times) (r.x - 1) t; count = r.x }
+      → kept_with k r t ≡ record { times = set (copy_within k.times (n - (r.x - 1)) n 0) (r.x - 1) t; count = r.x }
   kept_moved p h =
       let last = r.x - 1 in
       let newest = take last (drop (n - last) k.times) in
       let places : n ≤ length k.times = kept_inside k n used in
       let moved : length newest ≡ last = length-take-le last (drop (n - last) k.times) (omega (arith, length-drop (n - last) k.times)) in
       let one_more : last + 1 ≡ r.x = omega arith in
+      let all : n - (n - last) ≡ last = omega arith in
+      let start : 0 + last ≡ last = omega arith in
       kept_with_lem k r t fine
       ∙ ap (kept_as k) (last_ones_and_one r.x (kept_times k) t p)
       ∙ ap (λ l. kept_as k (last_ones last l ++ (t ∷ []))) (kept_first k n used)
       ∙ ap (λ l. kept_as k (l ++ (t ∷ []))) (last_ones-take last n k.times (omega arith) places)
       ∙ kept_stored k newest last t moved (omega arith)
-      ∙ rw one_more
+      ∙ rw (one_more, all, start)
 
 -- ---- whether what is kept for a row is sound
-
--- If more than x due times are counted, what is kept is not sound.
-pub unsound_count : (k : Kept) (r : Row) → r.x < k.count → kept_sound k r ≡ false
-unfolding kept_sound
-unsound_count k r h = rw (lt-leb k.count r.x h)
 
 -- If at most x due times are counted, what is kept is sound exactly when none is above 2^40.
 pub sound_count : (k : Kept) (r : Row) → k.count ≤ r.x → kept_sound k r ≡ none_too_late (kept_times k)
 unfolding kept_sound
 sound_count k r h = rw (le-leb k.count r.x h)
-
-module _ (k : Kept) (n : ℕ) (used : length (kept_times k) ≡ n) (i : ℕ) where
-  -- Past the last kept due time there is none above 2^40.
-  pub none_late_past : n ≤ i → none_too_late (drop i (kept_times k)) ≡ true
-  none_late_past h = rw (drop_of_length-le (kept_times k) {i = i} (omega arith))
-
-  module _ (inside : i < n) where
-    -- The kept due times from a place on are the one there and those from the next place on.
-    kept_from : drop i (kept_times k) ≡ get_or k.times i no_time ∷ drop (i + 1) (kept_times k)
-    kept_from = drop-cons (kept_times k) i no_time (omega arith) ∙ rw (kept_at k n used i inside, add-one i)
-
-    -- If the due time at the place is above 2^40, the test fails.
-    pub late_at : max_time < (get_or k.times i no_time).0 → none_too_late (drop i (kept_times k)) ≡ false
-    late_at h = rw (kept_from, lt-leb _ max_time h)
-
-    -- If the due time at the place is at most 2^40, those from the next place on settle the test.
-    pub in_time_at : (get_or k.times i no_time).0 ≤ max_time → none_too_late (drop i (kept_times k)) ≡ none_too_late (drop (i + 1) (kept_times k))
-    in_time_at h = rw (kept_from, le-leb _ max_time h)

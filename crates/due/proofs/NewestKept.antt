@@ -10,8 +10,10 @@ use lib.Dec.{leb}
 use lib.ListN.{length, take, drop, get_or}
 use lib.Seq.{length-take-le, length_front, take-nil, take-take, take-append_seam}
 use borrow.Author.Tests.{leb-true, le-leb, lt-leb}
+use Rattle.std.specs.Prelude.{Ok, Err}
 use Rattle.kinds.specs.Numbering.{max_time}
 use Rattle.kinds.specs.declared.Tick.{Tick}
+use Rattle.kinds.specs.declared.Refusal.{Refusal}
 use Rattle.kinds.specs.declared.Refusal.TheVariants.{ValueOutOfRange, DueTooLate}
 use Rattle.kinds.proofs.Apart.{impossible}
 use Rattle.theory.specs.DueTimes.{due_time}
@@ -22,7 +24,6 @@ use Rattle.table.specs.Rows.{row_in_range}
 use Rattle.table.proofs.SpelledTables.{in_range_means}
 use Rattle.table.proofs.Ranges.{both_true}
 use Rattle.due.specs.declared.Kept.{Kept}
-use Rattle.due.specs.declared.Due.TheVariants as due
 use Rattle.due.specs.Kept.{nothing_kept, kept_times, earlier, not_too_late, due_of, kept_as, kept_with, none_too_late, kept_sound}
 use Rattle.due.specs.DueLaws.{StartsEmpty, KeepsOnKeeping, DueIsThePapers, CostPlaysNoPart, KeptSoundMeans, EmptyIsSound, StaysSound}
 use Rattle.due.specs.KeptTimes.{GivenDue}
@@ -82,35 +83,62 @@ cost_plays_no_part k r t cost other = refl
 -- ---- which case each answer is
 
 -- A due time of at most 2^40 is given.
-pub in_time_given : (v : ℕ) → v ≤ max_time → not_too_late v ≡ due.At (record { 0 = v })
+pub in_time_given : (v : ℕ) → v ≤ max_time → not_too_late v ≡ Ok (record { 0 = v })
 in_time_given v h = rw (le-leb v max_time h)
 
 -- A due time above 2^40 is refused with 9.
-pub late_refused : (v : ℕ) → max_time < v → not_too_late v ≡ due.Refused DueTooLate
+pub late_refused : (v : ℕ) → max_time < v → not_too_late v ≡ Err DueTooLate
 late_refused v h = rw (lt-leb v max_time h)
+
+-- A time that stands is the time itself.
+pub stands : (v : ℕ) (t : Tick) → Ok t ≡ not_too_late v → t.0 ≡ v
+stands v t e = by_lt max_time v
+    (λ h. let refused : not_too_late v ≡ Err DueTooLate = late_refused v h in impossible cc)
+    (λ h.
+    let given : not_too_late v ≡ Ok (record { 0 = v }) = in_time_given v h in
+    let same : t ≡ record { 0 = v } = cc in
+    ap number same)
+
+-- A time that is refused is above 2^40, and it is refused with 9.
+pub refused : (v : ℕ) (r : Refusal) → Err r ≡ not_too_late v → (max_time < v) × (r ≡ DueTooLate)
+refused v r e = by_lt max_time v
+    (λ h.
+    let late : not_too_late v ≡ Err DueTooLate = late_refused v h in
+    let same : r ≡ DueTooLate = cc in
+    (h, same))
+    (λ h. let given : not_too_late v ≡ Ok (record { 0 = v }) = in_time_given v h in impossible cc)
 
 module _ (k : Kept) (r : Row) (t cost : ℕ) where
   -- For a row out of range the due time is refused with 3.
-  none_given : row_in_range r ≡ false → due_of k r t cost ≡ due.Refused ValueOutOfRange
+  none_given : row_in_range r ≡ false → due_of k r t cost ≡ Err ValueOutOfRange
   unfolding due_of
   none_given e = rw e
 
   module _ (fine : row_in_range r ≡ true) where
-    -- For a row in range a due time of at most 2^40 is given.
-    rule_given : rule_due k r t ≤ max_time → due_of k r t cost ≡ due.At (record { 0 = rule_due k r t })
+    -- For a row in range the answer goes by the due time alone.
+    pub by_rule : due_of k r t cost ≡ not_too_late (rule_due k r t)
     unfolding due_of
-    rule_given h = rw fine (in_time_given (rule_due k r t) h)
+    by_rule = rw fine
+
+    -- For a row in range a due time of at most 2^40 is given.
+    rule_given : rule_due k r t ≤ max_time → due_of k r t cost ≡ Ok (record { 0 = rule_due k r t })
+    rule_given h = by_rule ∙ in_time_given (rule_due k r t) h
 
     -- For a row in range a due time above 2^40 is refused with 9.
-    rule_refused : max_time < rule_due k r t → due_of k r t cost ≡ due.Refused DueTooLate
-    unfolding due_of
-    rule_refused h = rw fine (late_refused (rule_due k r t) h)
+    rule_refused : max_time < rule_due k r t → due_of k r t cost ≡ Err DueTooLate
+    rule_refused h = by_rule ∙ late_refused (rule_due k r t) h
+
+    -- For a row in range, where a time before the due time is refused, the due time is refused alike.
+    pub late_before : (v : ℕ) (e : Refusal) → Err e ≡ not_too_late v → v ≤ rule_due k r t → Err e ≡ due_of k r t cost
+    late_before v e late h =
+        let p = refused v e late in
+        late ∙ late_refused v p.0 ∙ sym (rule_refused (omega (arith, p.0)))
 
   -- One of three cases holds, and each of them has its answer.
   pub by_answer : {G : Type 0}
-      → (row_in_range r ≡ true → rule_due k r t ≤ max_time → due_of k r t cost ≡ due.At (record { 0 = rule_due k r t }) → G)
-      → (row_in_range r ≡ true → max_time < rule_due k r t → due_of k r t cost ≡ due.Refused DueTooLate → G)
-      → (row_in_range r ≡ false → due_of k r t cost ≡ due.Refused ValueOutOfRange → G) → G
+      → (row_in_range r ≡ true → rule_due k r t ≤ max_time → due_of k r t cost ≡ Ok (record { 0 = rule_due k r t }) → G)
+      → (row_in_range r ≡ true → max_time < rule_due k r t → due_of k r t cost ≡ Err DueTooLate → G)
+      → (row_in_range r ≡ false → due_of k r t cost ≡ Err ValueOutOfRange → G) → G
   by_answer {G} given late out = go (row_in_range r) refl
     where
       go : (fine : Bool) → row_in_range r ≡ fine → G
@@ -118,7 +146,7 @@ module _ (k : Kept) (r : Row) (t cost : ℕ) where
       go false e = out e (none_given e)
 
   -- The answer is a due time exactly when it is the one by the rule.
-  pub due_given : (v : Tick) → (due_of k r t cost ≡ due.At v) ↔ GivenDue k r t v.0
+  pub due_given : (v : Tick) → (due_of k r t cost ≡ Ok v) ↔ GivenDue k r t v.0
   due_given v = (
     λ e. by_answer
         (λ fine h a.
@@ -131,11 +159,11 @@ module _ (k : Kept) (r : Row) (t cost : ℕ) where
   )
 
   -- The answer is refusal 9 exactly when the due time by the rule is above 2^40.
-  pub due_too_late : (due_of k r t cost ≡ due.Refused DueTooLate) ↔ ((row_in_range r ≡ true) × (max_time < rule_due k r t))
+  pub due_too_late : (due_of k r t cost ≡ Err DueTooLate) ↔ ((row_in_range r ≡ true) × (max_time < rule_due k r t))
   due_too_late = (λ e. by_answer (λ fine h a. impossible cc) (λ fine h a. (fine, h)) (λ out a. impossible cc), λ h. rule_refused h.0 h.1)
 
   -- The answer is refusal 3 exactly when the row is out of range.
-  pub due_out_of_range : (due_of k r t cost ≡ due.Refused ValueOutOfRange) ↔ (row_in_range r ≡ false)
+  pub due_out_of_range : (due_of k r t cost ≡ Err ValueOutOfRange) ↔ (row_in_range r ≡ false)
   due_out_of_range = (λ e. by_answer (λ fine h a. impossible cc) (λ fine h a. impossible cc) (λ out a. out), none_given)
 
 -- ---- whether what is kept for a row is sound

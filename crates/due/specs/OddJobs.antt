@@ -1,24 +1,24 @@
 -- Odd jobs: the due time of a server's next job, by the server's last due time. The rule itself is `server_due` of the theory. (docs/RULES.md, 4.9.)
-use Rattle.std.specs.Prelude.{ℕ, ◌≤◌, ◌<◌, ◌≡◌, ◌↔◌, true, false, cond, [], ◌∷◌}
+use Rattle.std.specs.Prelude.{ℕ, ◌≤◌, ◌<◌, ◌≡◌, ◌↔◌, true, false, cond, [], ◌∷◌, Result, Err}
 use Rattle.kinds.specs.Numbering.{max_time, values, refused_with}
+use Rattle.kinds.specs.declared.Tick.{Tick}
+use Rattle.kinds.specs.declared.Refusal.{Refusal}
 use Rattle.kinds.specs.declared.Refusal.TheVariants.{ValueOutOfRange, CostOutOfRange}
 use Rattle.theory.specs.Servers.{server_due}
 use Rattle.table.specs.declared.Server.{Server}
 use Rattle.table.specs.Limits.{max_c}
 use Rattle.table.specs.Rows.{from_one_to}
 use Rattle.table.specs.Servers.{server_in_range}
-use Rattle.due.specs.declared.Due.{Due}
-use Rattle.due.specs.declared.Due.TheVariants as due
 use Rattle.due.specs.Kept.{not_too_late}
 use Rattle.due.specs.Answers.{due_says}
 
 -- This is the due time of a server's next job, released at t with a stated cost, where `last` is the server's last due time. A server out of range is refusal
 -- 3, a cost that no odd job may have is 7, and a due time above 2^40 is 9. (3.20, 4.7, 4.9, 10.7)
-unfoldable pub odd_due_of : Server → (last t cost : ℕ) → Due
+unfoldable pub odd_due_of : Server → (last t cost : ℕ) → Result Tick Refusal
 odd_due_of v last t cost =
     cond (server_in_range v)
-    (cond (from_one_to max_c cost) (not_too_late (server_due v.a v.b last t cost)) (due.Refused CostOutOfRange))
-    (due.Refused ValueOutOfRange)
+    (cond (from_one_to max_c cost) (not_too_late (server_due v.a v.b last t cost)) (Err CostOutOfRange))
+    (Err ValueOutOfRange)
 
 -- The due time `at` is given to an odd job: the server is in range, the cost is from 1 to 4,096, `at` is the due time by the rule, and it is at most 2^40.
 -- (4.9)

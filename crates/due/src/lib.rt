@@ -4,14 +4,15 @@
 
 mod servers;
 
-ghost use Rattle.std.specs.Prelude.{◌≡◌, min};
-ghost use Rattle.due.specs.Kept.{max_kept, nothing_kept, due_of, keep_step, kept_sound};
+ghost use Rattle.std.specs.Prelude.{◌≡◌};
+ghost use Rattle.due.specs.Kept.{max_kept, nothing_kept, not_too_late, due_of, keep_step, kept_sound};
 
 use kinds::{Refusal, Tick};
 pub use servers::odd_due;
 use table::Row;
 
 // The first `count` times are the due times of a row's newest accepted jobs, oldest first. A count above the array's length means all of the array. (4.6)
+// There is a count beside the array, because C reads this struct. (9.16)
 #[repr(C)]
 #[derive(Clone, Copy)]
 pub struct Kept {
@@ -19,25 +20,11 @@ pub struct Kept {
     pub count: usize,
 }
 
-// A release has a due time, or is refused. (4.7, 10.7)
-#[derive(Clone, Copy)]
-pub enum Due {
-    At(Tick),
-    Refused(Refusal),
-}
-
-// A due time was kept, or it was refused. (10.7)
-#[derive(Clone, Copy)]
-pub enum KeepAnswer {
-    Done,
-    Refused(Refusal),
-}
-
-// What is kept afterwards stands beside the answer. (4.6)
+// What is kept afterwards stands beside the answer, because rule 10.7 says what it is after a refusal too. (4.6, 10.7)
 #[derive(Clone, Copy)]
 pub struct KeepStep {
     pub kept: Kept,
-    pub answer: KeepAnswer,
+    pub answer: Result<(), Refusal>,
 }
 
 impl Kept {
@@ -62,35 +49,21 @@ impl Kept {
     }
 
     // The answer is the due time of the row's next job. A row out of range is refusal 3, and a due time above 2^40 is refusal 9. Asking keeps nothing, so a
-    // release that is refused takes no j and leaves every due time alone. (4.2, 4.3, 4.4, 4.7)
-    pub fn due(self, row: Row, release: Tick, cost: u64) -> Due
+    // release that is refused takes no j and leaves every due time alone. The cost plays no part. (4.2, 4.3, 4.4, 4.7, 4.8)
+    pub fn due(self, row: Row, release: Tick, cost: u64) -> Result<Tick, Refusal>
         ensures { result ≡ due_of self row release.0 cost }
     {
         if !row.in_range() {
-            return Due::Refused(Refusal::ValueOutOfRange);
+            return Err(Refusal::ValueOutOfRange);
         }
-        let t = release.0;
-        if Tick::MAX < t {
-            return Due::Refused(Refusal::DueTooLate);
-        }
-        let plain = t + row.d;
+        let plain = in_time(release)?.0 + row.d;
         let x = row.x as usize;
-        let count = in_use(self.count);
-        let mut due = plain;
+        let count = self.count.min(Kept::MAX);
         if x <= count {
-            let before = self.times[count - x];
-            if Tick::MAX < before.0 {
-                return Due::Refused(Refusal::DueTooLate);
-            }
-            let spaced = before.0 + row.y;
-            if plain < spaced {
-                due = spaced;
-            }
+            let spaced = in_time(self.times[count - x])?.0 + row.y;
+            return in_time(Tick(plain.max(spaced)));
         }
-        if Tick::MAX < due {
-            return Due::Refused(Refusal::DueTooLate);
-        }
-        Due::At(Tick(due))
+        in_time(Tick(plain))
     }
 
     // One more due time is kept, and of the row's due times the newest x stay. A row out of range is refusal 3, and then nothing changes. (4.6, 10.7)
@@ -101,58 +74,42 @@ impl Kept {
         if !row.in_range() {
             return KeepStep {
                 kept,
-                answer: KeepAnswer::Refused(Refusal::ValueOutOfRange),
+                answer: Err(Refusal::ValueOutOfRange),
             };
         }
         let x = row.x as usize;
-        let count = in_use(self.count);
+        let count = self.count.min(Kept::MAX);
         if count < x {
             kept.times[count] = due;
             kept.count = count + 1;
-            return KeepStep {
-                kept,
-                answer: KeepAnswer::Done,
-            };
+        } else {
+            let last = x - 1;
+            kept.times.copy_within(count - last..count, 0);
+            kept.times[last] = due;
+            kept.count = x;
         }
-        let last = x - 1;
-        let oldest = count - last;
-        let mut i: usize = 0;
-        while i < last {
-            let time = kept.times[oldest + i];
-            kept.times[i] = time;
-            i += 1;
-        }
-        kept.times[last] = due;
-        kept.count = x;
         KeepStep {
             kept,
-            answer: KeepAnswer::Done,
+            answer: Ok(()),
         }
     }
 
     // What is kept for a row is sound if at most x due times are counted, and none of these is above 2^40. (6.24)
+    #[tactic(auto, unfolding(crate::specs::Kept::kept_sound))]
     pub fn sound(self, row: Row) -> bool
         ensures { result ≡ kept_sound self row }
     {
-        if row.x < self.count as u64 {
-            return false;
-        }
-        let count = in_use(self.count);
-        let mut i: usize = 0;
-        while i < count {
-            let time = self.times[i];
-            if Tick::MAX < time.0 {
-                return false;
-            }
-            i += 1;
-        }
-        true
+        let count = self.count.min(Kept::MAX);
+        self.count as u64 <= row.x && self.times[..count].iter().all(|time| time.0 <= Tick::MAX)
     }
 }
 
-// A count above the array's length means all of the array.
-fn in_use(count: usize) -> usize
-    ensures { result ≡ min count max_kept }
+// A time of at most 2^40 stands, and one above it is refusal 9. (4.7)
+pub fn in_time(time: Tick) -> Result<Tick, Refusal>
+    ensures { result ≡ not_too_late time.0 }
 {
-    if count < Kept::MAX { count } else { Kept::MAX }
+    if Tick::MAX < time.0 {
+        return Err(Refusal::DueTooLate);
+    }
+    Ok(time)
 }

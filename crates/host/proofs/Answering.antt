@@ -1,4 +1,6 @@
 -- What the two calls return and write, by the length of the answer buffer, and which statuses can come. (docs/RULES.md, sections 9.4 to 9.7.)
+use Rattle.std.specs.Prelude.{Result, Ok, Err}
+use Rattle.kinds.specs.declared.RefusedAt.{RefusedAt}
 use Prim.Native.Nat.{ℕ, zero, suc, ◌+◌, ◌-◌, ◌/◌, ◌%◌, ◌^◌, ◌≤◌, ◌<◌}
 use mathlib.Core.Path.{◌≡◌, refl, sym, ap, ◌∙◌}
 use mathlib.Core.Logic.{◌≢◌, ◌⊎◌, inl, inr, ⊎_elim}
@@ -13,8 +15,6 @@ use Rattle.kinds.specs.declared.Refusal.TheVariants.{NoRoom}
 use Rattle.kinds.proofs.Numbering.{numbers_differ}
 use Rattle.numbers.specs.SpelledNumbers.{Bytes}
 use Rattle.theory.proofs.Cases.{by_lt, by_eq}
-use Rattle.table.specs.declared.TableAnswer.{TableAnswer}
-use Rattle.table.specs.declared.TableAnswer.TheVariants as answer
 use Rattle.table.specs.Tables.{table_read}
 use Rattle.table.specs.Refusals.{TableRefusal}
 use Rattle.table.proofs.Refusals.{refused_as_a_table}
@@ -104,14 +104,15 @@ never_said table script room n rows records above not_12 not_14 not_16 not_22 no
     by_outcome (replayed.Late l) e is = not_23 (sym is)
     by_outcome (replayed.Refused r) e is =
         let stopped = (refused_means table script room r (λ room. not_12 (sym is ∙ ap refusal_number room))).0 e in
-        ⊎_elim (λ low. omega arith) (⊎_elim (λ is_14. not_14 (sym is ∙ is_14)) (λ is_16. not_16 (sym is ∙ is_16))) (stopped_by table script r rows records stopped)
+        ⊎_elim (λ low. omega arith) (⊎_elim (λ is_14. not_14 (sym is ∙ is_14)) (λ is_16. not_16 (sym is ∙ is_16)))
+        (stopped_by table script r rows records stopped)
 
 pub replay_is_13 : ReplayIs13
 replay_is_13 table script room size rows records = by_eq size answer_length
-    (λ same. rw (eq-eqb size answer_length same) (
-      λ is. absurd (never_said table script room 13 rows records (omega arith) (λ e. omega arith) (λ e. omega arith) (λ e. omega arith) (λ e. omega arith) (λ e. omega arith) is),
-      λ other. absurd (other same),
-    ))
+    (λ same.
+    let never = never_said table script room 13 rows records (omega arith) (λ e. omega arith) (λ e. omega arith) (λ e. omega arith) (λ e. omega arith)
+    (λ e. omega arith) in
+    rw (eq-eqb size answer_length same) (λ is. absurd (never is), λ other. absurd (other same)))
     (λ other. rw (ne_eqb size answer_length other) (λ is. other, λ o. refl))
 
 pub replay_never_returns : ReplayNeverReturns
@@ -147,10 +148,10 @@ verdict_says_lem table verdict.Feasible bytes j = inr (omega arith, omega arith)
 verdict_says_lem table (verdict.Overloaded w) bytes j = inr (omega arith, omega arith)
 verdict_says_lem table (verdict.Refused r) bytes j = inl (by_answer (table_read table).answer refl j)
   where
-    by_answer : (a : TableAnswer) → (table_read table).answer ≡ a → RightOfRead (table_read table).table a (verdict.Refused r)
+    by_answer : (a : Result ℕ RefusedAt) → (table_read table).answer ≡ a → RightOfRead (table_read table).table a (verdict.Refused r)
         → TableRefusal (refusal_number r.refusal)
-    by_answer (answer.Accepted period) e right = absurd right
-    by_answer (answer.Refused q) e right = let same : r ≡ q = cc in rw same (refused_as_a_table table q bytes e)
+    by_answer (Ok period) e right = absurd right
+    by_answer (Err q) e right = let same : r ≡ q = cc in rw same (refused_as_a_table table q bytes e)
 
 pub verdict_statuses : VerdictStatuses
 verdict_statuses table answer status after bytes (wrong_size l s k) = inr (inl s)

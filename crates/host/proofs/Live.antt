@@ -1,5 +1,8 @@
 -- The laws of the four calls on a live run: when nothing changes, memory that is no sound run, runs that stay sound, and statuses that are never 0.
 -- (docs/RULES.md, 9.9 to 9.15.)
+use Rattle.std.specs.Prelude.{Result, Ok, Err}
+use Rattle.kinds.specs.declared.Refusal.{Refusal}
+use Rattle.run.specs.declared.Accepted.{Accepted}
 use Prim.Native.Nat.{ℕ, ◌≤◌}
 use mathlib.Core.Path.{◌≡◌, refl, ap}
 use mathlib.Core.Logic.{◌≢◌}
@@ -13,10 +16,6 @@ use Rattle.jobs.specs.Answers.{has_finished}
 use Rattle.jobs.specs.Units.{ran_of}
 use Rattle.jobs.specs.Turns.{first_job}
 use Rattle.run.specs.declared.Run.{Run}
-use Rattle.run.specs.declared.Released.{Released}
-use Rattle.run.specs.declared.Released.TheVariants as release
-use Rattle.run.specs.declared.Ended.{Ended}
-use Rattle.run.specs.declared.Ended.TheVariants as end
 use Rattle.run.specs.Runs.{started}
 use Rattle.run.specs.Release.{released}
 use Rattle.run.specs.Ticking.{ticked}
@@ -29,9 +28,8 @@ use Rattle.run.proofs.Ticking.{by_answer, tick_keeps_sound}
 use Rattle.run.proofs.Ending.{end_keeps_sound, refused_end_changes_nothing}
 use Rattle.live.specs.Statuses.{release_said, ran_status, tick_said, end_said}
 use Rattle.live.proofs.Statuses.{live_never_zero}
-use Rattle.host.specs.declared.live_run.LiveStep.{LiveStep}
 use Rattle.host.specs.Answer.{answer_length}
-use Rattle.host.specs.Live.{start_told, release_told, tick_told, end_told, step_after, NothingChangesAt13, GarbageGets11, ZerosAreNotSound}
+use Rattle.host.specs.Live.{LiveStep, start_told, release_told, tick_told, end_told, step_after, NothingChangesAt13, GarbageGets11, ZerosAreNotSound}
 use Rattle.host.specs.Live.{LiveRunsStaySound, LiveCallsNeverZero, RefusedCallLeavesTheRun}
 
 -- What holds for the step of a call that says its answer, and for the step that says 13 and leaves the run alone, holds with any answer buffer.
@@ -92,10 +90,10 @@ at_least_36 true = omega arith
 at_least_36 false = omega arith
 
 -- A release that does not say 34 was refused, and leaves the run.
-release_leaves : (run : Run) (row cost : ℕ) (a : Released) → (released run row cost).answer ≡ a → (release_said (release_says a)).number ≢ 34
+release_leaves : (run : Run) (row cost : ℕ) (a : Result Accepted Refusal) → (released run row cost).answer ≡ a → (release_said (release_says a)).number ≢ 34
     → (released run row cost).run ≡ run
-release_leaves run row cost (release.Accepted a) e other = absurd (other refl)
-release_leaves run row cost (release.Refused r) e other = refused_release_changes_nothing run row cost (refusal_number r) 0 (ap release_says e)
+release_leaves run row cost (Ok a) e other = absurd (other refl)
+release_leaves run row cost (Err r) e other = refused_release_changes_nothing run row cost (refusal_number r) 0 (ap release_says e)
 
 -- A tick that says at most 34 was refused, and leaves the run.
 tick_leaves : (run : Run) → (tick_told run).number ≤ 34 → (ticked run).run ≡ run
@@ -108,9 +106,10 @@ tick_leaves run =
     (λ early free some low. absurd (omega (arith, low, at_least_36 (has_finished (ran_of (first_job run.pending)).finished))))
 
 -- An end that does not say 39 was refused, and leaves the run.
-end_leaves : (run : Run) (serial : ℕ) (a : Ended) → (ended run serial).answer ≡ a → (end_said (end_says a)).number ≢ 39 → (ended run serial).run ≡ run
-end_leaves run serial (end.Units n) e other = absurd (other refl)
-end_leaves run serial (end.Refused r) e other = refused_end_changes_nothing run serial (refusal_number r) 0 (ap end_says e)
+end_leaves : (run : Run) (serial : ℕ) (a : Result ℕ Refusal) → (ended run serial).answer ≡ a → (end_said (end_says a)).number ≢ 39
+    → (ended run serial).run ≡ run
+end_leaves run serial (Ok n) e other = absurd (other refl)
+end_leaves run serial (Err r) e other = refused_end_changes_nothing run serial (refusal_number r) 0 (ap end_says e)
 
 pub refused_call_leaves_the_run : RefusedCallLeavesTheRun
 refused_call_leaves_the_run size run = (

@@ -11,7 +11,6 @@ use Rattle.run.specs.Ending.{ended}
 use Rattle.run.specs.Sound.{sound_of, Whole}
 use Rattle.run.specs.Answers.{release_says, tick_says, end_says}
 use Rattle.live.specs.Statuses.{start_said, release_said, tick_said, end_said}
-use Rattle.host.specs.declared.live_run.LiveStep.{LiveStep}
 use Rattle.host.specs.Answer.{answer_length, answer_bytes}
 
 -- ---- what the calls say
@@ -37,6 +36,11 @@ end_told run serial = end_said (end_says (ended run serial).answer)
 -- The answer buffer after a call that says this. It is unchanged where its length is not 16. (9.13)
 abbrev pub answer_after : (answer : List ℕ) → Said → List ℕ
 answer_after answer s = cond (eqb (length answer) answer_length) (answer_bytes s) answer
+
+-- A run after a call, and the status that the call returns.
+pub record LiveStep : Type 0 where
+  pub run : Run
+  pub status : ℕ
 
 -- The run after a call that says this, and the status. With an answer buffer of another length than 16 the status is 13, and the run stays as it was before.
 -- `size` is the answer buffer's length. (9.13)

@@ -1,6 +1,6 @@
-// The host's calls: the verdict and the replay here, and the four calls on a live run in live_run.rt. The host is a C program: it calls them with byte buffers, and
-// gets a status number back (9.1). The status is never zero, and the two numbers beside it are written into the answer buffer (9.5). The caller lends buffers
-// that don't overlap, and no null pointer except with length 0 (9.8). The manual for a C program is include/jyrmekko.h. (docs/RULES.md, section 9.)
+// The host's calls: the verdict and the replay here, and the four calls on a live run in live_run.rt. The host is a C program: it calls them with byte buffers,
+// and gets a status number back (9.1). The status is never zero, and the two numbers beside it are written into the answer buffer (9.5). The caller lends
+// buffers that don't overlap, and no null pointer except with length 0 (9.8). The manual for a C program is include/jyrmekko.h. (docs/RULES.md, section 9.)
 #![tactic(auto)]
 
 mod live_run;
@@ -8,43 +8,51 @@ mod live_run;
 ghost use Rattle.std.specs.Prelude.{◌≡◌, length};
 ghost use Rattle.host.specs.Answer.{answer_bytes, VerdictAnswered, answer_length};
 ghost use Rattle.host.specs.Answer.{replay_status, replay_answer, replay_log};
-ghost use Rattle.kinds.specs.Numbering.{refused_says};
+ghost use Rattle.live.specs.Statuses.{as_said};
+ghost use Rattle.replay.specs.Outcome.{replay_says};
+ghost use Rattle.verdict.specs.Verdict.{verdict_says};
 
-use kinds::{Refusal, RefusedAt};
+use kinds::Refusal;
+use live::{Saying, Status};
 pub use live_run::{run_end, run_release, run_start, run_tick};
 use replay::Replayed;
 use verdict::Verdict;
 use words::WORD;
 
 // The length of an answer buffer in bytes: two numbers of eight bytes each. (9.4)
-const ANSWER: usize = 2 * WORD;
-
-// The four statuses that are no refusal are 20 to 23. (1.15)
-const FEASIBLE: u32 = 20;
-
-const OVERLOADED: u32 = 21;
-
-const IN_TIME: u32 = 22;
-
-const LATE: u32 = 23;
+pub const ANSWER: usize = 2 * WORD;
 
 // Writes the two numbers beside a status into the answer buffer, and returns the status. (9.4)
-fn say(answer: &mut [u8], status: u32, first: u64, second: u64) -> u32
+fn say(answer: &mut [u8], told: Saying) -> u32
     requires { length answer.old ≡ answer_length }
-    ensures { (result ≡ status) × (answer.new ≡ answer_bytes (record { number = status; first = first; second = second })) }
+    ensures { (result ≡ told.number) × (answer.new ≡ answer_bytes (as_said told)) }
 {
-    words::put(answer, first);
-    words::put(&mut answer[WORD..], second);
-    status
+    // The buffer has room for both numbers, so neither call is refused.
+    let _ = words::put(answer, told.first);
+    let _ = words::put(&mut answer[WORD..], told.second);
+    told.number
 }
 
-// Writes the place of a refusal and 0 into the answer buffer, and returns the refusal's number. (9.5)
-fn refuse(answer: &mut [u8], at: RefusedAt) -> u32
-    requires { length answer.old ≡ answer_length }
-    ensures { (result ≡ (refused_says at).number) × (answer.new ≡ answer_bytes (refused_says at)) }
+// What a verdict says: 20, or 21 with the smallest length and its demand, or the table's refusal with its place. (9.2, 9.5)
+pub fn verdict_told(verdict: Verdict) -> Saying
+    ensures { as_said result ≡ verdict_says verdict }
 {
-    let refusal = at.refusal;
-    say(answer, refusal.number(), at.place as u64, 0)
+    match verdict {
+        Verdict::Feasible => Saying::new(Status::Feasible, 0, 0),
+        Verdict::Overloaded(w) => Saying::new(Status::Overloaded, w.length, w.demand),
+        Verdict::Refused(r) => r.into(),
+    }
+}
+
+// What a replay says: 22 or 23 with the log's length and the jobs late, or the refusal with its place. (9.3, 9.5)
+fn replay_told(outcome: Replayed) -> Saying
+    ensures { as_said result ≡ replay_says outcome }
+{
+    match outcome {
+        Replayed::InTime(length) => Saying::new(Status::InTime, length as u64, 0),
+        Replayed::Late(jobs) => Saying::new(Status::Late, jobs.length as u64, jobs.late),
+        Replayed::Refused(r) => r.into(),
+    }
 }
 
 // The verdict on a table. It returns 20 where the table is feasible, 21 where it is overloaded, with the smallest length and its demand, and else the table's
@@ -55,11 +63,7 @@ pub fn verdict(table: &[u8], answer: &mut [u8]) -> u32
     if answer.len() != ANSWER {
         return Refusal::AnswerNot16Bytes.number();
     }
-    match verdict::judge(table) {
-        Verdict::Feasible => say(answer, FEASIBLE, 0, 0),
-        Verdict::Overloaded(w) => say(answer, OVERLOADED, w.length, w.demand),
-        Verdict::Refused(r) => refuse(answer, r),
-    }
+    say(answer, verdict_told(verdict::judge(table)))
 }
 
 // The replay of a script on a table, into a log. It returns 22 where all jobs are in time and 23 where some are late, both with the log's length and the jobs
@@ -73,9 +77,5 @@ pub fn replay(table: &[u8], script: &[u8], log: &mut [u8], answer: &mut [u8]) ->
     if answer.len() != ANSWER {
         return Refusal::AnswerNot16Bytes.number();
     }
-    match replay::replay(table, script, log) {
-        Replayed::InTime(length) => say(answer, IN_TIME, length as u64, 0),
-        Replayed::Late(jobs) => say(answer, LATE, jobs.length as u64, jobs.late),
-        Replayed::Refused(r) => refuse(answer, r),
-    }
+    say(answer, replay_told(replay::replay(table, script, log)))
 }

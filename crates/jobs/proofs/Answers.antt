@@ -1,4 +1,5 @@
 -- What each answer about pending jobs says. None has the number 0, and different answers say different things.
+use Rattle.std.specs.Prelude.{Some, None, Ok, Err}
 use Prim.Native.Nat.{ℕ}
 use mathlib.Core.Path.{◌≡◌, refl, ap, ap₂}
 use mathlib.Core.Bool.{Bool, true, false, cond}
@@ -10,11 +11,6 @@ use Rattle.jobs.specs.declared.Job.{Job}
 use Rattle.jobs.specs.declared.Finished.{Finished}
 use Rattle.jobs.specs.declared.Finished.TheVariants as finished
 use Rattle.jobs.specs.declared.Ran.{Ran}
-use Rattle.jobs.specs.declared.Turn.TheVariants as turn
-use Rattle.jobs.specs.declared.Choice.TheVariants as choice
-use Rattle.jobs.specs.declared.PutAnswer.TheVariants as put
-use Rattle.jobs.specs.declared.TakeAnswer.TheVariants as take
-use Rattle.jobs.specs.declared.GiveAnswer.TheVariants as give
 use Rattle.jobs.specs.Answers as says
 use Rattle.jobs.specs.Answers.{has_finished, ran_values, job_values, ran_as, turn_says, choice_says, put_says, take_says, give_says}
 
@@ -52,34 +48,34 @@ job_apart i j e =
     rw (← serial, ← row, ← release, ← due, ← cost, ← left)
 
 turns_apart : SaysApart turn_says
-turns_apart turn.Idle turn.Idle e = refl
-turns_apart turn.Idle (turn.Ran r) e = impossible cc
-turns_apart (turn.Ran q) turn.Idle e = impossible cc
-turns_apart (turn.Ran q) (turn.Ran r) e = ap turn.Ran (ran_apart q r e)
+turns_apart None None e = refl
+turns_apart None (Some r) e = impossible cc
+turns_apart (Some q) None e = impossible cc
+turns_apart (Some q) (Some r) e = ap Some (ran_apart q r e)
 
 choices_apart : SaysApart choice_says
-choices_apart (choice.Place p) (choice.Place q) e = let same : p ≡ q = cc in ap choice.Place same
-choices_apart (choice.Place p) choice.Nobody e = impossible cc
-choices_apart choice.Nobody (choice.Place q) e = impossible cc
-choices_apart choice.Nobody choice.Nobody e = refl
+choices_apart (Some p) (Some q) e = let same : p ≡ q = cc in ap Some same
+choices_apart (Some p) None e = impossible cc
+choices_apart None (Some q) e = impossible cc
+choices_apart None None e = refl
 
 puts_apart : SaysApart put_says
-puts_apart put.Done put.Done e = refl
-puts_apart put.Done (put.Refused r) e = impossible cc
-puts_apart (put.Refused q) put.Done e = impossible cc
-puts_apart (put.Refused q) (put.Refused r) e = ap put.Refused (plain_refusals_apart q r e)
+puts_apart (Ok _) (Ok _) e = refl
+puts_apart (Ok _) (Err r) e = impossible cc
+puts_apart (Err q) (Ok _) e = impossible cc
+puts_apart (Err q) (Err r) e = ap Err (plain_refusals_apart q r e)
 
 takes_apart : SaysApart take_says
-takes_apart (take.Taken i) (take.Taken j) e = ap take.Taken (job_apart i j e)
-takes_apart (take.Taken i) take.Nobody e = impossible cc
-takes_apart take.Nobody (take.Taken j) e = impossible cc
-takes_apart take.Nobody take.Nobody e = refl
+takes_apart (Some i) (Some j) e = ap Some (job_apart i j e)
+takes_apart (Some i) None e = impossible cc
+takes_apart None (Some j) e = impossible cc
+takes_apart None None e = refl
 
 gives_apart : SaysApart give_says
-gives_apart (give.Ran q) (give.Ran r) e = ap give.Ran (ran_apart q r e)
-gives_apart (give.Ran q) give.Nobody e = impossible cc
-gives_apart give.Nobody (give.Ran r) e = impossible cc
-gives_apart give.Nobody give.Nobody e = refl
+gives_apart (Some q) (Some r) e = ap Some (ran_apart q r e)
+gives_apart (Some q) None e = impossible cc
+gives_apart None (Some r) e = impossible cc
+gives_apart None None e = refl
 
 pub jobs_said_apart : says.JobsSaidApart
 jobs_said_apart = (turns_apart, choices_apart, puts_apart, takes_apart, gives_apart)
@@ -87,24 +83,24 @@ jobs_said_apart = (turns_apart, choices_apart, puts_apart, takes_apart, gives_ap
 -- ---- no answer is numbered 0
 
 turn_never_zero : NeverNumberedZero turn_says
-turn_never_zero turn.Idle = tt
-turn_never_zero (turn.Ran r) = tt
+turn_never_zero None = tt
+turn_never_zero (Some r) = tt
 
 choice_never_zero : NeverNumberedZero choice_says
-choice_never_zero (choice.Place at) = tt
-choice_never_zero choice.Nobody = tt
+choice_never_zero (Some at) = tt
+choice_never_zero None = tt
 
 put_never_zero : NeverNumberedZero put_says
-put_never_zero put.Done = tt
-put_never_zero (put.Refused r) = never_zero r
+put_never_zero (Ok _) = tt
+put_never_zero (Err r) = never_zero r
 
 take_never_zero : NeverNumberedZero take_says
-take_never_zero (take.Taken j) = tt
-take_never_zero take.Nobody = tt
+take_never_zero (Some j) = tt
+take_never_zero None = tt
 
 give_never_zero : NeverNumberedZero give_says
-give_never_zero (give.Ran r) = tt
-give_never_zero give.Nobody = tt
+give_never_zero (Some r) = tt
+give_never_zero None = tt
 
 pub jobs_never_zero : says.JobsNeverZero
 jobs_never_zero = (turn_never_zero, choice_never_zero, put_never_zero, take_never_zero, give_never_zero)

@@ -1,5 +1,6 @@
 -- The laws of pending jobs. That the choice goes first is proved along the jobs, with the best so far. What each change does to the jobs follows from the laws
 -- of places, and what it does to their serials from what holds for any two of them. (docs/RULES.md, section 6.)
+use Rattle.std.specs.Prelude.{Some}
 use Prim.Native.Nat.{ℕ, zero, suc, ◌≤◌, ◌<◌}
 use mathlib.Core.Path.{◌≡◌, refl, sym, ap, ◌∙◌}
 use mathlib.Core.List.{List, [], ◌∷◌, ◌++◌, append-nil}
@@ -15,7 +16,6 @@ use lib.Seq.{append_snoc, split_at, get_or-append_seam, get_or-take, take-suc-se
 use Rattle.kinds.proofs.Apart.{impossible}
 use Rattle.jobs.specs.declared.Job.{Job}
 use Rattle.jobs.specs.declared.Pending.{Pending}
-use Rattle.jobs.specs.declared.Choice.TheVariants as choice
 use Rattle.jobs.specs.Places.{max_places, no_job, jobs_of, used, without, put, taken_out}
 use Rattle.jobs.specs.Choice.{goes_before, first_from}
 use Rattle.jobs.specs.Units.{last_unit, worked, after}
@@ -194,7 +194,7 @@ rising_is_distinct = rising_distinct
 pub found_means : FoundMeans
 found_means s at js = (
   λ e. by_place s js (λ p w f. let same : p ≡ at = cc in rw same at w) (λ w f. impossible cc),
-  λ v. by_place s js (λ p w f. f ∙ ap choice.Place (one_first s js p at w v)) (λ w f. absurd (w at v.0 v.1)),
+  λ v. by_place s js (λ p w f. f ∙ ap Some (one_first s js p at w v)) (λ w f. absurd (w at v.0 v.1)),
 )
 
 pub nobody_found_means : NobodyFoundMeans

@@ -1,27 +1,19 @@
 -- Late jobs, counted one at a time.
-use Prim.Native.Nat.{ℕ, ◌+◌, ◌≤◌, ◌<◌}
+use Prim.Native.Nat.{ℕ, suc, ◌+◌, ◌≤◌, ◌<◌}
 use mathlib.Core.Path.{◌≡◌, refl, ap}
 use mathlib.Core.List.{List}
 use mathlib.Core.Bool.{Bool, true, false, cond}
 use native.Mathlib.Decide.{dec_le, ℕ_discrete}
 use native.Mathlib.Omega.{arith}
-use lib.Dec.{ltb}
-use lib.ListN.{length, take, drop, get_or, drop_of_length-le}
+use lib.ListN.{length, drop, get_or, drop_of_length-le}
+use lib.Seq.{drop-cons}
+use native.Mathlib.Numerals.{add-one}
 use borrow.Author.Tests.{lt-ltb, le-ltb, eq-eqb, ne_eqb}
 use Rattle.kinds.proofs.Apart.{impossible}
 use Rattle.jobs.specs.declared.Job.{Job}
 use Rattle.jobs.specs.Late.{is_late, late_count}
 use Rattle.jobs.specs.JobChanges.{BecomesLate}
 use Rattle.jobs.specs.LateLaws.{LateCountMeans, NoneLate, LateAddsOne, OthersAddNone}
-use Rattle.jobs.proofs.Places.{rest_cons}
-
--- A job that is due at the clock is late if it has a unit left.
-pub late_at_due : (t : ℕ) (j : Job) → j.due.0 ≡ t → ltb 0 j.left ≡ is_late t j
-late_at_due t j e = rw (eq-eqb j.due.0 t e)
-
--- A job that is not due at the clock is not late.
-pub late_at_due_alone : (t : ℕ) (j : Job) → (j.due.0 ≡ t → ⊥) → false ≡ is_late t j
-late_at_due_alone t j h = rw (ne_eqb j.due.0 t h)
 
 -- ---- what the count says
 
@@ -55,10 +47,10 @@ others_add_none t j js other = by_late t j (λ p e. absurd (other p)) (λ _ e. r
 -- ---- the count along the places
 
 -- The late count from a place on is 1 or 0 for the job there, and the count of the rest.
-pub late_next : (n : ℕ) (l : List Job) (i t : ℕ) (d : Job) → i < length (take n l) → (b : Bool) → is_late t (get_or l i d) ≡ b
-    → late_count t (drop i (take n l)) ≡ cond b 1 0 + late_count t (drop (i + 1) (take n l))
+pub late_next : (js : List Job) (i t : ℕ) (d : Job) → i < length js → (b : Bool) → is_late t (get_or js i d) ≡ b
+    → late_count t (drop i js) ≡ cond b 1 0 + late_count t (drop (i + 1) js)
 unfolding late_count
-late_next n l i t d h b e = rw (rest_cons n l i d h) (ap (λ (x : Bool). cond x 1 0 + late_count t (drop (i + 1) (take n l))) e)
+late_next js i t d h b e = rw (drop-cons js i d h, add-one) (ap (λ (x : Bool). cond x 1 0 + late_count t (drop (suc i) js)) e)
 
 -- Past the last job the late count is 0.
 pub late_end : (l : List Job) (i t : ℕ) → length l ≤ i → late_count t (drop i l) ≡ 0

@@ -1,6 +1,7 @@
 -- One look at the pending jobs: what it has found when it has seen them all, and that it counts the late jobs as well as a second look after the unit would.
+use Rattle.std.specs.Prelude.{Option, Some, None}
 use Prim.Native.Nat.{ℕ, zero, suc, ◌+◌, ◌≤◌, ◌<◌}
-use mathlib.Core.Path.{◌≡◌, refl}
+use mathlib.Core.Path.{◌≡◌, refl, ap}
 use mathlib.Core.List.{List, [], ◌∷◌}
 use mathlib.Core.Bool.{Bool, cond}
 use native.Mathlib.Nat.{not-suc-le-zero, le_of_suc-le-suc}
@@ -9,15 +10,15 @@ use native.Mathlib.Omega.{arith}
 use lib.ListN.{length, drop, set, get_or}
 use borrow.Author.Tests.{lt-ltb, le-leb, lt-leb}
 use Rattle.jobs.specs.declared.Job.{Job}
+use Rattle.jobs.specs.declared.FirstJob.{FirstJob}
 use Rattle.jobs.specs.declared.Pending.{Pending}
-use Rattle.jobs.specs.declared.Choice.TheVariants as choice
 use Rattle.jobs.specs.Places.{no_job, jobs_of, used, without}
 use Rattle.jobs.specs.Choice.{first_from, first_place}
 use Rattle.jobs.specs.Units.{worked, after}
 use Rattle.jobs.specs.Late.{is_late, late_count}
 use Rattle.jobs.specs.OneLook.{look_of, finishes_when_due}
 use Rattle.jobs.specs.LateLaws.{LateByOneLook}
-use Rattle.jobs.proofs.First.{first_end, choice_place}
+use Rattle.jobs.proofs.First.{first_end, found_first}
 use Rattle.jobs.proofs.Late.{late_end}
 use Rattle.jobs.proofs.Changes.{place_holds_job, after_a_unit}
 
@@ -25,7 +26,7 @@ use Rattle.jobs.proofs.Changes.{place_holds_job, after_a_unit}
 
 module _ (t : ℕ) where
   -- Where no job is pending, nobody is chosen and none is late.
-  pub look_at_nobody : (js : List Job) → length js ≡ 0 → record { choice = choice.Nobody; first = no_job; late = 0 } ≡ look_of t js
+  pub look_at_nobody : (js : List Job) → length js ≡ 0 → record { first = None; late = 0 } ≡ look_of t js
   unfolding late_count
   look_at_nobody [] e = refl
   look_at_nobody (j ∷ js) e = absurd (omega arith)
@@ -33,10 +34,10 @@ module _ (t : ℕ) where
   -- Where the look has seen all jobs, it has found the one that goes first, and has counted all that become late.
   pub look_at_all : (js : List Job) (i at late : ℕ) (best : Job) → 1 ≤ length js → length js ≤ i
       → first_from i at best (drop i js) ≡ first_place js → best ≡ get_or js at no_job → late + late_count t (drop i js) ≡ late_count t js
-      → record { choice = choice.Place at; first = best; late = late } ≡ look_of t js
+      → record { first = Some (record { place = at; job = best }); late = late } ≡ look_of t js
   look_at_all js i at late best h k e b f =
       let counted : late ≡ late_count t js = omega (arith, late_end js i t k) in
-      rw (b, first_end js i at best k e, counted, choice_place js h)
+      rw (b, first_end js i at best k e, counted) (ap (λ (f : Option FirstJob). record { first = f; late = late_count t js }) (found_first js h))
 
   -- ---- the late count after a unit
 

@@ -1,85 +1,23 @@
--- The tests of serials and the search for one: one turn of the loops that make them, what they mean for any two jobs, which changes of the list keep that, and
--- what the search finds.
-use Prim.Native.Nat.{ℕ, zero, suc, ◌+◌, ◌-◌, ◌≤◌, ◌<◌, suc-le-suc}
+-- The tests of serials and the search for one: what they mean for any two jobs, how the code makes them, which changes of the list keep what they mean, and what
+-- the search finds.
+use Rattle.std.specs.Prelude.{Some, None}
+use Rattle.std.specs.List.{AllAdjacentBelow, IsAllAdjacentAnswer}
+use lib.Seq.{drop-cons}
+use Prim.Native.Nat.{ℕ, zero, suc, ◌+◌, ◌<◌, suc-le-suc}
 use mathlib.Core.Path.{◌≡◌, refl, sym, ap, ◌∙◌}
 use mathlib.Core.List.{List, [], ◌∷◌, ◌++◌}
-use mathlib.Core.Bool.{Bool, true, false, not, and-eq-true_iff, not-not}
+use mathlib.Core.Bool.{Bool, true, false, not, and-eq-true_iff}
 use native.Mathlib.Nat.{not-suc-le-zero, le_of_suc-le-suc}
 use native.Mathlib.Numerals.{add-one}
 use native.Mathlib.Decide.{dec_lt, ℕ_discrete}
 use native.Mathlib.Omega.{arith}
 use lib.Dec.{ltb, eqb}
-use borrow.Author.Tests.{ltb-true, eqb-false, not-true, lt-ltb, le-ltb, eq-eqb, ne_eqb}
-use lib.ListN.{length, take, drop, set, get_or, length-take, length-set, drop_of_length-le}
+use borrow.Author.Tests.{ltb-true, ltb-false, eqb-false, not-true, lt-ltb, eq-eqb, ne_eqb}
+use lib.ListN.{length, drop, set, get_or, length-set}
 use Rattle.jobs.specs.declared.Job.{Job}
-use Rattle.jobs.specs.declared.Choice.TheVariants as choice
 use Rattle.jobs.specs.Places.{no_job, without}
 use Rattle.jobs.specs.Serials.{has_not, distinct_serials, rising_above, rising_serials, place_from, place_of}
 use Rattle.jobs.specs.JobChanges.{serial_at}
-use Rattle.jobs.proofs.Places.{rest_cons}
-
--- ---- one turn of the loops
-
--- `rising_from_place` tests that of the first n jobs those from the place i on have serials that rise, above the serial of the job before i.
-abbrev pub rising_from_place : (n : ℕ) → List Job → (i : ℕ) → Bool
-rising_from_place n l i = rising_above (serial_at l (i - 1)) (drop i (take n l))
-
--- All serials rise exactly if those from the second on rise above the first.
-pub rising_start : (n : ℕ) (l : List Job) → rising_from_place n l 1 ≡ rising_serials (take n l)
-rising_start zero l = refl
-rising_start (suc n) [] = refl
-rising_start (suc n) (j ∷ js) = refl
-
-module _ (n : ℕ) (l : List Job) (i : ℕ) where
-  -- Past the first n jobs nothing is left.
-  pub rest_end : n ≤ i → drop i (take n l) ≡ []
-  rest_end h =
-      let past : length (take n l) ≤ i = omega (arith, length-take n l) in
-      drop_of_length-le (take n l) past
-
-  module _ (h : i < n) (k : n ≤ length l) where
-    -- The jobs from a place on are the one there, and then the rest.
-    rest : drop i (take n l) ≡ get_or l i no_job ∷ drop (i + 1) (take n l)
-    rest = rest_cons n l i no_job (omega (arith, length-take n l))
-
-    -- If a serial is not above the one before it, the serials do not rise.
-    pub rising_stops : serial_at l i ≤ serial_at l (i - 1) → rising_from_place n l i ≡ false
-    rising_stops m = rw (rest, le-ltb (serial_at l (i - 1)) (serial_at l i))
-
-    -- If a serial is above the one before it, the jobs after it decide.
-    pub rising_goes_on : serial_at l (i - 1) < serial_at l i → rising_from_place n l i ≡ rising_from_place n l (i + 1)
-    rising_goes_on m =
-        let e : i + 1 - 1 ≡ i = omega arith in
-        rw (e, rest, lt-ltb (serial_at l (i - 1)) (serial_at l i))
-
-    module _ (s : ℕ) where
-      -- If the serial s stands at the place, the test finds it.
-      pub met : serial_at l i ≡ s → has_not s (drop i (take n l)) ≡ false
-      met e = rw (rest, eq-eqb (serial_at l i) s)
-
-      -- If the serial s does not stand at the place, the jobs after it decide.
-      pub not_met : (serial_at l i ≡ s → ⊥) → has_not s (drop i (take n l)) ≡ has_not s (drop (i + 1) (take n l))
-      not_met ne = rw (rest, ne_eqb (serial_at l i) s)
-
-      -- If the serial s stands at the place, the search ends there.
-      pub found_here : serial_at l i ≡ s → place_from i s (drop i (take n l)) ≡ choice.Place i
-      found_here e = rw (rest, eq-eqb (serial_at l i) s)
-
-      -- If the serial s does not stand at the place, the search goes on after it.
-      pub found_later : (serial_at l i ≡ s → ⊥) → place_from i s (drop i (take n l)) ≡ place_from (i + 1) s (drop (i + 1) (take n l))
-      found_later ne = rw (rest, ne_eqb (serial_at l i) s, add-one)
-
-    -- `again` says whether the serial at the place stands at a later one. If it does, the serials are not distinct, and if not, the jobs after it decide.
-    module _ (again : Bool) (e : again ≡ not (has_not (serial_at l i) (drop (i + 1) (take n l)))) where
-      -- The test that the serial stands at no later place is the opposite of `again`.
-      denied : has_not (serial_at l i) (drop (i + 1) (take n l)) ≡ not again
-      denied = rw (e, not-not)
-
-      pub not_distinct : again ≡ true → distinct_serials (drop i (take n l)) ≡ false
-      not_distinct t = rw (rest, denied, t)
-
-      pub distinct_goes_on : again ≡ false → distinct_serials (drop i (take n l)) ≡ distinct_serials (drop (i + 1) (take n l))
-      distinct_goes_on t = rw (rest, denied, t)
 
 -- ---- what the tests mean
 
@@ -174,6 +112,34 @@ rising_from (j ∷ js) t = above_from j.serial.0 js (two_of_head ◌<◌ j js t)
 pub rising_distinct : (js : List Job) → rising_serials js ≡ true → distinct_serials js ≡ true
 rising_distinct js e = distinct_from js (λ i k h l q. omega (arith, rising_to js e i k h l))
 
+-- ---- what the code finds
+
+-- If each serial is below that of the next job, the serials rise.
+neighbours_rise : (js : List Job) → AllAdjacentBelow (λ i j. true ≡ ltb i.serial.0 j.serial.0) js (length js) → rising_serials js ≡ true
+neighbours_rise [] f = refl
+neighbours_rise (j ∷ []) f = refl
+neighbours_rise (i ∷ j ∷ js) f = rw (← f 0 no_job (omega arith), neighbours_rise (j ∷ js) (λ k d h. rw add-one (rw add-one at (f (suc k) d (omega arith)))))
+
+-- A test that passes only where it can't has failed.
+not_passed : (b : Bool) → (b ≡ true → ⊥) → false ≡ b
+not_passed true h = absurd (h refl)
+not_passed false h = refl
+
+-- Whether each serial is below that of the next job is whether the serials rise.
+pub rising_is : (js : List Job) (b : Bool) → IsAllAdjacentAnswer (λ i j found. found ≡ ltb i.serial.0 j.serial.0) js b → b ≡ rising_serials js
+rising_is js true f = sym (neighbours_rise js f)
+rising_is js false f = not_passed (rising_serials js) (λ e.
+    let up = rising_to js e f.0 (f.0 + 1) (omega arith) f.1 in
+    let down = ltb-false (serial_at js f.0) (serial_at js (f.0 + 1)) (sym (f.2 no_job)) in
+    omega arith)
+
+-- If no later job has the serial of the job at a place, the jobs after it decide whether the serials are distinct.
+pub distinct_next : (js : List Job) (i : ℕ) → i < length js → true ≡ has_not (serial_at js i) (drop (i + 1) js)
+    → distinct_serials (drop i js) ≡ distinct_serials (drop (i + 1) js)
+distinct_next js i h e =
+    let none = rw add-one at e in
+    rw (drop-cons js i no_job h, ← none, add-one)
+
 -- ---- what keeps serials rising and distinct
 
 -- What holds for each job and for one more holds for each job of the list with that one at its end.
@@ -231,21 +197,21 @@ FirstWith-cons s j js at ne f = (suc-le-suc f.0, f.1, earlier)
     earlier (suc i) h = f.2 i (le_of_suc-le-suc h)
 
 -- The search finds the first job that has the serial s, or no job has it and the search finds nobody. What follows in both cases holds.
-by_search : {G : Type 0} (k s : ℕ) (js : List Job) → ((at : ℕ) → FirstWith s js at → place_from k s js ≡ choice.Place (k + at) → G)
-    → (Each (λ t. t ≡ s → ⊥) js → place_from k s js ≡ choice.Nobody → G) → G
+by_search : {G : Type 0} (k s : ℕ) (js : List Job) → ((at : ℕ) → FirstWith s js at → place_from k s js ≡ Some (k + at) → G)
+    → (Each (λ t. t ≡ s → ⊥) js → place_from k s js ≡ None → G) → G
 by_search k s [] f g = g (each_of_none (λ t. t ≡ s → ⊥)) refl
 by_search k s (j ∷ js) f g = elim (ℕ_discrete j.serial.0 s) [
-  | yes e ↦ f 0 (omega arith, e, λ i h. absurd (not-suc-le-zero h)) (rw (eq-eqb j.serial.0 s e) (ap choice.Place (omega arith)))
+  | yes e ↦ f 0 (omega arith, e, λ i h. absurd (not-suc-le-zero h)) (rw (eq-eqb j.serial.0 s e) (ap Some (omega arith)))
   | no ne ↦
       let later = ne_eqb j.serial.0 s ne in
-      by_search (suc k) s js (λ at w e. f (suc at) (FirstWith-cons s j js at ne w) (rw later (e ∙ ap choice.Place (omega arith))))
+      by_search (k + 1) s js (λ at w e. f (suc at) (FirstWith-cons s j js at ne w) (rw later (e ∙ ap Some (omega arith))))
       (λ w e. g (each_of_cons (λ t. t ≡ s → ⊥) j js ne w) (rw later e))
 ]
 
 -- The same cases, for the search that begins at the first place.
-pub by_place : {G : Type 0} (s : ℕ) (js : List Job) → ((at : ℕ) → FirstWith s js at → place_of s js ≡ choice.Place at → G)
-    → (Each (λ t. t ≡ s → ⊥) js → place_of s js ≡ choice.Nobody → G) → G
-by_place s js f g = by_search 0 s js (λ at w e. f at w (e ∙ ap choice.Place (omega arith))) g
+pub by_place : {G : Type 0} (s : ℕ) (js : List Job) → ((at : ℕ) → FirstWith s js at → place_of s js ≡ Some at → G)
+    → (Each (λ t. t ≡ s → ⊥) js → place_of s js ≡ None → G) → G
+by_place s js f g = by_search 0 s js (λ at w e. f at w (e ∙ ap Some (omega arith))) g
 
 -- There is only one first job that has the serial s.
 pub one_first : (s : ℕ) (js : List Job) (a b : ℕ) → FirstWith s js a → FirstWith s js b → a ≡ b

@@ -1,8 +1,6 @@
 -- Which pending job goes first: the one with the earliest due time, and among equal due times the one with the lowest serial. (docs/RULES.md, 6.11.)
-use Rattle.std.specs.Prelude.{ℕ, suc, Bool, true, false, cond, List, [], ◌∷◌, ltb}
+use Rattle.std.specs.Prelude.{ℕ, suc, Bool, true, false, cond, List, [], ◌∷◌, ltb, Option, Some, None}
 use Rattle.jobs.specs.declared.Job.{Job}
-use Rattle.jobs.specs.declared.Choice.{Choice}
-use Rattle.jobs.specs.declared.Choice.TheVariants as choice
 
 -- One job goes before another if its due time is earlier, or if their due times are equal and its serial is lower. (6.11)
 unfoldable pub goes_before : Job → Job → Bool
@@ -20,6 +18,6 @@ first_place [] = 0
 first_place (j ∷ js) = first_from 1 0 j js
 
 -- The choice is the place of the job that goes first, or nobody if no job is pending. (6.11)
-abbrev pub choice_of : List Job → Choice
-choice_of [] = choice.Nobody
-choice_of (j ∷ js) = choice.Place (first_place (j ∷ js))
+abbrev pub choice_of : List Job → Option ℕ
+choice_of [] = None
+choice_of (j ∷ js) = Some (first_place (j ∷ js))

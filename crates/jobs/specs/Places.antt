@@ -1,12 +1,10 @@
 -- The places of pending jobs: which of them are in use, how a job is put in, and how one is taken out. (docs/RULES.md, section 6.)
-use Rattle.std.specs.Prelude.{ℕ, zero, suc, ◌+◌, ◌-◌, cond, List, [], ◌∷◌, ◌++◌, ltb, length, take, drop, set, get_or, replicate}
+use Rattle.std.specs.Prelude.{ℕ, zero, suc, ◌+◌, ◌-◌, cond, List, [], ◌∷◌, ◌++◌, ltb, length, take, drop, set, get_or, replicate, Some, None, Ok, Err}
 use Rattle.kinds.specs.declared.Refusal.TheVariants.{PlacesFull}
 use Rattle.jobs.specs.declared.Job.{Job}
 use Rattle.jobs.specs.declared.Pending.{Pending}
 use Rattle.jobs.specs.declared.PutStep.{PutStep}
-use Rattle.jobs.specs.declared.PutAnswer.TheVariants as put_answer
 use Rattle.jobs.specs.declared.TakeStep.{TakeStep}
-use Rattle.jobs.specs.declared.TakeAnswer.TheVariants as take_answer
 
 -- At most so many jobs are pending: the limit of pending jobs. (6.2)
 abbrev pub max_places : ℕ
@@ -40,7 +38,7 @@ put p j = cond (ltb p.count max_places) (record { places = set p.places p.count 
 
 -- A job is put in if a place is unused, and otherwise that is refusal 8. (6.7, 6.8)
 unfoldable pub put_step : Pending → Job → PutStep
-put_step p j = record { pending = put p j; answer = cond (ltb p.count max_places) put_answer.Done (put_answer.Refused PlacesFull) }
+put_step p j = record { pending = put p j; answer = cond (ltb p.count max_places) (Ok tt) (Err PlacesFull) }
 
 -- The job at a place is taken out. The jobs in later places move down one place, and the place that this frees holds zeros. If nobody is pending at the place,
 -- nothing changes. (6.13)
@@ -53,4 +51,4 @@ taken_out p at =
 -- Taking a job out answers that job, or that nobody is pending at the place. (6.13, 10.7)
 unfoldable pub take_step : Pending → (at : ℕ) → TakeStep
 take_step p at =
-    record { pending = taken_out p at; answer = cond (ltb at (used p)) (take_answer.Taken (get_or p.places at no_job)) take_answer.Nobody }
+    record { pending = taken_out p at; answer = cond (ltb at (used p)) (Some (get_or p.places at no_job)) None }

@@ -1,8 +1,7 @@
 -- The laws of serials: when they are distinct, and that every change keeps them so. (docs/RULES.md, section 6.)
-use Rattle.std.specs.Prelude.{ℕ, ◌<◌, ◌≡◌, ◌↔◌, true, List, length, get_or}
+use Rattle.std.specs.Prelude.{ℕ, ◌<◌, ◌≡◌, ◌↔◌, true, List, length, get_or, Some, None}
 use Rattle.jobs.specs.declared.Job.{Job}
 use Rattle.jobs.specs.declared.Pending.{Pending}
-use Rattle.jobs.specs.declared.Choice.TheVariants as choice
 use Rattle.jobs.specs.Places.{no_job, jobs_of, used, put, taken_out}
 use Rattle.jobs.specs.Units.{after}
 use Rattle.jobs.specs.Serials.{distinct_serials, rising_serials, place_of}
@@ -17,12 +16,12 @@ DistinctMeans = (js : List Job)
 
 -- A place is found for a serial exactly where the job at that place has it and no job in an earlier place does. (6.27)
 abbrev pub FoundMeans : Type 0
-FoundMeans = (s at : ℕ) (js : List Job) → (place_of s js ≡ choice.Place at)
+FoundMeans = (s at : ℕ) (js : List Job) → (place_of s js ≡ Some at)
     ↔ ((at < length js) × (serial_at js at ≡ s) × ((i : ℕ) → i < at → serial_at js i ≡ s → ⊥))
 
 -- Nobody is found for a serial exactly where no job has it. (6.27)
 abbrev pub NobodyFoundMeans : Type 0
-NobodyFoundMeans = (s : ℕ) (js : List Job) → (place_of s js ≡ choice.Nobody) ↔ ((i : ℕ) → i < length js → serial_at js i ≡ s → ⊥)
+NobodyFoundMeans = (s : ℕ) (js : List Job) → (place_of s js ≡ None) ↔ ((i : ℕ) → i < length js → serial_at js i ≡ s → ⊥)
 
 -- ---- what each change does to the serials
 

@@ -1,9 +1,8 @@
 -- One tick, which gives a unit to the job that goes first, if one is pending; and the record of a job that finishes. (docs/RULES.md, 6.10 to 6.14.)
-use Rattle.std.specs.Prelude.{ℕ, cond, eqb, get_or}
+use Rattle.std.specs.Prelude.{ℕ, cond, eqb, get_or, Some, None}
 use Rattle.kinds.specs.declared.Finish.{Finish}
 use Rattle.jobs.specs.declared.Job.{Job}
 use Rattle.jobs.specs.declared.Pending.{Pending}
-use Rattle.jobs.specs.declared.Turn.TheVariants as turn
 use Rattle.jobs.specs.declared.Turned.{Turned}
 use Rattle.jobs.specs.Places.{no_job, jobs_of, used}
 use Rattle.jobs.specs.Choice.{first_place}
@@ -23,8 +22,8 @@ one_tick p = after p (first_place (jobs_of p))
 unfoldable pub turned : Pending → (clock : ℕ) → Turned
 turned p clock =
     cond (eqb (used p) 0)
-    (record { pending = p; turn = turn.Idle; late = 0 })
-    (record { pending = one_tick p; turn = turn.Ran (ran_of (first_job p)); late = late_count clock (jobs_of (one_tick p)) })
+    (record { pending = p; turn = None; late = 0 })
+    (record { pending = one_tick p; turn = Some (ran_of (first_job p)); late = late_count clock (jobs_of (one_tick p)) })
 
 -- For a job that finishes at `clock`, its serial, row, release, due time and finish are recorded. (6.13, 8.8)
 abbrev pub finish_at : (clock : ℕ) → Job → Finish

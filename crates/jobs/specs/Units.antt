@@ -1,11 +1,10 @@
 -- One unit given to a pending job. (docs/RULES.md, section 6.)
-use Rattle.std.specs.Prelude.{ℕ, ◌-◌, Bool, cond, leb, ltb, set, get_or}
+use Rattle.std.specs.Prelude.{ℕ, ◌-◌, Bool, cond, leb, ltb, set, get_or, Some, None}
 use Rattle.jobs.specs.declared.Job.{Job}
 use Rattle.jobs.specs.declared.Pending.{Pending}
 use Rattle.jobs.specs.declared.Given.{Given}
 use Rattle.jobs.specs.declared.Finished.TheVariants as finished
 use Rattle.jobs.specs.declared.Ran.{Ran}
-use Rattle.jobs.specs.declared.GiveAnswer.TheVariants as give_answer
 use Rattle.jobs.specs.Places.{no_job, used, taken_out}
 
 -- A unit is a job's last if the job has at most one left. (6.13)
@@ -31,5 +30,5 @@ after p at =
 unfoldable pub given : Pending → (at : ℕ) → Given
 given p at =
     cond (ltb at (used p))
-    (record { pending = after p at; answer = give_answer.Ran (ran_of (get_or p.places at no_job)) })
-    (record { pending = p; answer = give_answer.Nobody })
+    (record { pending = after p at; answer = Some (ran_of (get_or p.places at no_job)) })
+    (record { pending = p; answer = None })

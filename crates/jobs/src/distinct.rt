@@ -1,41 +1,32 @@
-// Two tests of the serials of pending jobs: whether they rise from place to place, and whether one of them stands at a later place again.
-// (docs/RULES.md, 6.22.)
-ghost use Rattle.std.specs.Prelude.{◌≡◌, not, ◌+◌, ◌≤◌, ◌<◌, take, drop, get_or};
-ghost use Rattle.jobs.specs.Places.{max_places, no_job};
-ghost use Rattle.jobs.specs.Serials.{has_not, rising_serials};
+// Two tests of the serials of jobs: whether they rise from place to place, and whether no serial stands at two places. (docs/RULES.md, 6.22.)
+ghost use Rattle.std.specs.Prelude.{◌≡◌};
+ghost use Rattle.jobs.specs.Serials.{has_not, distinct_serials, rising_serials};
 
-use crate::{Job, Pending};
+use crate::Job;
+use kinds::Serial;
 
 // `rising` tests that each serial is above the one before it. Serials that rise are distinct. (6.22)
-pub(crate) fn rising(places: [Job; Pending::PLACES], count: usize) -> bool
-    requires { count ≤ max_places }
-    ensures { result ≡ rising_serials (take count places) }
+pub(crate) fn rising(jobs: &[Job]) -> bool
+    ensures { result ≡ rising_serials jobs.now }
 {
-    let mut i: usize = 1;
-    while i < count {
-        let before = places[i - 1];
-        let job = places[i];
-        if job.serial.0 <= before.serial.0 {
-            return false;
-        }
-        i += 1;
-    }
-    true
+    jobs.is_sorted_by(|job, next| job.serial < next.serial)
 }
 
-// `meets_again` tests whether the serial at a place stands at a later place again. (6.22)
-pub(crate) fn meets_again(places: [Job; Pending::PLACES], count: usize, at: usize) -> bool
-    requires { (at < count) × (count ≤ max_places) }
-    ensures { result ≡ not (has_not (get_or places at no_job).serial.0 (drop (at + 1) (take count places))) }
+// `has_not` tests that no job has a serial. (6.22)
+fn has_not(jobs: &[Job], serial: Serial) -> bool
+    ensures { result ≡ has_not serial.0 jobs.now }
 {
-    let job = places[at];
-    let mut i = at + 1;
-    while i < count {
-        let other = places[i];
-        if other.serial.0 == job.serial.0 {
-            return true;
+    jobs.iter().all(|job| job.serial != serial)
+}
+
+// `all_distinct` tests for each job that no later one has its serial. (6.22)
+pub(crate) fn all_distinct(jobs: &[Job]) -> bool
+    ensures { result ≡ distinct_serials jobs.now }
+{
+    for (i, job) in jobs.iter().enumerate() {
+        if !has_not(&jobs[i + 1..], job.serial) {
+            return false;
         }
-        i += 1;
     }
-    false
+    true
 }

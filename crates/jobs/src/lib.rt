@@ -5,7 +5,7 @@
 mod distinct;
 mod one_job;
 
-ghost use Rattle.std.specs.Prelude.{◌≡◌, ◌<◌, min, get_or};
+ghost use Rattle.std.specs.Prelude.{◌≡◌, ◌<◌, get_or};
 ghost use Rattle.jobs.specs.Places.{max_places, no_job, empty_pending, jobs_of, used, put_step, taken_out, take_step};
 ghost use Rattle.jobs.specs.Choice.{choice_of};
 ghost use Rattle.jobs.specs.Units.{after, given};
@@ -14,7 +14,7 @@ ghost use Rattle.jobs.specs.OneLook.{look_of};
 ghost use Rattle.jobs.specs.Serials.{place_of, distinct_serials};
 ghost use Rattle.jobs.specs.Turns.{turned};
 
-use crate::distinct::{meets_again, rising};
+use crate::distinct::{all_distinct, rising};
 use crate::one_job::{finishes_when_due, goes_before, is_late, no_job, ran_of};
 use kinds::{Refusal, RowNumber, Serial, Tick};
 
@@ -31,6 +31,7 @@ pub struct Job {
 }
 
 // The pending jobs are those in the first `count` places. A count above the number of places means all of them. (6.1)
+// There is a count beside the array, because C reads this struct. (9.16)
 #[repr(C)]
 #[derive(Clone, Copy)]
 pub struct Pending {
@@ -39,101 +40,62 @@ pub struct Pending {
 }
 
 // A job finishes when it gets its last unit. (6.13)
-#[derive(Clone, Copy)]
+#[derive(Clone, Copy, Debug, PartialEq, Eq)]
 pub enum Finished {
     Yes,
     No,
 }
 
 // The job that had a unit is named by its serial, with whether it finished. (6.12)
-#[derive(Clone, Copy)]
+#[derive(Clone, Copy, Debug, PartialEq, Eq)]
 pub struct Ran {
     pub serial: Serial,
     pub finished: Finished,
 }
 
-// A tick is idle exactly when nothing is pending. Otherwise one job had the unit. (6.12)
+// The job that goes first, and its place. (6.11)
 #[derive(Clone, Copy)]
-pub enum Turn {
-    Idle,
-    Ran(Ran),
+struct FirstJob {
+    place: usize,
+    job: Job,
 }
 
-// The place of a pending job, or nobody: of the job that goes first, where one is pending, or of the job with a serial, where one has it. (6.11, 6.27)
-#[derive(Clone, Copy)]
-pub enum Choice {
-    Place(usize),
-    Nobody,
-}
-
-// One look at the pending jobs finds the choice and the job chosen, which is all zeros if no job is pending. It counts the jobs that become late at a clock if
-// none of them gets a unit before. (6.11, 6.14)
+// One look at the pending jobs finds the job that goes first, if one is pending. It counts the jobs that become late at a clock if none of them gets a unit
+// before. (6.11, 6.14)
 #[derive(Clone, Copy)]
 struct Look {
-    choice: Choice,
-    first: Job,
+    first: Option<FirstJob>,
     late: u64,
 }
 
-// A job was put in, or it was refused because all places are in use. (6.7, 6.8)
-#[derive(Clone, Copy)]
-pub enum PutAnswer {
-    Done,
-    Refused(Refusal),
-}
-
-// The pending jobs after the call stand beside the answer. (6.7)
+// The pending jobs after a job was put in, or was refused because all places are in use. (6.7, 6.8)
 #[derive(Clone, Copy)]
 pub struct PutStep {
     pub pending: Pending,
-    pub answer: PutAnswer,
+    pub answer: Result<(), Refusal>,
 }
 
-// This job was taken out, or nobody was pending at the place. (6.13, 10.7)
-#[derive(Clone, Copy)]
-pub enum TakeAnswer {
-    Taken(Job),
-    Nobody,
-}
-
-// The pending jobs after one was taken out stand beside the answer. (6.13)
+// The pending jobs after the job at a place was taken out, and that job. The answer is `None` if nobody was pending there. (6.13, 10.7)
 #[derive(Clone, Copy)]
 pub struct TakeStep {
     pub pending: Pending,
-    pub answer: TakeAnswer,
+    pub answer: Option<Job>,
 }
 
-// This job had the unit, or nobody was pending at the place. (6.12, 10.7)
-#[derive(Clone, Copy)]
-pub enum GiveAnswer {
-    Ran(Ran),
-    Nobody,
-}
-
-// The pending jobs after a unit was given stand beside the answer. (6.12)
+// The pending jobs after a unit was given to the job at a place, and what it made of that job. The answer is `None` if nobody was pending there. (6.12, 10.7)
 #[derive(Clone, Copy)]
 pub struct Given {
     pub pending: Pending,
-    pub answer: GiveAnswer,
+    pub answer: Option<Ran>,
 }
 
-// A tick gives the pending jobs after it, its answer, and how many jobs became late. (6.12, 6.14)
+// A tick gives the pending jobs after it, the job that had the unit, and how many jobs became late. It is idle, and `turn` is `None`, exactly when nothing is
+// pending. (6.12, 6.14)
 #[derive(Clone, Copy)]
 pub struct Turned {
     pub pending: Pending,
-    pub turn: Turn,
+    pub turn: Option<Ran>,
     pub late: u64,
-}
-
-// A count above the number of places means all of them.
-fn in_use(count: usize) -> usize
-    ensures { result ≡ min count max_places }
-{
-    if count < Pending::PLACES {
-        count
-    } else {
-        Pending::PLACES
-    }
 }
 
 impl Pending {
@@ -151,169 +113,148 @@ impl Pending {
     pub fn empty() -> Pending
         ensures { result ≡ empty_pending }
     {
-        let nobody = no_job();
         Pending {
-            places: [nobody; Pending::PLACES],
+            places: [no_job(); Pending::PLACES],
             count: 0,
         }
     }
 
+    // The pending jobs are those in the places in use. (6.1)
+    pub fn jobs(&self) -> &[Job]
+        ensures { result.now ≡ jobs_of self.now }
+    {
+        &self.places[..self.count.min(Pending::PLACES)]
+    }
+
     // The job goes into the first unused place. If there is none, that is refusal 8, and nothing changes. (6.7, 6.8, 10.7)
-    pub fn put(self, job: Job) -> PutStep
+    #[tactic(auto, unfolding(crate::specs::Places::put, crate::specs::Places::put_step))]
+    pub fn put(mut self, job: Job) -> PutStep
         ensures { result ≡ put_step self job }
     {
-        let count = self.count;
-        let mut pending = self;
-        if Pending::PLACES <= count {
+        if Pending::PLACES <= self.count {
             return PutStep {
-                pending,
-                answer: PutAnswer::Refused(Refusal::PlacesFull),
+                pending: self,
+                answer: Err(Refusal::PlacesFull),
             };
         }
-        pending.places[count] = job;
-        pending.count = count + 1;
+        self.places[self.count] = job;
+        self.count += 1;
         PutStep {
-            pending,
-            answer: PutAnswer::Done,
+            pending: self,
+            answer: Ok(()),
         }
     }
 
     // One look at each pending job finds the one that goes first, and counts those that are unfinished and whose due time equals the clock. (6.11, 6.14)
-    fn look(self, clock: Tick) -> Look
-        ensures { result ≡ look_of clock.0 (jobs_of self) }
+    fn look(&self, clock: Tick) -> Look
+        ensures { result ≡ look_of clock.0 (jobs_of self.now) }
     {
-        let count = in_use(self.count);
-        if count == 0 {
+        let jobs = self.jobs();
+        if jobs.is_empty() {
             return Look {
-                choice: Choice::Nobody,
-                first: no_job(),
+                first: None,
                 late: 0,
             };
         }
-        let mut at: usize = 0;
-        let mut best = self.places[0];
+        let mut place: usize = 0;
+        let mut best = jobs[0];
         let mut late: u64 = 0;
-        let mut i: usize = 0;
-        while i < count {
-            let job = self.places[i];
+        for (i, &job) in jobs.iter().enumerate() {
             if is_late(job, clock) {
                 late += 1;
             }
             if goes_before(job, best) {
-                at = i;
+                place = i;
                 best = job;
             }
-            i += 1;
         }
         Look {
-            choice: Choice::Place(at),
-            first: best,
+            first: Some(FirstJob { place, job: best }),
             late,
         }
     }
 
     // The job with the earliest due time goes first, and among equal due times the one with the lowest serial. (6.11)
-    pub fn choice(self) -> Choice
+    pub fn choice(self) -> Option<usize>
         ensures { result ≡ choice_of (jobs_of self) }
     {
-        let look = self.look(Tick(0));
-        look.choice
+        self.look(Tick(0)).first.map(|first| first.place)
     }
 
     // The late count is the number of jobs that are unfinished and whose due time equals the clock. (6.14)
     pub fn late(self, clock: Tick) -> u64
         ensures { result ≡ late_count clock.0 (jobs_of self) }
     {
-        let look = self.look(clock);
-        look.late
+        self.look(clock).late
     }
 
     // Without the job at a place, the jobs in later places move down one place, and the place that this frees holds zeros. (6.13)
-    fn without(self, at: usize) -> Pending
+    fn without(mut self, at: usize) -> Pending
         requires { at < used self }
         ensures { result ≡ taken_out self at }
     {
-        let mut pending = self;
-        let last = in_use(pending.count) - 1;
-        let mut i = at;
-        while i < last {
-            let job = pending.places[i + 1];
-            pending.places[i] = job;
-            i += 1;
-        }
-        let nobody = no_job();
-        pending.places[last] = nobody;
-        pending.count = last;
-        pending
+        let used = self.jobs().len();
+        self.places.copy_within(at + 1..used, at);
+        self.places[used - 1] = no_job();
+        self.count = used - 1;
+        self
     }
 
     // The job at a place is taken out and handed back. The jobs in later places move down one place, and the place that this frees holds zeros. (6.13)
+    #[tactic(auto, unfolding(crate::specs::Places::taken_out, crate::specs::Places::take_step))]
     pub fn take_out(self, at: usize) -> TakeStep
         ensures { result ≡ take_step self at }
     {
-        if at >= in_use(self.count) {
+        if at >= self.jobs().len() {
             return TakeStep {
                 pending: self,
-                answer: TakeAnswer::Nobody,
+                answer: None,
             };
         }
-        let taken = self.places[at];
-        let pending = self.without(at);
         TakeStep {
-            pending,
-            answer: TakeAnswer::Taken(taken),
+            answer: Some(self.places[at]),
+            pending: self.without(at),
         }
     }
 
     // `job`, which is the job at a place, gets one unit, and is taken out if that was its last. (6.10, 6.13)
-    fn after(self, at: usize, job: Job) -> Pending
+    #[tactic(auto, unfolding(crate::specs::Units::after))]
+    fn after(mut self, at: usize, mut job: Job) -> Pending
         requires { (at < used self) × (job ≡ get_or self.places at no_job) }
         ensures { result ≡ after self at }
     {
         if job.left <= 1 {
             return self.without(at);
         }
-        let mut worked = job;
-        worked.left -= 1;
-        let mut pending = self;
-        pending.places[at] = worked;
-        pending.count = in_use(pending.count);
-        pending
+        job.left -= 1;
+        self.places[at] = job;
+        self.count = self.jobs().len();
+        self
     }
 
     // The job at a place gets one unit. If nobody is pending there, that is the answer, and nothing changes. (6.10, 10.7)
+    #[tactic(auto, unfolding(crate::specs::Units::given))]
     pub fn give(self, at: usize) -> Given
         ensures { result ≡ given self at }
     {
-        if at >= in_use(self.count) {
+        if at >= self.jobs().len() {
             return Given {
                 pending: self,
-                answer: GiveAnswer::Nobody,
+                answer: None,
             };
         }
         let job = self.places[at];
-        let ran = ran_of(job);
-        let pending = self.after(at, job);
         Given {
-            pending,
-            answer: GiveAnswer::Ran(ran),
+            answer: Some(ran_of(job)),
+            pending: self.after(at, job),
         }
     }
 
     // The place of the pending job that has a serial, or nobody. (6.27)
-    pub fn place_of(self, serial: Serial) -> Choice
+    pub fn place_of(self, serial: Serial) -> Option<usize>
         ensures { result ≡ place_of serial.0 (jobs_of self) }
     {
-        let count = in_use(self.count);
-        let mut i: usize = 0;
-        while i < count {
-            let job = self.places[i];
-            if job.serial.0 == serial.0 {
-                return Choice::Place(i);
-            }
-            i += 1;
-        }
-        Choice::Nobody
+        self.jobs().iter().position(|job| job.serial == serial)
     }
 
     // `distinct` tests that no two jobs have the same serial. In a run that came from a fresh one the serials rise from place to place, and comparing
@@ -321,19 +262,7 @@ impl Pending {
     pub fn distinct(self) -> bool
         ensures { result ≡ distinct_serials (jobs_of self) }
     {
-        let places = self.places;
-        let count = in_use(self.count);
-        if rising(places, count) {
-            return true;
-        }
-        let mut i: usize = 0;
-        while i < count {
-            if meets_again(places, count, i) {
-                return false;
-            }
-            i += 1;
-        }
-        true
+        rising(self.jobs()) || all_distinct(self.jobs())
     }
 
     // One tick takes the clock to `clock`. The job that goes first gets a unit, if one is pending. The jobs that became late were counted by the same look that
@@ -342,25 +271,21 @@ impl Pending {
         ensures { result ≡ turned self clock.0 }
     {
         let look = self.look(clock);
-        let choice = look.choice;
-        match choice {
-            Choice::Nobody => Turned {
+        match look.first {
+            None => Turned {
                 pending: self,
-                turn: Turn::Idle,
+                turn: None,
                 late: 0,
             },
-            Choice::Place(at) => {
-                let job = look.first;
-                let ran = ran_of(job);
+            Some(first) => {
                 let mut late = look.late;
-                if finishes_when_due(job, clock) {
+                if finishes_when_due(first.job, clock) {
                     late -= 1;
                 }
-                let pending = self.after(at, job);
                 Turned {
-                    pending,
-                    turn: Turn::Ran(ran),
+                    turn: Some(ran_of(first.job)),
                     late,
+                    pending: self.after(first.place, first.job),
                 }
             }
         }

@@ -25,51 +25,37 @@ pub(crate) fn no_job() -> Job
 }
 
 // The earlier due time goes first, and among equal due times the lower serial. (6.11)
+#[tactic(auto, unfolding(crate::specs::Choice::goes_before))]
 pub(crate) fn goes_before(a: Job, b: Job) -> bool
     ensures { result ≡ goes_before a b }
 {
-    if a.due.0 < b.due.0 {
-        return true;
-    }
-    if b.due.0 < a.due.0 {
-        return false;
-    }
-    a.serial.0 < b.serial.0
+    (a.due, a.serial) < (b.due, b.serial)
 }
 
 // A job becomes late if it is unfinished and its due time equals the clock. (1.9, 6.14)
 pub(crate) fn is_late(job: Job, clock: Tick) -> bool
     ensures { result ≡ is_late clock.0 job }
 {
-    if job.due.0 == clock.0 {
-        return 0 < job.left;
-    }
-    false
+    job.due == clock && 0 < job.left
 }
 
 // A job that gets a unit finishes when it is due if that unit is its last and its due time equals the clock. Without the unit it would become late. (6.13, 6.14)
 pub(crate) fn finishes_when_due(job: Job, clock: Tick) -> bool
     ensures { result ≡ finishes_when_due clock.0 job }
 {
-    if 1 < job.left {
-        return false;
-    }
-    is_late(job, clock)
+    job.left <= 1 && is_late(job, clock)
 }
 
 // For a job that gets a unit, its serial is answered, and whether it finished. (6.12)
 pub(crate) fn ran_of(job: Job) -> Ran
     ensures { result ≡ ran_of job }
 {
-    let serial = job.serial;
-    if job.left <= 1 {
-        return Ran {
-            serial,
-            finished: Finished::Yes,
-        };
-    }
     Ran {
-        serial,
-        finished: Finished::No,
+        serial: job.serial,
+        finished: if job.left <= 1 {
+            Finished::Yes
+        } else {
+            Finished::No
+        },
     }
 }

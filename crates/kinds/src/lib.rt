@@ -6,17 +6,17 @@ ghost use Rattle.kinds.specs.Numbering.{max_time, refusal_number};
 
 // The serial of a job. Accepted jobs are numbered from 0 in the order in which they are accepted, over all rows. (1.5, 1.14)
 #[repr(C)]
-#[derive(Clone, Copy)]
+#[derive(Clone, Copy, Debug, PartialEq, Eq, PartialOrd, Ord)]
 pub struct Serial(pub u64);
 
 // A row number: a row's position in its table, counted from 0. (1.2, 1.14)
 #[repr(C)]
-#[derive(Clone, Copy)]
+#[derive(Clone, Copy, Debug, PartialEq, Eq, PartialOrd, Ord)]
 pub struct RowNumber(pub u64);
 
 // A time, as a number of ticks since 0: a clock, a release, a due time or a finish. (1.3, 1.14)
 #[repr(C)]
-#[derive(Clone, Copy)]
+#[derive(Clone, Copy, Debug, PartialEq, Eq, PartialOrd, Ord)]
 pub struct Tick(pub u64);
 
 impl Tick {
@@ -42,7 +42,7 @@ pub struct Finish {
 }
 
 // Why a call refuses. There is one case for each refusal, with the name that the rules give it. (10.1, 10.3)
-#[derive(Clone, Copy)]
+#[derive(Clone, Copy, Debug, PartialEq, Eq)]
 pub enum Refusal {
     Misspelled,
     TooManyRows,
@@ -65,13 +65,23 @@ pub enum Refusal {
 }
 
 // A refusal, and the place in the lent bytes that its rule names. (10.2)
-#[derive(Clone, Copy)]
+#[derive(Clone, Copy, Debug, PartialEq, Eq)]
 pub struct RefusedAt {
     pub refusal: Refusal,
     pub place: usize,
 }
 
 impl Refusal {
+    // This refusal, at a place in the lent bytes. (10.2)
+    pub fn at(self, place: usize) -> RefusedAt
+        ensures { result ≡ record { refusal = self; place = place } }
+    {
+        RefusedAt {
+            refusal: self,
+            place,
+        }
+    }
+
     // The refusal's number. (10.3)
     pub fn number(self) -> u32
         ensures { result ≡ refusal_number self }

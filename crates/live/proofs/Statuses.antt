@@ -1,4 +1,8 @@
 -- The statuses of the calls on a live run are never 0, and tell the answers apart. (docs/RULES.md, 1.16 and 9.12.)
+use Rattle.std.specs.Prelude.{Result, Ok, Err}
+use Rattle.kinds.specs.declared.Refusal.{Refusal}
+use Rattle.run.specs.declared.Accepted.{Accepted}
+use Rattle.kinds.specs.declared.RefusedAt.{RefusedAt}
 use Prim.Native.Nat.{ℕ, ◌≤◌}
 use mathlib.Core.Path.{◌≡◌, refl, sym}
 use mathlib.Core.Bool.{cond, ◌&&◌}
@@ -11,14 +15,8 @@ use Rattle.kinds.proofs.Numbering.{never_zero}
 use Rattle.jobs.specs.declared.Finished.{Finished}
 use Rattle.jobs.specs.declared.Finished.TheVariants as finished
 use Rattle.jobs.specs.Answers.{has_finished}
-use Rattle.run.specs.declared.StartAnswer.{StartAnswer}
-use Rattle.run.specs.declared.StartAnswer.TheVariants as start
-use Rattle.run.specs.declared.Released.{Released}
-use Rattle.run.specs.declared.Released.TheVariants as release
 use Rattle.run.specs.declared.Ticked.{Ticked}
 use Rattle.run.specs.declared.Ticked.TheVariants as tick
-use Rattle.run.specs.declared.Ended.{Ended}
-use Rattle.run.specs.declared.Ended.TheVariants as end
 use Rattle.run.specs.Answers.{release_says, ran, tick_says, end_says}
 use Rattle.live.specs.Statuses.{start_said, release_said, ran_status, tick_said, end_said, release_read, tick_read, end_read}
 use Rattle.live.specs.Statuses.{NoRefusalFrom33On, StartIsSaid, LiveNeverZero, LiveReadsBack, LateReadsBack, StartedMeans}
@@ -47,13 +45,13 @@ no_refusal_from_33_on refusal.NumberTooBig = omega arith
 
 -- ---- no status is 0
 
-start_never_zero : (a : StartAnswer) → 1 ≤ (start_said a).number
-start_never_zero start.Ready = omega arith
-start_never_zero (start.Refused r) = never_zero r.refusal
+start_never_zero : (a : Result (Unit {0}) RefusedAt) → 1 ≤ (start_said a).number
+start_never_zero (Ok done) = omega arith
+start_never_zero (Err r) = never_zero r.refusal
 
-release_never_zero : (a : Released) → 1 ≤ (release_said (release_says a)).number
-release_never_zero (release.Accepted a) = omega arith
-release_never_zero (release.Refused r) = never_zero r
+release_never_zero : (a : Result Accepted Refusal) → 1 ≤ (release_said (release_says a)).number
+release_never_zero (Ok a) = omega arith
+release_never_zero (Err r) = never_zero r
 
 ran_never_zero : (f : Finished) → 1 ≤ ran_status (has_finished f)
 ran_never_zero finished.Yes = omega arith
@@ -65,18 +63,18 @@ tick_never_zero (tick.Ran r) late = ran_never_zero r.finished
 tick_never_zero tick.Taken late = omega arith
 tick_never_zero (tick.Refused r) late = never_zero r
 
-end_never_zero : (a : Ended) → 1 ≤ (end_said (end_says a)).number
-end_never_zero (end.Units n) = omega arith
-end_never_zero (end.Refused r) = never_zero r
+end_never_zero : (a : Result ℕ Refusal) → 1 ≤ (end_said (end_says a)).number
+end_never_zero (Ok n) = omega arith
+end_never_zero (Err r) = never_zero r
 
 pub live_never_zero : LiveNeverZero
 live_never_zero = (start_never_zero, release_never_zero, tick_never_zero, end_never_zero)
 
 -- ---- what is said reads back
 
-release_reads_back : (a : Released) → release_read (release_said (release_says a)) ≡ release_says a
-release_reads_back (release.Accepted a) = refl
-release_reads_back (release.Refused r) = rw (ne_eqb (refusal_number r) 34 (λ e. omega (arith, no_refusal_from_33_on r)))
+release_reads_back : (a : Result Accepted Refusal) → release_read (release_said (release_says a)) ≡ release_says a
+release_reads_back (Ok a) = refl
+release_reads_back (Err r) = rw (ne_eqb (refusal_number r) 34 (λ e. omega (arith, no_refusal_from_33_on r)))
 
 ran_reads_back : (f : Finished) (serial late : ℕ)
     → tick_read (record { number = ran_status (has_finished f); first = serial; second = late }) ≡ ran serial (has_finished f)
@@ -96,9 +94,9 @@ tick_reads_back (tick.Refused r) late =
       ne_eqb (refusal_number r) 38 (λ e. omega (arith, low)),
     )
 
-end_reads_back : (a : Ended) → end_read (end_said (end_says a)) ≡ end_says a
-end_reads_back (end.Units n) = refl
-end_reads_back (end.Refused r) = rw (ne_eqb (refusal_number r) 39 (λ e. omega (arith, no_refusal_from_33_on r)))
+end_reads_back : (a : Result ℕ Refusal) → end_read (end_said (end_says a)) ≡ end_says a
+end_reads_back (Ok n) = refl
+end_reads_back (Err r) = rw (ne_eqb (refusal_number r) 39 (λ e. omega (arith, no_refusal_from_33_on r)))
 
 pub live_reads_back : LiveReadsBack
 live_reads_back = (release_reads_back, tick_reads_back, end_reads_back)
@@ -121,8 +119,8 @@ pub start_is_said : StartIsSaid
 start_is_said = (refl, λ r place. refl)
 
 pub started_means : StartedMeans
-started_means start.Ready = (λ e. refl, λ e. refl)
-started_means (start.Refused r) = (
+started_means (Ok done) = (λ e. refl, λ e. refl)
+started_means (Err r) = (
   λ e. absurd (omega (arith, no_refusal_from_33_on r.refusal)),
   λ e. absurd (let z : ◌≡◌ {A = ℕ} 0 1 = cc in omega arith),
 )

@@ -1,24 +1,38 @@
--- What the calls on a live run say to the host: a status, and two numbers beside it. (docs/RULES.md, 9.12.)
-use Rattle.std.specs.Prelude.{ℕ, ◌≤◌, ◌<◌, ◌≡◌, ◌↔◌, Bool, true, false, cond, ◌&&◌, eqb, leb}
+-- The statuses that the host is told, and what the calls on a live run say: a status, and two numbers beside it. (docs/RULES.md, 1.15 and 9.12.)
+use Rattle.run.specs.declared.Accepted.{Accepted}
+use Rattle.kinds.specs.declared.RefusedAt.{RefusedAt}
+use Rattle.std.specs.Prelude.{ℕ, ◌≤◌, ◌<◌, ◌≡◌, ◌↔◌, Bool, true, false, cond, ◌&&◌, eqb, leb, Result, Ok, Err}
 use Rattle.kinds.specs.Numbering.{Said, refusal_number, refusal_at, refused_says}
 use Rattle.kinds.specs.declared.Refusal.{Refusal}
-use Rattle.run.specs.declared.StartAnswer.{StartAnswer}
-use Rattle.run.specs.declared.StartAnswer.TheVariants as start
-use Rattle.run.specs.declared.Released.{Released}
 use Rattle.run.specs.declared.Ticked.{Ticked}
-use Rattle.run.specs.declared.Ended.{Ended}
 use Rattle.run.specs.Answers.{ReleaseSays, accepted, release_says, TickSays, idle, ran, taken, tick_says, EndingSays, ended_with, end_says}
 use Rattle.run.specs.Answers as says
 use Rattle.live.specs.declared.Saying.{Saying}
+use Rattle.live.specs.declared.Status.{Status}
+use Rattle.live.specs.declared.Status.TheVariants as status
+
+-- The number of each status that is no refusal. (1.15, 9.12)
+abbrev pub status_number : Status → ℕ
+status_number status.Feasible = 20
+status_number status.Overloaded = 21
+status_number status.InTime = 22
+status_number status.Late = 23
+status_number status.Started = 33
+status_number status.Accepted = 34
+status_number status.Idle = 35
+status_number status.Ran = 36
+status_number status.Finished = 37
+status_number status.Taken = 38
+status_number status.Ended = 39
 
 -- The status and the two numbers that the code hands on.
 abbrev pub as_said : Saying → Said
 as_said s = record { number = s.number; first = s.first; second = s.second }
 
 -- A start says 33, 0 and 0, or the table's refusal with its place. (9.10, 9.12)
-abbrev pub start_said : StartAnswer → Said
-start_said start.Ready = record { number = 33; first = 0; second = 0 }
-start_said (start.Refused r) = refused_says r
+abbrev pub start_said : Result (Unit {0}) RefusedAt → Said
+start_said (Ok done) = record { number = 33; first = 0; second = 0 }
+start_said (Err r) = refused_says r
 
 -- A release says 34, the job's serial and its due time, or its refusal. (9.12)
 abbrev pub release_said : ReleaseSays → Said
@@ -74,23 +88,23 @@ NoRefusalFrom33On = (r : Refusal) → refusal_number r < 33
 -- A start that is ready says 33, 0 and 0. One that is refused says the table's refusal: its number, its place and 0. (9.12)
 abbrev pub StartIsSaid : Type 0
 StartIsSaid =
-    (start_said start.Ready ≡ record { number = 33; first = 0; second = 0 })
-    × ((r : Refusal) (place : ℕ) → start_said (start.Refused (record { refusal = r; place = place })) ≡ refusal_at (refusal_number r) place)
+    (start_said (Ok tt) ≡ record { number = 33; first = 0; second = 0 })
+    × ((r : Refusal) (place : ℕ) → start_said (Err (record { refusal = r; place = place })) ≡ refusal_at (refusal_number r) place)
 
 -- No call on a live run says the status 0. (1.16)
 abbrev pub LiveNeverZero : Type 0
 LiveNeverZero =
-    ((a : StartAnswer) → 1 ≤ (start_said a).number)
-    × ((a : Released) → 1 ≤ (release_said (release_says a)).number)
+    ((a : Result (Unit {0}) RefusedAt) → 1 ≤ (start_said a).number)
+    × ((a : Result Accepted Refusal) → 1 ≤ (release_said (release_says a)).number)
     × ((a : Ticked) (late : ℕ) → 1 ≤ (tick_said (tick_says a) late).number)
-    × ((a : Ended) → 1 ≤ (end_said (end_says a)).number)
+    × ((a : Result ℕ Refusal) → 1 ≤ (end_said (end_says a)).number)
 
 -- What a release, a tick or an end says reads back as the answer of the run's own call. So different answers say different things. (1.17, 9.12)
 abbrev pub LiveReadsBack : Type 0
 LiveReadsBack =
-    ((a : Released) → release_read (release_said (release_says a)) ≡ release_says a)
+    ((a : Result Accepted Refusal) → release_read (release_said (release_says a)) ≡ release_says a)
     × ((a : Ticked) (late : ℕ) → tick_read (tick_said (tick_says a) late) ≡ tick_says a)
-    × ((a : Ended) → end_read (end_said (end_says a)) ≡ end_says a)
+    × ((a : Result ℕ Refusal) → end_read (end_said (end_says a)) ≡ end_says a)
 
 -- The late count of a tick reads back, where it is 0 beside idle and beside a refusal, as 6.14 says. (6.14, 9.12)
 abbrev pub LateReadsBack : Type 0
@@ -99,4 +113,4 @@ LateReadsBack = (a : Ticked) (late : ℕ) → (tick_says a ≡ idle → late ≡
 
 -- A start says 33 exactly where the table is accepted. (9.10, 9.12)
 abbrev pub StartedMeans : Type 0
-StartedMeans = (a : StartAnswer) → ((start_said a).number ≡ 33) ↔ (a ≡ start.Ready)
+StartedMeans = (a : Result (Unit {0}) RefusedAt) → ((start_said a).number ≡ 33) ↔ (a ≡ (Ok tt))

@@ -1,16 +1,54 @@
-// What the calls on a live run say to the host: a status, which is never zero, and two numbers beside it. (docs/RULES.md, 9.12.)
+// What the host is told: a status, which is never zero, and two numbers beside it. Here stand all statuses, and what the calls on a live run say.
+// (docs/RULES.md, 1.15 and 9.12.)
 #![tactic(auto)]
 
 ghost use Rattle.std.specs.Prelude.{◌≡◌};
-ghost use Rattle.kinds.specs.Numbering.{refused_says};
+ghost use Rattle.kinds.specs.Numbering.{refused_says, without_place};
 ghost use Rattle.run.specs.Answers.{release_says, tick_says, end_says};
-ghost use Rattle.live.specs.Statuses.{as_said, start_said, release_said, tick_said, end_said};
+ghost use Rattle.live.specs.Statuses.{status_number, as_said, start_said, release_said, tick_said, end_said};
 
 use jobs::Finished;
 use kinds::{Refusal, RefusedAt};
-use run::{Ended, Released, StartAnswer, Ticked};
+use run::{Accepted, Ticked};
 
-// A status, and the two numbers beside it. (9.4)
+// The statuses that are no refusal. (1.15, 9.12)
+#[derive(Clone, Copy, Debug, PartialEq, Eq)]
+pub enum Status {
+    Feasible,
+    Overloaded,
+    InTime,
+    Late,
+    Started,
+    Accepted,
+    Idle,
+    Ran,
+    Finished,
+    Taken,
+    Ended,
+}
+
+impl Status {
+    // The status's number. (1.15, 9.12)
+    pub fn number(self) -> u32
+        ensures { result ≡ status_number self }
+    {
+        match self {
+            Status::Feasible => 20,
+            Status::Overloaded => 21,
+            Status::InTime => 22,
+            Status::Late => 23,
+            Status::Started => 33,
+            Status::Accepted => 34,
+            Status::Idle => 35,
+            Status::Ran => 36,
+            Status::Finished => 37,
+            Status::Taken => 38,
+            Status::Ended => 39,
+        }
+    }
+}
+
+// The number of a status or of a refusal, and the two numbers beside it. (9.4)
 #[derive(Clone, Copy)]
 pub struct Saying {
     pub number: u32,
@@ -18,57 +56,58 @@ pub struct Saying {
     pub second: u64,
 }
 
-// The statuses that are no refusal are 33 to 39. (9.12)
-const STARTED: u32 = 33;
-
-const ACCEPTED: u32 = 34;
-
-const IDLE: u32 = 35;
-
-const RAN: u32 = 36;
-
-const FINISHED: u32 = 37;
-
-const TAKEN: u32 = 38;
-
-const ENDED: u32 = 39;
-
-// A status with its two numbers.
-fn said(number: u32, first: u64, second: u64) -> Saying
-    ensures { as_said result ≡ record { number = number; first = first; second = second } }
-{
-    Saying {
-        number,
-        first,
-        second,
+impl Saying {
+    // A status that is no refusal, with its two numbers. (9.4)
+    pub fn new(status: Status, first: u64, second: u64) -> Saying
+        ensures { result ≡ record { number = status_number status; first = first; second = second } }
+    {
+        Saying {
+            number: status.number(),
+            first,
+            second,
+        }
     }
 }
 
-// What a refusal says: its number, its place and 0. (9.12)
-fn refused(at: RefusedAt) -> Saying
-    ensures { as_said result ≡ refused_says at }
-{
-    let refusal = at.refusal;
-    said(refusal.number(), at.place as u64, 0)
+impl From<RefusedAt> for Saying {
+    ghost from_gives = { λ at said. as_said said ≡ refused_says at };
+
+    // A refusal with a place says its number, its place and 0. (9.12)
+    fn from(at: RefusedAt) -> Saying {
+        Saying {
+            number: at.refusal.number(),
+            first: at.place as u64,
+            second: 0,
+        }
+    }
+}
+
+impl From<Refusal> for Saying {
+    ghost from_gives = { λ refusal said. as_said said ≡ refused_says (without_place refusal) };
+
+    // A refusal that names no place says its number and place 0. (9.12, 10.2)
+    fn from(refusal: Refusal) -> Saying {
+        refusal.at(0).into()
+    }
 }
 
 // What a start says. (9.10, 9.12)
-pub fn start(answer: StartAnswer) -> Saying
+pub fn start(answer: Result<(), RefusedAt>) -> Saying
     ensures { as_said result ≡ start_said answer }
 {
     match answer {
-        StartAnswer::Ready => said(STARTED, 0, 0),
-        StartAnswer::Refused(at) => refused(at),
+        Ok(()) => Saying::new(Status::Started, 0, 0),
+        Err(at) => at.into(),
     }
 }
 
 // What a release says. Its refusals name no place. (9.12, 10.2)
-pub fn release(answer: Released) -> Saying
+pub fn release(answer: Result<Accepted, Refusal>) -> Saying
     ensures { as_said result ≡ release_said (release_says answer) }
 {
     match answer {
-        Released::Accepted(a) => said(ACCEPTED, a.serial.0, a.due.0),
-        Released::Refused(r) => said(r.number(), 0, 0),
+        Ok(job) => Saying::new(Status::Accepted, job.serial.0, job.due.0),
+        Err(refusal) => refusal.into(),
     }
 }
 
@@ -77,25 +116,22 @@ pub fn tick(answer: Ticked, late: u64) -> Saying
     ensures { as_said result ≡ tick_said (tick_says answer) late }
 {
     match answer {
-        Ticked::Idle => said(IDLE, 0, 0),
-        Ticked::Ran(ran) => {
-            let finished = ran.finished;
-            match finished {
-                Finished::No => said(RAN, ran.serial.0, late),
-                Finished::Yes => said(FINISHED, ran.serial.0, late),
-            }
-        }
-        Ticked::Taken => said(TAKEN, 0, late),
-        Ticked::Refused(r) => said(r.number(), 0, 0),
+        Ticked::Idle => Saying::new(Status::Idle, 0, 0),
+        Ticked::Ran(ran) => match ran.finished {
+            Finished::No => Saying::new(Status::Ran, ran.serial.0, late),
+            Finished::Yes => Saying::new(Status::Finished, ran.serial.0, late),
+        },
+        Ticked::Taken => Saying::new(Status::Taken, 0, late),
+        Ticked::Refused(r) => r.into(),
     }
 }
 
 // What an end says. Its refusals name no place. (9.12, 10.2)
-pub fn end(answer: Ended) -> Saying
+pub fn end(answer: Result<u64, Refusal>) -> Saying
     ensures { as_said result ≡ end_said (end_says answer) }
 {
     match answer {
-        Ended::Units(units) => said(ENDED, units, 0),
-        Ended::Refused(r) => said(r.number(), 0, 0),
+        Ok(units) => Saying::new(Status::Ended, units, 0),
+        Err(r) => r.into(),
     }
 }

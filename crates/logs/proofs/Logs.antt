@@ -1,4 +1,6 @@
 -- The laws of records and logs are proved: what was written reads back as itself, and as nothing else. (docs/RULES.md, section 8.)
+use Rattle.std.specs.Prelude.{Result, Ok, Err}
+use Rattle.kinds.specs.declared.RefusedAt.{RefusedAt}
 use Prim.Native.Nat.{ℕ, ◌+◌, ◌-◌, ◌≤◌, ◌<◌}
 use native.Mathlib.Decide.{dec_le}
 use native.Mathlib.Omega.{arith}
@@ -16,9 +18,6 @@ use Rattle.kinds.specs.declared.Finish.{Finish}
 use Rattle.kinds.specs.declared.Refusal.TheVariants.{NumberTooBig, NoRoom}
 use Rattle.kinds.proofs.Apart.{impossible}
 use Rattle.numbers.specs.declared.Number.{Number}
-use Rattle.numbers.specs.declared.NumberRead.{NumberRead}
-use Rattle.numbers.specs.declared.NumberRead.TheVariants as number
-use Rattle.numbers.specs.declared.Written.TheVariants.{Length, Refused}
 use Rattle.numbers.specs.Spelling.{max_number, spelling}
 use Rattle.numbers.specs.Reading.{read_at}
 use Rattle.numbers.specs.SpelledNumbers.{Bytes}
@@ -47,7 +46,7 @@ none_stand s at = record { in_range = refl; here = refl; ends = omega arith }
 
 -- Where numbers stand at a place, the first of them is read there, and the others stand right after it.
 first_read : {s : List ℕ} {at v : ℕ} {vs : List ℕ} {next : ℕ} → Stand s at (v ∷ vs) next
-    → (mid : ℕ) × (read_at s at ≡ number.Number (record { value = v; next = mid })) × Stand s mid vs next
+    → (mid : ℕ) × (read_at s at ≡ Ok (record { value = v; next = mid })) × Stand s mid vs next
 unfolding flatten
 first_read {s} {at} {v} {vs} {next} p =
     let fits = (and-eq-true_iff (leb v max_number) (all_in_range vs)).0 p.in_range in
@@ -63,7 +62,7 @@ first_read {s} {at} {v} {vs} {next} p =
     )
 
 -- Where a number is read at a place and numbers stand right after it, all of them stand there together.
-first_stands : {s : List ℕ} (at : ℕ) {n : Number} {vs : List ℕ} {next : ℕ} → Bytes s → read_at s at ≡ number.Number n → Stand s n.next vs next
+first_stands : {s : List ℕ} (at : ℕ) {n : Number} {vs : List ℕ} {next : ℕ} → Bytes s → read_at s at ≡ Ok n → Stand s n.next vs next
     → Stand s at (n.value ∷ vs) next
 unfolding flatten
 first_stands {s} at {n} {vs} {next} b e p =
@@ -77,10 +76,10 @@ first_stands {s} at {n} {vs} {next} b e p =
 -- ---- records
 
 -- A record is found after a number only where the number was read.
-after_number : {G : Type 0} (v : NumberRead) (k : Number → Option FinishAt) {found : FinishAt} → after_log_number v k ≡ some found
-    → ((n : Number) → v ≡ number.Number n → k n ≡ some found → G) → G
-after_number (number.Number n) k e then = then n refl e
-after_number (number.Refused r) k e then = impossible cc
+after_number : {G : Type 0} (v : Result Number RefusedAt) (k : Number → Option FinishAt) {found : FinishAt} → after_log_number v k ≡ some found
+    → ((n : Number) → v ≡ Ok n → k n ≡ some found → G) → G
+after_number (Ok n) k e then = then n refl e
+after_number (Err r) k e then = impossible cc
 
 -- Two findings that are the same have found the same record.
 one_found : {x y : FinishAt} → some x ≡ some y → x ≡ y
@@ -128,7 +127,7 @@ records_differ f g s t a b e =
 
 -- The record writer answers a length in one of the four cases of its two tests: the numbers have spellings, and there is room.
 by_tests : (f : Finish) (room took : ℕ) (in_range had_room : Bool) → all_in_range (values_of f) ≡ in_range
-    → leb (length (spelled_finish f)) room ≡ had_room → written_record f room ≡ Length took → WroteRecord f room took
+    → leb (length (spelled_finish f)) room ≡ had_room → written_record f room ≡ Ok took → WroteRecord f room took
 by_tests f room took true true p q e =
     let z : took ≡ length (spelled_finish f) = cc in
     record { in_range = p; spelled = z; had_room = omega (arith, leb-true (length (spelled_finish f)) room q) }
@@ -137,18 +136,18 @@ by_tests f room took false true p q e = impossible cc
 by_tests f room took false false p q e = impossible cc
 
 -- Where a length is answered, the record was written. (What the answers say is proved in proofs/Answers.antt.)
-pub record_written : (f : Finish) (room took : ℕ) → written_record f room ≡ Length took → WroteRecord f room took
+pub record_written : (f : Finish) (room took : ℕ) → written_record f room ≡ Ok took → WroteRecord f room took
 record_written f room took e = by_tests f room took _ _ refl refl e
 
 -- A record with a number above 2^42 - 1 is refused with 25, and after that one that has no room with 12.
 pub record_refusals : (f : Finish) (room : ℕ)
-    → ((written_record f room ≡ Refused NumberTooBig) ↔ (all_in_range (values_of f) ≡ false))
-    × ((written_record f room ≡ Refused NoRoom) ↔ ((all_in_range (values_of f) ≡ true) × (room < length (spelled_finish f))))
+    → ((written_record f room ≡ Err NumberTooBig) ↔ (all_in_range (values_of f) ≡ false))
+    × ((written_record f room ≡ Err NoRoom) ↔ ((all_in_range (values_of f) ≡ true) × (room < length (spelled_finish f))))
 record_refusals f room = by_range _ refl
   where
     by_range : (b : Bool) → all_in_range (values_of f) ≡ b
-        → ((written_record f room ≡ Refused NumberTooBig) ↔ (all_in_range (values_of f) ≡ false))
-        × ((written_record f room ≡ Refused NoRoom) ↔ ((all_in_range (values_of f) ≡ true) × (room < length (spelled_finish f))))
+        → ((written_record f room ≡ Err NumberTooBig) ↔ (all_in_range (values_of f) ≡ false))
+        × ((written_record f room ≡ Err NoRoom) ↔ ((all_in_range (values_of f) ≡ true) × (room < length (spelled_finish f))))
     by_range false p =
         let answer = answers_too_big f room p in
         ((λ e. p, λ q. answer), (λ e. impossible cc, λ q. impossible cc))

@@ -1,4 +1,5 @@
 -- The five numbers of a record are first tested and measured, and then written, one after another. (docs/RULES.md, section 8.)
+use Rattle.std.specs.Prelude.{Result, Ok, Err}
 use Prim.Native.Nat.{ℕ, ◌+◌, ◌-◌, ◌*◌, ◌≤◌, ◌<◌}
 use native.Mathlib.Nat.{zero-add}
 use native.Mathlib.Numerals.{add-one}
@@ -10,14 +11,12 @@ use lib.Dec.{leb}
 use lib.ListN.{length, get_or, take, drop, length-append, length-take, length-drop, take-append-drop, drop_of_length-le}
 use lib.Seq.{sets, sets-eq, length-sets, drop-cons, drop-drop, drop-append-le, drop-length, take-length}
 use borrow.Author.Tests.{le-leb, lt-leb}
-use borrow.Rule.Slice.PartMut.{mid_of, put_mid}
+use borrow.Rule.Slice.PartMut.{mid_of, put_mid, mid_len}
 use Rattle.kinds.specs.declared.Finish.{Finish}
 use Rattle.kinds.specs.declared.Refusal.{Refusal}
 use Rattle.kinds.specs.declared.Refusal.TheVariants.{NumberTooBig, NoRoom}
 use Rattle.kinds.proofs.Apart.{impossible}
 use Rattle.kinds.proofs.Lists.{sets-append}
-use Rattle.numbers.specs.declared.Written.{Written}
-use Rattle.numbers.specs.declared.Written.TheVariants.{Length, Refused}
 use Rattle.numbers.specs.Spelling.{max_groups, max_number, spelling}
 use Rattle.numbers.specs.Writing.{length_of, written, buffer_after}
 use Rattle.numbers.proofs.Spellings.{spelling_length, length_answered}
@@ -51,42 +50,21 @@ module _ (vs : List ℕ) (i : ℕ) (h : i < length vs) where
 -- ---- the record writer's answer, by its tests
 
 module _ (f : Finish) (room : ℕ) where
-  pub answers_too_big : all_in_range (values_of f) ≡ false → written_record f room ≡ Refused NumberTooBig
+  pub answers_too_big : all_in_range (values_of f) ≡ false → written_record f room ≡ Err NumberTooBig
   answers_too_big e = simp e
 
-  pub answers_no_room : all_in_range (values_of f) ≡ true → room < length (spelled_finish f) → written_record f room ≡ Refused NoRoom
+  pub answers_no_room : all_in_range (values_of f) ≡ true → room < length (spelled_finish f) → written_record f room ≡ Err NoRoom
   answers_no_room e h = simp (e, lt-leb _ _ h)
 
-  pub answers_length : all_in_range (values_of f) ≡ true → length (spelled_finish f) ≤ room → written_record f room ≡ Length (length (spelled_finish f))
+  pub answers_length : all_in_range (values_of f) ≡ true → length (spelled_finish f) ≤ room → written_record f room ≡ Ok (length (spelled_finish f))
   answers_length e h = simp (e, le-leb _ _ h)
-
--- ---- the numbers are tested
-
-module _ (values : List ℕ) (i : ℕ) where
-  -- Where value i is above 2^42 - 1, and all depends on the values from i on, not all values have spellings.
-  pub too_big_here : i < length values → max_number < get_or values i 0 → all_in_range (drop i values) ≡ all_in_range values → false ≡ all_in_range values
-  too_big_here h big e = sym (range_next values i h ∙ simp (lt-leb _ _ big)) ∙ e
-
-  -- Where value i is at most 2^42 - 1, and all depends on the values from i on, all depends on those after it.
-  pub range_left : i < length values → get_or values i 0 ≤ max_number → all_in_range (drop i values) ≡ all_in_range values
-      → all_in_range (drop (i + 1) values) ≡ all_in_range values
-  range_left h fits e = sym (range_next values i h ∙ simp (le-leb _ _ fits)) ∙ e
-
-  -- Where all depends on no value any more, all values have spellings.
-  pub all_tested : length values ≤ i → all_in_range (drop i values) ≡ all_in_range values → true ≡ all_in_range values
-  all_tested h e = rw (drop_of_length-le values h) at e
 
 -- ---- the numbers are counted
 
 -- Where the length of a number is answered, the number has a spelling, and this is its length.
-length_told : (v : ℕ) (fits : Bool) → leb v max_number ≡ fits → (n : ℕ) → length_of v ≡ Length n → (leb v max_number ≡ true) × (n ≡ length (spelling v))
+length_told : (v : ℕ) (fits : Bool) → leb v max_number ≡ fits → (n : ℕ) → length_of v ≡ Ok n → (leb v max_number ≡ true) × (n ≡ length (spelling v))
 length_told v true e n t = (e, cc)
 length_told v false e n t = (cc, cc)
-
--- Where the length of a number is refused, the number is above 2^42 - 1.
-length_refused : (v : ℕ) (fits : Bool) → leb v max_number ≡ fits → (r : Refusal) → length_of v ≡ Refused r → (leb v max_number ≡ false) × (r ≡ NumberTooBig)
-length_refused v true e r t = (cc, cc)
-length_refused v false e r t = (e, cc)
 
 -- The first i values have spellings and take `room` bytes together.
 pub record Counted (values : List ℕ) (room i : ℕ) : Type 0 where
@@ -100,7 +78,7 @@ none_counted values = record { not_past = omega arith; in_range = refl; takes = 
 
 module _ {values : List ℕ} {room i : ℕ} (p : Counted values room i) where
   -- A value whose length is answered is counted.
-  pub one_counted : i < length values → {n : ℕ} → length_of (get_or values i 0) ≡ Length n → Counted values (room + n) (i + 1)
+  pub one_counted : i < length values → {n : ℕ} → length_of (get_or values i 0) ≡ Ok n → Counted values (room + n) (i + 1)
   one_counted h {n} e =
       let t = length_told (get_or values i 0) _ refl n e in
       record {
@@ -108,12 +86,6 @@ module _ {values : List ℕ} {room i : ℕ} (p : Counted values room i) where
         in_range = sym (range_next values i h ∙ simp t.0) ∙ p.in_range;
         takes = omega (arith, p.takes, t.1, takes_next values i h);
       }
-
-  -- Where the length of a value is refused, that value is above 2^42 - 1, and so not all values have spellings.
-  pub one_too_big : i < length values → {r : Refusal} → length_of (get_or values i 0) ≡ Refused r → (all_in_range values ≡ false) × (r ≡ NumberTooBig)
-  one_too_big h {r} e =
-      let t = length_refused (get_or values i 0) _ refl r e in
-      (sym p.in_range ∙ range_next values i h ∙ simp t.0, t.1)
 
   -- After the loop all values are counted: they have spellings, and `room` is the length of all of them together.
   pub all_counted : length values ≤ i → (all_in_range values ≡ true) × (room ≡ length (spelled_numbers values))
@@ -134,13 +106,18 @@ module _ (log : List ℕ) (at : ℕ) where
   rest_put rest = rw (← length-drop, drop-length, append-nil)
 
   -- After a number was written into a part from the place on that has room for it, the log has the number's groups there, one after another.
-  number_put : (v n size : ℕ) (part : List ℕ) → n ≡ length (spelling v) → n ≤ length (mid_of at size log) → part ≡ buffer_after (Length n) v (mid_of at size log)
+  number_put : (v n size : ℕ) (part : List ℕ) → n ≡ length (spelling v) → n ≤ length (mid_of at size log) → part ≡ buffer_after (Ok n) v (mid_of at size log)
       → put_mid at size log part ≡ sets log at (spelling v)
   number_put v n size part e h w =
       let kept : drop n (mid_of at size log) ++ drop size (drop at log) ≡ drop (at + n) log =
       sym (drop-append-le n (mid_of at size log) _ h) ∙ rw (take-append-drop, drop-drop) in
       let within : at + n ≤ length log = omega (arith, simp (length-take, length-drop) at h, spelling_length v) in
       rw (w, append_assoc, kept, ← append_assoc, e) (sym (sets-eq (spelling v) log at (omega arith)))
+
+-- Six bytes that are lent have room for any number.
+pub six_bytes_have_room : (log : List ℕ) (at v : ℕ) → at + max_groups ≤ length log
+    → length (spelling v) ≤ length (mid_of at (at + max_groups - at) log)
+six_bytes_have_room log at v h = rw (mid_len at (at + max_groups) log h) (omega (arith, spelling_length v))
 
 -- ---- the numbers are written
 
@@ -174,17 +151,17 @@ module _ {values rest₀ rest : List ℕ} {at k : ℕ} (p : Standing values rest
 
   -- The next value is written into a part from the place on that has room for it.
   module _ (size : ℕ) (has_room : length (spelling (get_or values k 0)) ≤ length (mid_of at size rest))
-      {answer : Written} (e : answer ≡ written (get_or values k 0) (length (mid_of at size rest))) where
+      {answer : Result ℕ Refusal} (e : answer ≡ written (get_or values k 0) (length (mid_of at size rest))) where
     -- The number writer answers the next value's length.
-    next_fits : written (get_or values k 0) (length (mid_of at size rest)) ≡ Length (length (spelling (get_or values k 0)))
+    next_fits : written (get_or values k 0) (length (mid_of at size rest)) ≡ Ok (length (spelling (get_or values k 0)))
     next_fits = simp (next_in_range.0, le-leb _ _ has_room)
 
     -- The next value is never refused.
-    pub never_refused : {r : Refusal} → answer ≡ Refused r → ⊥
+    pub never_refused : {r : Refusal} → answer ≡ Err r → ⊥
     never_refused a = let f = next_fits in impossible cc
 
     -- After it was written, the next value stands behind the others.
-    pub one_standing : {n : ℕ} {after : List ℕ} → after ≡ buffer_after answer (get_or values k 0) (mid_of at size rest) → answer ≡ Length n
+    pub one_standing : {n : ℕ} {after : List ℕ} → after ≡ buffer_after answer (get_or values k 0) (mid_of at size rest) → answer ≡ Ok n
         → Standing values rest₀ (put_mid at size rest after) (at + n) (k + 1)
     one_standing {n} {after} w a =
         let took = (length_answered (get_or values k 0) _ n (sym e ∙ a)).spelled in

@@ -1,10 +1,10 @@
 -- The spelling of a log's record, and what the record writer answers and leaves. (docs/RULES.md, 8.8 to 8.10.)
-use Rattle.std.specs.Prelude.{ℕ, Bool, true, cond, ◌&&◌, leb, length, drop}
+use Rattle.kinds.specs.declared.Refusal.{Refusal}
+use Rattle.std.specs.Prelude.{ℕ, Bool, cond, leb, length, drop, Result, Ok, Err}
+use Rattle.std.specs.List.{list_all}
 use mathlib.Core.List.{List, [], ◌∷◌, ◌++◌, flatten, map}
 use Rattle.kinds.specs.declared.Finish.{Finish}
 use Rattle.kinds.specs.declared.Refusal.TheVariants.{NumberTooBig, NoRoom}
-use Rattle.numbers.specs.declared.Written.{Written}
-use Rattle.numbers.specs.declared.Written.TheVariants.{Length, Refused}
 use Rattle.numbers.specs.Spelling.{max_number, spelling}
 
 -- The five numbers of a record, left to right: serial, row number, release, due time, finish. (8.8)
@@ -21,18 +21,17 @@ spelled_finish f = spelled_numbers (values_of f)
 
 -- Every one of the numbers is at most 2^42 - 1, so that it has a spelling. (2.4)
 abbrev pub all_in_range : List ℕ → Bool
-all_in_range [] = true
-all_in_range (v ∷ vs) = leb v max_number && all_in_range vs
+all_in_range vs = list_all (λ v. leb v max_number) vs
 
 -- What the record writer answers: 25 if any of the five numbers is above 2^42 - 1, then 12 if the record is longer than the room, and else its length. (8.10)
-abbrev pub written_record : Finish → (room : ℕ) → Written
+abbrev pub written_record : Finish → (room : ℕ) → Result ℕ Refusal
 written_record f room =
     cond (all_in_range (values_of f))
-    (cond (leb (length (spelled_finish f)) room) (Length (length (spelled_finish f))) (Refused NoRoom))
-    (Refused NumberTooBig)
+    (cond (leb (length (spelled_finish f)) room) (Ok (length (spelled_finish f))) (Err NoRoom))
+    (Err NumberTooBig)
 
 -- The rest of the log after the record writer's answer. After a length it has the record, and behind that what stood there before. After a refusal it is
 -- unchanged. (8.10)
-abbrev pub rest_after : Written → Finish → List ℕ → List ℕ
-rest_after (Length k) f rest = spelled_finish f ++ drop k rest
-rest_after (Refused r) f rest = rest
+abbrev pub rest_after : Result ℕ Refusal → Finish → List ℕ → List ℕ
+rest_after (Ok k) f rest = spelled_finish f ++ drop k rest
+rest_after (Err r) f rest = rest

@@ -1,12 +1,10 @@
 -- The laws of log records and of whole logs. (docs/RULES.md, section 8.)
-use Rattle.std.specs.Prelude.{ℕ, ◌+◌, ◌-◌, ◌≤◌, ◌<◌, ◌≡◌, ◌↔◌, true, false, List, [], ◌∷◌, ◌++◌, length}
+use Rattle.std.specs.Prelude.{ℕ, ◌+◌, ◌-◌, ◌≤◌, ◌<◌, ◌≡◌, ◌↔◌, true, false, List, [], ◌∷◌, ◌++◌, length, Result, Ok, Err}
 use Rattle.std.proofs.Math.Option.{some}
 use borrow.Rule.Slice.PartMut.{mid_of, put_mid}
 use Rattle.kinds.specs.declared.Finish.{Finish}
 use Rattle.kinds.specs.declared.Refusal.{Refusal}
 use Rattle.kinds.specs.Numbering.{values, refused_with}
-use Rattle.numbers.specs.declared.Written.{Written}
-use Rattle.numbers.specs.declared.Written.TheVariants.{Length, Refused}
 use Rattle.numbers.specs.Answers.{written_says}
 use Rattle.numbers.specs.SpelledNumbers.{Bytes}
 use Rattle.logs.specs.Log.{values_of, spelled_finish, all_in_range, written_record, rest_after}
@@ -67,15 +65,15 @@ OneLog = (fs gs : List Finish) → EachInRange fs → EachInRange gs → spelled
 -- What the writer ensures about the rest of a log that it is lent settles the whole log. `mid_of` is the part that `&mut log[at..]` lends, and `put_mid` is the
 -- whole log once the part is back. (8.9)
 abbrev pub RestOfLog : Type 0
-RestOfLog = (log : List ℕ) (at : ℕ) (f : Finish) (answer : Written) (rest : List ℕ)
+RestOfLog = (log : List ℕ) (at : ℕ) (f : Finish) (answer : Result ℕ Refusal) (rest : List ℕ)
     → answer ≡ written_record f (length (mid_of at (length log - at) log)) → rest ≡ rest_after answer f (mid_of at (length log - at) log)
     → RecordBehind log at f answer (put_mid at (length log - at) log rest)
 
 -- If the log buffer holds some records up to a place, and one more record is written there, it holds that record too, up to the place after it. (8.9)
 abbrev pub LogGrows : Type 0
 LogGrows = (fs : List Finish) (log₀ log : List ℕ) (at : ℕ) → HoldsRecords fs log₀ log at → (f : Finish) (took : ℕ) (after : List ℕ)
-    → RecordBehind log at f (Length took) after → HoldsRecords (fs ++ (f ∷ [])) log₀ after (at + took)
+    → RecordBehind log at f (Ok took) after → HoldsRecords (fs ++ (f ∷ [])) log₀ after (at + took)
 
 -- A record that is refused leaves the whole log as it was. (8.10)
 abbrev pub LogKept : Type 0
-LogKept = (log : List ℕ) (at : ℕ) (f : Finish) (r : Refusal) (after : List ℕ) → RecordBehind log at f (Refused r) after → after ≡ log
+LogKept = (log : List ℕ) (at : ℕ) (f : Finish) (r : Refusal) (after : List ℕ) → RecordBehind log at f (Err r) after → after ≡ log

@@ -1,12 +1,11 @@
 -- How a log is spelled, how its records are read, and what it means that a log holds the records of some jobs. (docs/RULES.md, section 8.)
-use Rattle.std.specs.Prelude.{ℕ, ◌+◌, ◌-◌, ◌≤◌, ◌≡◌, true, length, take, drop}
+use Rattle.kinds.specs.declared.Refusal.{Refusal}
+use Rattle.kinds.specs.declared.RefusedAt.{RefusedAt}
+use Rattle.std.specs.Prelude.{ℕ, ◌+◌, ◌-◌, ◌≤◌, ◌≡◌, true, length, take, drop, Result, Ok, Err}
 use Rattle.std.proofs.Math.Option.{Option, none, some}
 use mathlib.Core.List.{List, [], ◌∷◌, ◌++◌, flatten, map, Memᴰ}
 use Rattle.kinds.specs.declared.Finish.{Finish}
 use Rattle.numbers.specs.declared.Number.{Number}
-use Rattle.numbers.specs.declared.NumberRead.{NumberRead}
-use Rattle.numbers.specs.declared.NumberRead.TheVariants as number
-use Rattle.numbers.specs.declared.Written.{Written}
 use Rattle.numbers.specs.Reading.{read_at}
 use Rattle.logs.specs.Log.{values_of, spelled_finish, all_in_range, written_record, rest_after}
 
@@ -24,9 +23,9 @@ pub record FinishAt : Type 0 where
   pub next : ℕ
 
 -- A number that was read goes on to `k`. Where a number can't be read there is no record.
-abbrev pub after_log_number : NumberRead → (Number → Option FinishAt) → Option FinishAt
-after_log_number (number.Number n) k = k n
-after_log_number (number.Refused r) k = none
+abbrev pub after_log_number : Result Number RefusedAt → (Number → Option FinishAt) → Option FinishAt
+after_log_number (Ok n) k = k n
+after_log_number (Err r) k = none
 
 -- The record of a log at a place: serial, row number, release, due time and finish, each as a number of section 2. There is none where one of them can't be
 -- read. (8.8)
@@ -67,7 +66,7 @@ pub record WroteRecord (f : Finish) (room took : ℕ) : Type 0 where
 
 -- A record was handed to the writer with the rest of a log, from a place on. The answer goes by the room of that rest. The log afterwards has what stood before
 -- the place, and then the rest as the writer left it. (8.9, 8.10)
-pub record RecordBehind (log : List ℕ) (at : ℕ) (f : Finish) (answer : Written) (after : List ℕ) : Type 0 where
+pub record RecordBehind (log : List ℕ) (at : ℕ) (f : Finish) (answer : Result ℕ Refusal) (after : List ℕ) : Type 0 where
   pub answered : answer ≡ written_record f (length log - at)
   pub whole : after ≡ take at log ++ rest_after answer f (drop at log)
 

@@ -5,7 +5,7 @@ ghost use Rattle.std.specs.Prelude.{◌≡◌, length};
 ghost use Rattle.logs.specs.Log.{values_of, all_in_range, written_record, rest_after};
 
 use kinds::{Finish, Refusal};
-use numbers::{Number, Written};
+use numbers::Number;
 
 // The five numbers of a record, left to right. (8.8)
 fn values_of(job: Finish) -> [u64; 5]
@@ -24,51 +24,34 @@ fn values_of(job: Finish) -> [u64; 5]
 fn all_in_range(values: [u64; 5]) -> bool
     ensures { result ≡ all_in_range values }
 {
-    let mut k: usize = 0;
-    while k < 5 {
-        if values[k] > Number::MAX {
-            return false;
-        }
-        k += 1;
-    }
-    true
+    values.iter().all(|&v| v <= Number::MAX)
 }
 
 // Does what `write_record` does. It measures the whole record before it writes the first number, so that it serves a rest that may be too short for it.
-fn write_measured(rest: &mut [u8], job: Finish) -> Written
+fn write_measured(rest: &mut [u8], job: Finish) -> Result<usize, Refusal>
     ensures { (result ≡ written_record job (length rest.old))
         × (rest.new ≡ rest_after result job rest.old) }
 {
     let values = values_of(job);
     let mut room: usize = 0;
-    let mut i: usize = 0;
-    while i < 5 {
-        match numbers::length_of(values[i]) {
-            Written::Length(n) => room += n,
-            Written::Refused(r) => return Written::Refused(r),
-        }
-        i += 1;
+    for value in values {
+        room += numbers::length_of(value)?;
     }
     if rest.len() < room {
-        return Written::Refused(Refusal::NoRoom);
+        return Err(Refusal::NoRoom);
     }
     let mut at: usize = 0;
-    let mut k: usize = 0;
-    while k < 5 {
-        match numbers::write(&mut rest[at..], values[k]) {
-            Written::Length(n) => at += n,
-            // This never happens, because the number has a spelling and there is room for it.
-            Written::Refused(r) => return Written::Refused(r),
-        }
-        k += 1;
+    for v in values {
+        // No number is refused here, because each has a spelling and there is room for it.
+        at += numbers::write(&mut rest[at..], v)?;
     }
-    Written::Length(at)
+    Ok(at)
 }
 
 // Writes one record at the start of the rest of a log, keeps what comes after it, and answers its length. A number above 2^42 - 1 is refused with 25, and then
 // a record longer than the rest with 12. A refusal leaves the rest unchanged. A record has at most thirty bytes. Where the rest has as many, the record is not
 // measured, and each number is written at once, into six bytes. (2.2, 8.9, 8.10)
-pub fn write_record(rest: &mut [u8], job: Finish) -> Written
+pub fn write_record(rest: &mut [u8], job: Finish) -> Result<usize, Refusal>
     ensures { (result ≡ written_record job (length rest.old))
         × (rest.new ≡ rest_after result job rest.old) }
 {
@@ -77,18 +60,13 @@ pub fn write_record(rest: &mut [u8], job: Finish) -> Written
     }
     let values = values_of(job);
     if !all_in_range(values) {
-        return Written::Refused(Refusal::NumberTooBig);
+        return Err(Refusal::NumberTooBig);
     }
     let mut at: usize = 0;
-    let mut k: usize = 0;
-    while k < 5 {
+    for v in values {
         let end = at + Number::MAX_GROUPS;
-        match numbers::write(&mut rest[at..end], values[k]) {
-            Written::Length(n) => at += n,
-            // This never happens, because the number has a spelling, and a spelling has at most six bytes.
-            Written::Refused(r) => return Written::Refused(r),
-        }
-        k += 1;
+        // No number is refused here, because each has a spelling, and a spelling has at most six bytes.
+        at += numbers::write(&mut rest[at..end], v)?;
     }
-    Written::Length(at)
+    Ok(at)
 }

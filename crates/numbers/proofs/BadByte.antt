@@ -1,5 +1,6 @@
 -- The number reader refuses at the bad byte. The reader's walk over the groups ends in a number or in one of three faults. Each fault is at the bad byte, and
 -- a number has one bad byte only.
+use Rattle.std.specs.Prelude.{Result, Ok, Err}
 use Prim.Native.Nat.{ℕ, zero, suc, ◌+◌, ◌-◌, ◌*◌, ◌/◌, ◌%◌, ◌≤◌, ◌<◌}
 use native.Mathlib.Decide.{dec_le}
 use native.Mathlib.Omega.{arith}
@@ -17,8 +18,6 @@ use Rattle.kinds.specs.declared.RefusedAt.{RefusedAt}
 use Rattle.kinds.proofs.Apart.{impossible}
 use Rattle.kinds.proofs.Numbering.{said_in}
 use Rattle.numbers.specs.declared.Number.{Number}
-use Rattle.numbers.specs.declared.NumberRead.{NumberRead}
-use Rattle.numbers.specs.declared.NumberRead.TheVariants as answer
 use Rattle.numbers.specs.Spelling.{max_groups, groups_of, spelling}
 use Rattle.numbers.specs.Reading.{Spelt, number, superfluous_zero, asks_for_more, cut_off, group_before, spelt, answered, read_at, misspelled_at}
 use Rattle.numbers.specs.Answers.{number_says}
@@ -73,7 +72,7 @@ spelt_fault (suc most) (b ∷ s) at = elim (dec_le 128 b) [
 ]
 
 -- What is answered for a fault, by where it lies.
-answered_refused : (at end : ℕ) (r : Spelt) (q : RefusedAt) → FaultBetween at end r → at ≤ end → answered end r ≡ answer.Refused q
+answered_refused : (at end : ℕ) (r : Spelt) (q : RefusedAt) → FaultBetween at end r → at ≤ end → answered end r ≡ Err q
     → (q.refusal ≡ Misspelled) × (q.place ≤ end) × (at ≤ q.place)
 answered_refused at end (number n next) q f h e = impossible cc
 answered_refused at end (superfluous_zero place) q f h e =
@@ -87,11 +86,11 @@ answered_refused at end cut_off q f h e =
     (cc, omega arith, omega arith)
 
 -- Whatever is refused is refused with 1, between the number's start and the end.
-pub refused_between : (s : List ℕ) (at : ℕ) (r : RefusedAt) → read_at s at ≡ answer.Refused r
+pub refused_between : (s : List ℕ) (at : ℕ) (r : RefusedAt) → read_at s at ≡ Err r
     → (r.refusal ≡ Misspelled) × (r.place ≤ length s) × (at ≤ length s → at ≤ r.place)
 refused_between s at r e = elim (dec_le (length s) at) [
   | yes l ↦
-      let q : misspelled_at (length s) ≡ answer.Refused r = sym (nothing_past_the_end s at l) ∙ e in
+      let q : misspelled_at (length s) ≡ Err r = sym (nothing_past_the_end s at l) ∙ e in
       let same : length s ≡ r.place = cc in
       (cc, omega arith, λ h. omega arith)
   | no l ↦
@@ -104,10 +103,10 @@ refused_between s at r e = elim (dec_le (length s) at) [
 pub refused_with_one : RefusedWithOne
 refused_with_one s at said e = by_answer (read_at s at) refl e
   where
-    by_answer : (v : NumberRead) → read_at s at ≡ v → number_says v ≡ numbered said
+    by_answer : (v : Result Number RefusedAt) → read_at s at ≡ v → number_says v ≡ numbered said
         → (said ≡ refusal_at 1 said.first) × (said.first ≤ length s) × (at ≤ length s → at ≤ said.first)
-    by_answer (answer.Number n) p q = impossible cc
-    by_answer (answer.Refused r) p q =
+    by_answer (Ok n) p q = impossible cc
+    by_answer (Err r) p q =
         let w = refused_between s at r p in
         let one = w.0 in
         let same : said ≡ refusal_at 1 r.place = sym (ap said_in q) ∙ rw one in
@@ -245,7 +244,7 @@ module _ (s : List ℕ) (at : ℕ) (b : Bytes s) where
 
   -- What the reader answers: a number, or a refusal at the bad byte.
   data Answers : Type 0 where
-    a_number : (n : Number) → read_at s at ≡ answer.Number n → Answers
+    a_number : (n : Number) → read_at s at ≡ Ok n → Answers
     bad : (place : ℕ) → BadByteAt s at place → read_at s at ≡ misspelled_at place → Answers
 
   -- If so many groups ask for more and the next byte does, one group more asks for more.
@@ -383,7 +382,7 @@ one_first_bad_byte s place other p q = one_bad_start p.before q.before p.bad q.b
 
 module _ {s : List ℕ} {at : ℕ} where
   -- What is refused is refused with 1, at the bad byte.
-  pub refused_bad : {r : RefusedAt} → Bytes s → at ≤ length s → read_at s at ≡ answer.Refused r
+  pub refused_bad : {r : RefusedAt} → Bytes s → at ≤ length s → read_at s at ≡ Err r
       → (r ≡ record { refusal = Misspelled; place = r.place }) × BadByteAt s at r.place
   refused_bad {r} b h e = go (reader_answers s at b h)
     where

@@ -1,4 +1,5 @@
 -- What `spelt` is at a place of a list of bytes, as a reader meets it: some groups have been read, and their worth so far is kept as a number.
+use Rattle.std.specs.Prelude.{Ok}
 use mathlib.Core.Path.{◌≡◌, refl, ap, ◌∙◌}
 use Prim.Native.Nat.{ℕ, zero, suc, ◌+◌, ◌-◌, ◌*◌, ◌≤◌, ◌<◌}
 use native.Mathlib.Nat.{le_of_suc-le-suc, mul-le-mul_left}
@@ -10,7 +11,6 @@ use lib.ListN.{length, get_or, drop, drop_of_length-le}
 use lib.Seq.{drop-cons}
 use lib.Dec.{ltb, eqb}
 use borrow.Author.Tests.{lt-ltb, le-ltb, ne_eqb}
-use Rattle.numbers.specs.declared.NumberRead.TheVariants as answer
 use Rattle.numbers.specs.Spelling.{max_groups}
 use Rattle.numbers.specs.Reading.{Spelt, number, superfluous_zero, asks_for_more, cut_off, group_before, spelt, answered, read_at, misspelled_at}
 
@@ -109,7 +109,7 @@ first_passed s at h l b = record {
 
 -- A first byte below 128 is the whole number.
 pub read_one : (s : List ℕ) (at : ℕ) → at < length s → get_or s at 0 < 128
-    → read_at s at ≡ answer.Number (record { value = get_or s at 0; next = at + 1 })
+    → read_at s at ≡ Ok (record { value = get_or s at 0; next = at + 1 })
 read_one s at h l = ap (answered (length s)) (spelt_last max_groups s at (omega arith) h l)
 
 module _ {s : List ℕ} {at value weight groups : ℕ} (p : Passed s at value weight groups) where
@@ -129,6 +129,10 @@ module _ {s : List ℕ} {at value weight groups : ℕ} (p : Passed s at value we
     pub group_fits : (group : ℕ) → group < 128 → value + weight * group < limit max_groups
     group_fits group l = omega (arith, weight_fits, p.below, mul-le-mul_left {m = group} {n = 127} weight (omega arith))
 
+    -- The number with a next group that asks for another is in range.
+    pub more_fits : get_or s (at + groups) 0 < 256 → value + weight * (get_or s (at + groups) 0 - 128) < limit max_groups
+    more_fits b = group_fits (get_or s (at + groups) 0 - 128) (omega arith)
+
     -- Where the bytes have ended, the number is refused as cut off.
     pub read_cut : length s ≤ at + groups → read_at s at ≡ misspelled_at (length s)
     read_cut e = p.answers ∙ rw (spelt_cut (max_groups - groups) s (at + groups) (omega arith) e)
@@ -141,7 +145,7 @@ module _ {s : List ℕ} {at value weight groups : ℕ} (p : Passed s at value we
 
     -- Where the next group is the last and not zero, the number ends with it and is read.
     pub read_last : at + groups < length s → (get_or s (at + groups) 0 ≡ 0 → ⊥) → get_or s (at + groups) 0 < 128
-        → read_at s at ≡ answer.Number (record { value = value + weight * get_or s (at + groups) 0; next = at + groups + 1 })
+        → read_at s at ≡ Ok (record { value = value + weight * get_or s (at + groups) 0; next = at + groups + 1 })
     read_last e z l = p.answers ∙ simp (spelt_last (max_groups - groups) s (at + groups) (omega arith) e l, ne_eqb (get_or s (at + groups) 0) 0 z)
 
     -- Where the next group asks for another, one more group has been passed.

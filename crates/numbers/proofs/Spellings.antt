@@ -1,5 +1,6 @@
 -- The proofs of the laws of the spelling. Every number written reads back as itself, and bytes that read as a number are its spelling. Both proofs go by
 -- induction on the number of groups that are allowed.
+use Rattle.std.specs.Prelude.{Ok, Err}
 use mathlib.Core.Path.{◌≡◌, refl, sym, ap, ◌∙◌}
 use mathlib.Core.Logic.{◌⊎◌, inl, inr}
 use Prim.Native.Nat.{ℕ, zero, suc, ◌+◌, ◌-◌, ◌*◌, ◌/◌, ◌%◌, ◌≤◌, ◌<◌}
@@ -13,17 +14,13 @@ use lib.Dec.{ltb, eqb}
 use borrow.Author.Tests.{lt-ltb, le-ltb, le-leb, lt-leb, ne_eqb}
 use Rattle.kinds.specs.declared.Refusal.{Refusal}
 use Rattle.kinds.specs.declared.Refusal.TheVariants.{NumberTooBig, NoRoom}
-use Rattle.kinds.specs.declared.RefusedAt.{RefusedAt}
 use Rattle.kinds.proofs.Apart.{impossible}
 use Rattle.numbers.specs.declared.Number.{Number}
-use Rattle.numbers.specs.declared.NumberRead.TheVariants as answer
-use Rattle.numbers.specs.declared.Written.TheVariants.{Length, Refused}
 use Rattle.numbers.specs.Spelling.{max_groups, max_number, groups_of, spelling}
 use Rattle.numbers.specs.Reading.{Spelt, number, superfluous_zero, asks_for_more, cut_off, group_before, spelt, answered, read_at, misspelled_at}
 use Rattle.numbers.specs.Writing.{length_of, written}
-use Rattle.numbers.specs.SpelledNumbers.{Bytes, Spelled, NoNumber, Wrote}
-use Rattle.numbers.specs.NumberLaws.{LargestNumber, ReadsBack, NumberWrittenReadsBack, NumberHasOneSpelling}
-use Rattle.numbers.specs.NumberLaws.{SpellingLength, SpelledInBytes, SpellingsDiffer}
+use Rattle.numbers.specs.SpelledNumbers.{Bytes, Spelled, Wrote}
+use Rattle.numbers.specs.NumberLaws.{LargestNumber, ReadsBack, NumberWrittenReadsBack, NumberHasOneSpelling, SpellingLength, SpelledInBytes, SpellingsDiffer}
 use Rattle.numbers.proofs.Reading.{limit, limit_pos, spelt_cut}
 
 pub largest_number : LargestNumber
@@ -113,7 +110,7 @@ spelt_groups (suc most) n rest at h p = elim (dec_le 128 n) [
 
 -- Where the spelling of a number stands, the reader reads that number.
 pub read_here : (s : List ℕ) (at n : ℕ) (rest : List ℕ) → n ≤ max_number → drop at s ≡ spelling n ++ rest
-    → read_at s at ≡ answer.Number (record { value = n; next = at + length (spelling n) })
+    → read_at s at ≡ Ok (record { value = n; next = at + length (spelling n) })
 read_here s at n rest h d = rw (d, spelt_groups max_groups n rest at (omega arith) (omega arith))
 
 pub reads_back : ReadsBack
@@ -123,9 +120,9 @@ reads_back front n rest h = read_here (front ++ (spelling n ++ rest)) (length fr
 
 -- The three cases of the writer's two tests: the spelling has room, or it has no room, or the number is too big.
 by_answer : {G : Type 0} (n room : ℕ)
-    → (n ≤ max_number → length (spelling n) ≤ room → written n room ≡ Length (length (spelling n)) → G)
-    → (n ≤ max_number → room < length (spelling n) → written n room ≡ Refused NoRoom → G)
-    → (max_number < n → written n room ≡ Refused NumberTooBig → G)
+    → (n ≤ max_number → length (spelling n) ≤ room → written n room ≡ Ok (length (spelling n)) → G)
+    → (n ≤ max_number → room < length (spelling n) → written n room ≡ Err NoRoom → G)
+    → (max_number < n → written n room ≡ Err NumberTooBig → G)
     → G
 by_answer n room has_room no_room too_big = elim (dec_le n max_number) [
   | yes l ↦ elim (dec_le (length (spelling n)) room) [
@@ -136,14 +133,14 @@ by_answer n room has_room no_room too_big = elim (dec_le n max_number) [
 ]
 
 -- Where the writer answers a length, the number is in range, its spelling has that length, and there is room for it.
-pub length_answered : (n room took : ℕ) → written n room ≡ Length took → Wrote n room took
+pub length_answered : (n room took : ℕ) → written n room ≡ Ok took → Wrote n room took
 length_answered n room took e = by_answer n room
     (λ l k w. let z : took ≡ length (spelling n) = cc in record { in_range = l; spelled = z; had_room = omega arith })
     (λ l k w. impossible cc)
     (λ l w. impossible cc)
 
 -- Where the writer refuses, the number is too big or has no room.
-pub refusal_answered : (n room : ℕ) (r : Refusal) → written n room ≡ Refused r
+pub refusal_answered : (n room : ℕ) (r : Refusal) → written n room ≡ Err r
     → ((r ≡ NumberTooBig) × (max_number < n)) ⊎ ((r ≡ NoRoom) × (n ≤ max_number) × (room < length (spelling n)))
 refusal_answered n room r e = by_answer n room
     (λ l k w. impossible cc)
@@ -151,17 +148,17 @@ refusal_answered n room r e = by_answer n room
     (λ l w. inl (cc, l))
 
 -- For a number in range the length answered is the length of its spelling.
-pub length_of_a_spelling : (n : ℕ) → n ≤ max_number → length_of n ≡ Length (length (spelling n))
+pub length_of_a_spelling : (n : ℕ) → n ≤ max_number → length_of n ≡ Ok (length (spelling n))
 length_of_a_spelling n h = simp (le-leb n max_number h)
 
 -- For a number that is too big the answer is refusal 25.
-pub too_big_has_no_length : (n : ℕ) → max_number < n → length_of n ≡ Refused NumberTooBig
+pub too_big_has_no_length : (n : ℕ) → max_number < n → length_of n ≡ Err NumberTooBig
 too_big_has_no_length n h = simp (lt-leb n max_number h)
 
 pub number_written_reads_back : NumberWrittenReadsBack
 number_written_reads_back n took buffer e =
     let w = length_answered n (length buffer) took e in
-    reads_back [] n _ w.in_range ∙ ap (λ next. answer.Number (record { value = n; next = next })) (omega (arith, w.spelled))
+    reads_back [] n _ w.in_range ∙ ap (λ next. Ok (record { value = n; next = next })) (omega (arith, w.spelled))
 
 -- ---- what reads as a number
 
@@ -229,17 +226,11 @@ spelt_is_groups (suc most) (b ∷ s) at n next h e = elim (dec_le 128 b) [
 ]
 
 -- Where the reader answers a number, the bytes spelled that number.
-answered_number : (end : ℕ) (r : Spelt) (k : Number) → answered end r ≡ answer.Number k → r ≡ number k.value k.next
+answered_number : (end : ℕ) (r : Spelt) (k : Number) → answered end r ≡ Ok k → r ≡ number k.value k.next
 answered_number end (number n next) k e = let v : n ≡ k.value = cc in let w : next ≡ k.next = cc in cc
 answered_number end (superfluous_zero place) k e = impossible cc
 answered_number end (asks_for_more place) k e = impossible cc
 answered_number end cut_off k e = impossible cc
-
--- Where a number is read, the place right after it is above its start, and at most the length of the bytes.
-pub read_within : (s : List ℕ) (at : ℕ) (k : Number) → read_at s at ≡ answer.Number k → (at < k.next) × (k.next ≤ length s)
-read_within s at k e =
-    let w = spelt_within max_groups (drop at s) at k.value k.next (answered_number (length s) (spelt max_groups (drop at s) at) k e) in
-    omega (arith, w, length-drop at s)
 
 -- Where the spelling of a number in range stands at a place, and `next` is the place right after it, everything that `Spelled` says holds.
 pub spelled_rest : (s rest : List ℕ) (at : ℕ) (k : Number) → k.value ≤ max_number → drop at s ≡ spelling k.value ++ rest
@@ -267,14 +258,10 @@ nothing_past_the_end s at h = rw (spelt_cut max_groups s at (omega arith) h)
 
 module _ {s : List ℕ} {at : ℕ} where
   -- Where the spelling of a number stands at a place, the reader reads that number.
-  pub spelled_read : {n : Number} → Spelled s at n → read_at s at ≡ answer.Number n
+  pub spelled_read : {n : Number} → Spelled s at n → read_at s at ≡ Ok n
   spelled_read {n} p =
       read_here s at n.value (drop n.next s) p.in_range p.stands_here
-      ∙ ap (λ next. answer.Number (record { value = n.value; next = next })) (sym p.ends)
-
-  -- Where the reader refuses a place, no number's spelling stands there.
-  pub refused_none : {r : RefusedAt} → read_at s at ≡ answer.Refused r → NoNumber s at
-  refused_none e = λ n p. let q = spelled_read p in impossible cc
+      ∙ ap (λ next. Ok (record { value = n.value; next = next })) (sym p.ends)
 
 -- Bytes that begin with the spelling of a number spell that number.
 front : (n : ℕ) (s : List ℕ) → n ≤ max_number → spelt max_groups (spelling n ++ s) 0 ≡ number n (length (spelling n))

@@ -1,9 +1,7 @@
 -- The laws of numbers and their spelling. Whoever reads or writes numbers cites these, and not the text of the definitions. (docs/RULES.md, section 2.)
-use Rattle.std.specs.Prelude.{ℕ, ◌+◌, ◌≤◌, ◌<◌, ◌≡◌, ◌⊎◌, List, [], ◌∷◌, ◌++◌, length}
+use Rattle.std.specs.Prelude.{ℕ, ◌+◌, ◌≤◌, ◌<◌, ◌≡◌, ◌⊎◌, List, [], ◌∷◌, ◌++◌, length, Ok}
 use Rattle.kinds.specs.Numbering.{Said, numbered, values, refusal_at, refused_with}
 use Rattle.numbers.specs.declared.Number.{Number}
-use Rattle.numbers.specs.declared.NumberRead.TheVariants as answer
-use Rattle.numbers.specs.declared.Written.TheVariants.{Length}
 use Rattle.numbers.specs.Spelling.{max_groups, max_number, spelling}
 use Rattle.numbers.specs.Reading.{read_at}
 use Rattle.numbers.specs.Writing.{length_of, written, buffer_after}
@@ -17,7 +15,7 @@ LargestNumber = max_number ≡ 4398046511103
 -- The spelling of every number up to 2^42 − 1 reads back as that number, whatever bytes stand before and after it. (2.4, 2.5)
 abbrev pub ReadsBack : Type 0
 ReadsBack = (front : List ℕ) (n : ℕ) (rest : List ℕ) → n ≤ max_number
-    → read_at (front ++ (spelling n ++ rest)) (length front) ≡ answer.Number (record { value = n; next = length front + length (spelling n) })
+    → read_at (front ++ (spelling n ++ rest)) (length front) ≡ Ok (record { value = n; next = length front + length (spelling n) })
 
 -- The writer answers a length only where the number is in range, its spelling has that length, and the buffer has room for it. (2.12, 2.13)
 abbrev pub LengthAnswered : Type 0
@@ -39,12 +37,12 @@ TooBigHasNoLength = (n : ℕ) → max_number < n → written_says (length_of n) 
 
 -- Every number written reads back as itself at the buffer's start, and the place right after it is the length that the writer answered. (2.5, 2.12)
 abbrev pub NumberWrittenReadsBack : Type 0
-NumberWrittenReadsBack = (n took : ℕ) (buffer : List ℕ) → written n (length buffer) ≡ Length took
-    → read_at (buffer_after (Length took) n buffer) 0 ≡ answer.Number (record { value = n; next = took })
+NumberWrittenReadsBack = (n took : ℕ) (buffer : List ℕ) → written n (length buffer) ≡ Ok took
+    → read_at (buffer_after (Ok took) n buffer) 0 ≡ Ok (record { value = n; next = took })
 
 -- Where bytes read as a number at a place, the bytes from that place to the next are exactly the number's spelling. So one number has one spelling. (2.3, 2.5)
 abbrev pub NumberHasOneSpelling : Type 0
-NumberHasOneSpelling = (s : List ℕ) (at : ℕ) (number : Number) → Bytes s → read_at s at ≡ answer.Number number → Spelled s at number
+NumberHasOneSpelling = (s : List ℕ) (at : ℕ) (number : Number) → Bytes s → read_at s at ≡ Ok number → Spelled s at number
 
 -- A spelling has 1 to 6 bytes. (2.2)
 abbrev pub SpellingLength : Type 0

@@ -1,8 +1,8 @@
 -- What the number reader finds at a place of a list of bytes: a number, or one of three faults. (docs/RULES.md, section 2.)
-use Rattle.std.specs.Prelude.{ℕ, zero, suc, ◌+◌, ◌-◌, ◌*◌, cond, List, [], ◌∷◌, ltb, eqb, length, drop}
+use Rattle.std.specs.Prelude.{ℕ, zero, suc, ◌+◌, ◌-◌, ◌*◌, cond, List, [], ◌∷◌, ltb, eqb, length, drop, Result, Ok, Err}
+use Rattle.kinds.specs.declared.RefusedAt.{RefusedAt}
 use Rattle.kinds.specs.declared.Refusal.TheVariants.{Misspelled}
-use Rattle.numbers.specs.declared.NumberRead.{NumberRead}
-use Rattle.numbers.specs.declared.NumberRead.TheVariants as answer
+use Rattle.numbers.specs.declared.Number.{Number}
 use Rattle.numbers.specs.Spelling.{max_groups}
 
 -- What the groups from a place on spell. A fault that is about a byte has the place of that byte.
@@ -32,17 +32,17 @@ spelt (suc most) [] at = cut_off
 spelt (suc most) (b ∷ s) at = cond (ltb b 128) (number b (at + 1)) (group_before (b - 128) (spelt most s (at + 1)))
 
 -- The reader's only refusal: 1, at a place. (2.7)
-abbrev pub misspelled_at : ℕ → NumberRead
-misspelled_at place = answer.Refused (record { refusal = Misspelled; place = place })
+abbrev pub misspelled_at : ℕ → Result Number RefusedAt
+misspelled_at place = Err (record { refusal = Misspelled; place = place })
 
 -- The reader's answer, for bytes that end at the place `end`. A superfluous zero group and a group that asks for one too many are refused at their own byte.
 -- A number that is cut off is refused at the end of the bytes. (2.7, 2.8)
-abbrev pub answered : (end : ℕ) → Spelt → NumberRead
-answered end (number n next) = answer.Number (record { value = n; next = next })
+abbrev pub answered : (end : ℕ) → Spelt → Result Number RefusedAt
+answered end (number n next) = Ok (record { value = n; next = next })
 answered end (superfluous_zero place) = misspelled_at place
 answered end (asks_for_more place) = misspelled_at place
 answered end cut_off = misspelled_at end
 
 -- What the reader answers at a place. Nothing stands at a place past the end, so that the number there is cut off. (2.9)
-abbrev pub read_at : List ℕ → ℕ → NumberRead
+abbrev pub read_at : List ℕ → ℕ → Result Number RefusedAt
 read_at s at = answered (length s) (spelt max_groups (drop at s) at)

@@ -5,7 +5,7 @@
 
 ghost use Rattle.std.specs.Prelude.{◌≡◌, ◌≤◌, leb, length};
 ghost use Rattle.numbers.specs.Spelling.{max_groups, max_number, spelling};
-ghost use Rattle.numbers.specs.Reading.{read_at, misspelled_at};
+ghost use Rattle.numbers.specs.Reading.{read_at};
 ghost use Rattle.numbers.specs.Writing.{length_of, written, buffer_after};
 
 use kinds::{Refusal, RefusedAt};
@@ -15,20 +15,6 @@ use kinds::{Refusal, RefusedAt};
 pub struct Number {
     pub value: u64,
     pub next: usize,
-}
-
-// The reader's answer: the number that starts at a place, or a refusal. (2.6, 2.7)
-#[derive(Clone, Copy)]
-pub enum NumberRead {
-    Number(Number),
-    Refused(RefusedAt),
-}
-
-// The writer's answer: the length of the number's spelling in bytes, or a refusal. (2.12, 2.13)
-#[derive(Clone, Copy)]
-pub enum Written {
-    Length(usize),
-    Refused(Refusal),
 }
 
 impl Number {
@@ -52,54 +38,42 @@ impl Number {
     }
 }
 
-// Refusal 1 at a place. (2.7)
-fn misspelled(place: usize) -> NumberRead
-    ensures { result ≡ misspelled_at place }
-{
-    NumberRead::Refused(RefusedAt {
-        refusal: Refusal::Misspelled,
-        place,
-    })
-}
-
 // The number at a place and the place after it, or refusal 1 at the bad byte: the superfluous zero group, the sixth group that asks for more, or the end of the
 // bytes where the number is cut off. (2.7, 2.8)
-pub fn read(bytes: &[u8], at: usize) -> NumberRead
+pub fn read(bytes: &[u8], at: usize) -> Result<Number, RefusedAt>
     ensures { result ≡ read_at bytes.now at }
 {
     if at >= bytes.len() {
-        return misspelled(bytes.len());
+        return Err(Refusal::Misspelled.at(bytes.len()));
     }
     let first = bytes[at] as u64;
     if first < 128 {
-        return NumberRead::Number(Number {
+        return Ok(Number {
             value: first,
             next: at + 1,
         });
     }
     let mut value = first - 128;
     let mut weight: u64 = 128;
-    let mut groups: usize = 1;
-    while groups < Number::MAX_GROUPS {
+    for groups in 1..Number::MAX_GROUPS {
         let i = at + groups;
         if i >= bytes.len() {
-            return misspelled(bytes.len());
+            return Err(Refusal::Misspelled.at(bytes.len()));
         }
         let group = bytes[i] as u64;
         if group == 0 {
-            return misspelled(i);
+            return Err(Refusal::Misspelled.at(i));
         }
         if group < 128 {
-            return NumberRead::Number(Number {
+            return Ok(Number {
                 value: value + weight * group,
                 next: i + 1,
             });
         }
         value += weight * (group - 128);
         weight *= 128;
-        groups += 1;
     }
-    misspelled(at + Number::MAX_GROUPS - 1)
+    Err(Refusal::Misspelled.at(at + Number::MAX_GROUPS - 1))
 }
 
 // The length in bytes of the spelling of a number of at most 2^42 − 1.
@@ -107,23 +81,24 @@ fn spelled_length(value: u64) -> usize
     requires { value ≤ max_number }
     ensures { result ≡ length (spelling value) }
 {
+    // The loop ends by the number that is left, and `n` counts its divisions: there is no range to go through.
     let mut rest = value;
     let mut n: usize = 1;
     while 128 <= rest {
-        rest = rest / 128;
+        rest /= 128;
         n += 1;
     }
     n
 }
 
 // Answers the length in bytes of a number's spelling, or refusal 25 where the number is above 2^42 − 1. (10.7)
-pub fn length_of(value: u64) -> Written
+pub fn length_of(value: u64) -> Result<usize, Refusal>
     ensures { result ≡ length_of value }
 {
     if value > Number::MAX {
-        return Written::Refused(Refusal::NumberTooBig);
+        return Err(Refusal::NumberTooBig);
     }
-    Written::Length(spelled_length(value))
+    Ok(spelled_length(value))
 }
 
 // Whether the spelling of a number of at most 2^42 − 1 has room in so many bytes. It has at most six, so it is measured only where there are fewer. (2.2)
@@ -139,23 +114,24 @@ fn has_room(value: u64, room: usize) -> bool
 
 // Writes a number's spelling at the buffer's start, keeps the rest of the buffer as it was, and answers the spelling's length. A number above 2^42 − 1 is
 // refusal 25, and after that a spelling longer than the buffer is refusal 12. With either refusal the whole buffer is unchanged. (2.12 to 2.14)
-pub fn write(buffer: &mut [u8], value: u64) -> Written
+pub fn write(buffer: &mut [u8], value: u64) -> Result<usize, Refusal>
     ensures { (result ≡ written value (length buffer.old))
         × (buffer.new ≡ buffer_after result value buffer.old) }
 {
     if value > Number::MAX {
-        return Written::Refused(Refusal::NumberTooBig);
+        return Err(Refusal::NumberTooBig);
     }
     if !has_room(value, buffer.len()) {
-        return Written::Refused(Refusal::NoRoom);
+        return Err(Refusal::NoRoom);
     }
+    // This loop too ends by the number that is left. A `for` over the buffer would need an answer for a buffer that ends first, and none does.
     let mut rest = value;
     let mut i: usize = 0;
     while 128 <= rest {
         buffer[i] = (rest % 128 + 128) as u8;
-        rest = rest / 128;
+        rest /= 128;
         i += 1;
     }
     buffer[i] = rest as u8;
-    Written::Length(i + 1)
+    Ok(i + 1)
 }

@@ -1,5 +1,6 @@
 -- The proofs about the period of some numbers within a limit. A walk through the numbers keeps one number h, the least common multiple of those passed. The
 -- last part proves what each answer means.
+use Rattle.std.specs.Prelude.{Result, Ok, Err}
 use Prim.Native.Nat.{ℕ, ◌+◌, ◌*◌, ◌/◌, ◌≤◌, ◌<◌}
 use native.Mathlib.Decide.{dec_le}
 use native.Mathlib.Nat.{pos_of_dvd_of_pos, le-div_iff_mul-le, div-lt_iff_lt-mul}
@@ -7,8 +8,7 @@ use native.Mathlib.Numerals.{add-one}
 use native.Mathlib.Omega.{arith}
 use mathlib.Core.Path.{◌≡◌, refl, sym, ap, ◌∙◌}
 use mathlib.Core.Bool.{Bool, true, false}
-use mathlib.Core.List.{List, [], ◌∷◌}
-use mathlib.Core.List.{Memᴰ}
+use mathlib.Core.List.{List, [], ◌∷◌, Memᴰ}
 use lib.Dec.{leb}
 use lib.ListN.{length, drop, get_or, drop_of_length-le}
 use lib.Seq.{drop-cons}
@@ -18,8 +18,6 @@ use Rattle.kinds.specs.declared.Refusal.TheVariants.{ValueOutOfRange, PeriodTooL
 use Rattle.kinds.specs.Numbering.{Says, values, refused_with}
 use Rattle.kinds.proofs.Apart.{impossible}
 use Rattle.kinds.proofs.Numbering.{said_in, never_zero, plain_refusals_apart}
-use Rattle.periods.specs.declared.Period.{Period}
-use Rattle.periods.specs.declared.Period.TheVariants.{Ticks, Refused}
 use Rattle.periods.specs.Multiples.{least_common_multiple, IsLeastCommonMultiple, IsGreatestDivisor}
 use Rattle.periods.specs.Periods.{all_positive, period_within, period_says, EachPositive}
 use Rattle.periods.specs.Periods.{PeriodMeans, TooLongMeans, ZeroMeans, PeriodsNeverZero, PeriodsSaidApart}
@@ -46,27 +44,6 @@ zero_among (y ∷ ys) e = elim (dec_le 1 y) [
   | no l ↦ let none : 0 ≡ y = omega arith in Memᴰ.head none
 ]
 
--- The test has passed the first i numbers, and the outcome depends only on the numbers that are left.
-pub record Tested (ys : List ℕ) (i : ℕ) : Type 0 where
-  pub counted : i ≤ length ys
-  pub settled : all_positive (drop i ys) ≡ all_positive ys
-
-module _ {ys : List ℕ} {i : ℕ} (tested : Tested ys i) where
-  -- Where no number is left to test, each is at least 1.
-  pub none_left : length ys ≤ i → true ≡ all_positive ys
-  none_left l =
-      let none : drop i ys ≡ [] = drop_of_length-le ys {i = i} l in
-      rw none at tested.settled
-
-  module _ (l : i < length ys) where
-    -- Where the number at i is 0, the test is false.
-    pub zero_here : get_or ys i 0 < 1 → false ≡ all_positive ys
-    zero_here z = (rw (drop-cons ys i 0 l, lt-leb 1 (get_or ys i 0) z) at tested.settled)
-
-    -- Where the number at i is at least 1, the test goes on with the next number.
-    pub tested_more : 1 ≤ get_or ys i 0 → Tested ys (i + 1)
-    tested_more k = record { counted = omega arith; settled = rw add-one (rw (drop-cons ys i 0 l, le-leb 1 (get_or ys i 0) k) at tested.settled) }
-
 -- ---- number by number
 
 -- The walk has passed the first i numbers. The least common multiple of all numbers is that of h and the numbers from i on, and h is within the limit.
@@ -81,7 +58,7 @@ module _ {ys : List ℕ} (positive : EachPositive ys) where
   grown_none l = record { counted = omega arith; within = l; whole = one_in_front (period_is_least ys positive) }
 
   -- With a limit of 0 the answer is refusal 5.
-  pub no_limit : (limit : ℕ) → limit < 1 → Refused PeriodTooLong ≡ period_within limit ys
+  pub no_limit : (limit : ℕ) → limit < 1 → Err PeriodTooLong ≡ period_within limit ys
   no_limit limit l = simp (positive_holds ys positive, lt-leb (least_common_multiple ys) limit (omega (arith, (period_is_least ys positive).positive)))
 
   -- The number at each place is at least 1.
@@ -90,7 +67,7 @@ module _ {ys : List ℕ} (positive : EachPositive ys) where
 
   module _ {limit h i : ℕ} (grown : Grown limit ys h i) where
     -- Where every number is passed, the answer is h, the least common multiple.
-    pub grown_all : length ys ≤ i → Ticks h ≡ period_within limit ys
+    pub grown_all : length ys ≤ i → Ok h ≡ period_within limit ys
     grown_all l =
         let none : drop i ys ≡ [] = drop_of_length-le ys {i = i} l in
         let e : least_common_multiple ys ≡ h = alone (rw none at grown.whole) in
@@ -117,7 +94,7 @@ module _ {ys : List ℕ} (positive : EachPositive ys) where
       grown_next k = record { counted = omega arith; within = grown_fits k; whole = next_whole }
 
       -- Where the next h is above the limit, the answer is refusal 5, since the least common multiple of all numbers is a multiple of the next h.
-      pub grown_too_long : limit / get_or ys i 0 < h / g → Refused PeriodTooLong ≡ period_within limit ys
+      pub grown_too_long : limit / get_or ys i 0 < h / g → Err PeriodTooLong ≡ period_within limit ys
       grown_too_long k =
           let above : limit < h / g * get_or ys i 0 = (div-lt_iff_lt-mul (some_number i l)).0 k in
           simp (positive_holds ys positive, lt-leb (least_common_multiple ys) limit (omega (arith, front_at_most next_whole)))
@@ -125,22 +102,22 @@ module _ {ys : List ℕ} (positive : EachPositive ys) where
 -- ---- what each answer means
 
 -- The three answers, each with the conditions under which it is given.
-data Outcome (limit : ℕ) (ys : List ℕ) : Period → Type 0 where
-  period : EachPositive ys → least_common_multiple ys ≤ limit → Outcome limit ys (Ticks (least_common_multiple ys))
-  too_long : EachPositive ys → limit < least_common_multiple ys → Outcome limit ys (Refused PeriodTooLong)
-  zero_number : Memᴰ 0 ys → Outcome limit ys (Refused ValueOutOfRange)
+data Outcome (limit : ℕ) (ys : List ℕ) : Result ℕ Refusal → Type 0 where
+  period : EachPositive ys → least_common_multiple ys ≤ limit → Outcome limit ys (Ok (least_common_multiple ys))
+  too_long : EachPositive ys → limit < least_common_multiple ys → Outcome limit ys (Err PeriodTooLong)
+  zero_number : Memᴰ 0 ys → Outcome limit ys (Err ValueOutOfRange)
 
 module _ (limit : ℕ) (ys : List ℕ) where
   -- Where each number is at least 1 and the least common multiple is within the limit, the answer is the least common multiple.
-  pub period_within_limit : EachPositive ys → least_common_multiple ys ≤ limit → period_within limit ys ≡ Ticks (least_common_multiple ys)
+  pub period_within_limit : EachPositive ys → least_common_multiple ys ≤ limit → period_within limit ys ≡ Ok (least_common_multiple ys)
   period_within_limit p l = simp (positive_holds ys p, le-leb (least_common_multiple ys) limit l)
 
   -- Where each number is at least 1 and the least common multiple is above the limit, the answer is refusal 5.
-  pub period_above_limit : EachPositive ys → limit < least_common_multiple ys → period_within limit ys ≡ Refused PeriodTooLong
+  pub period_above_limit : EachPositive ys → limit < least_common_multiple ys → period_within limit ys ≡ Err PeriodTooLong
   period_above_limit p l = simp (positive_holds ys p, lt-leb (least_common_multiple ys) limit l)
 
   -- Where the test `all_positive` is false, the answer is refusal 3.
-  pub with_zero : all_positive ys ≡ false → period_within limit ys ≡ Refused ValueOutOfRange
+  pub with_zero : all_positive ys ≡ false → period_within limit ys ≡ Err ValueOutOfRange
   with_zero e = simp e
 
   -- The answer is one of the three.
@@ -166,11 +143,11 @@ module _ (limit : ℕ) (ys : List ℕ) where
       by_test true e = absurd (omega (arith, positive_means ys e 0 m))
 
 -- For positive numbers the only refusal is 5, and it is given only where their least common multiple is above the limit.
-pub refused_above : (limit : ℕ) (ys : List ℕ) → EachPositive ys → (r : Refusal) → period_within limit ys ≡ Refused r
+pub refused_above : (limit : ℕ) (ys : List ℕ) → EachPositive ys → (r : Refusal) → period_within limit ys ≡ Err r
     → (r ≡ PeriodTooLong) × (limit < least_common_multiple ys)
 refused_above limit ys positive r e = by_outcome _ (outcome limit ys) e
   where
-    by_outcome : (a : Period) → Outcome limit ys a → a ≡ Refused r → (r ≡ PeriodTooLong) × (limit < least_common_multiple ys)
+    by_outcome : (a : Result ℕ Refusal) → Outcome limit ys a → a ≡ Err r → (r ≡ PeriodTooLong) × (limit < least_common_multiple ys)
     by_outcome a (period p l) f = impossible cc
     by_outcome a (too_long p l) f = (cc, l)
     by_outcome a (zero_number m) f = absurd (omega (arith, positive 0 m))
@@ -182,7 +159,7 @@ numbers_apart e p q apart = absurd (apart (sym p ∙ ap (λ (a : Says). (said_in
 pub period_means : PeriodMeans
 period_means limit ys h = (to _ (outcome limit ys), λ m. rw (period_within_limit limit ys m.0 (rw m.1 at m.2), m.1))
   where
-    to : (a : Period) → Outcome limit ys a → period_says a ≡ values (h ∷ []) → EachPositive ys × (h ≡ least_common_multiple ys) × (h ≤ limit)
+    to : (a : Result ℕ Refusal) → Outcome limit ys a → period_says a ≡ values (h ∷ []) → EachPositive ys × (h ≡ least_common_multiple ys) × (h ≤ limit)
     to a (period p l) e = let same : h ≡ least_common_multiple ys = cc in (p, same, rw same l)
     to a (too_long p l) e = impossible cc
     to a (zero_number m) e = impossible cc
@@ -190,7 +167,7 @@ period_means limit ys h = (to _ (outcome limit ys), λ m. rw (period_within_limi
 pub too_long_means : TooLongMeans
 too_long_means limit ys = (to _ (outcome limit ys), λ m. rw (period_above_limit limit ys m.0 m.1))
   where
-    to : (a : Period) → Outcome limit ys a → period_says a ≡ refused_with 5 0 → EachPositive ys × (limit < least_common_multiple ys)
+    to : (a : Result ℕ Refusal) → Outcome limit ys a → period_says a ≡ refused_with 5 0 → EachPositive ys × (limit < least_common_multiple ys)
     to a (period p l) e = impossible cc
     to a (too_long p l) e = (p, l)
     to a (zero_number m) e = numbers_apart {m = 3} {n = 5} e refl refl (λ z. omega arith)
@@ -198,17 +175,17 @@ too_long_means limit ys = (to _ (outcome limit ys), λ m. rw (period_above_limit
 pub zero_means : ZeroMeans
 zero_means limit ys = (to _ (outcome limit ys), λ m. rw (with_zero limit ys (zero_fails limit ys m)))
   where
-    to : (a : Period) → Outcome limit ys a → period_says a ≡ refused_with 3 0 → Memᴰ 0 ys
+    to : (a : Result ℕ Refusal) → Outcome limit ys a → period_says a ≡ refused_with 3 0 → Memᴰ 0 ys
     to a (period p l) e = impossible cc
     to a (too_long p l) e = numbers_apart {m = 5} {n = 3} e refl refl (λ z. omega arith)
     to a (zero_number m) e = m
 
 pub periods_never_zero : PeriodsNeverZero
-periods_never_zero (Ticks h) = tt
-periods_never_zero (Refused r) = never_zero r
+periods_never_zero (Ok h) = tt
+periods_never_zero (Err r) = never_zero r
 
 pub periods_said_apart : PeriodsSaidApart
-periods_said_apart (Ticks h) (Ticks k) e = cc
-periods_said_apart (Ticks h) (Refused r) e = impossible cc
-periods_said_apart (Refused q) (Ticks k) e = impossible cc
-periods_said_apart (Refused q) (Refused r) e = ap Refused (plain_refusals_apart q r e)
+periods_said_apart (Ok h) (Ok k) e = cc
+periods_said_apart (Ok h) (Err r) e = impossible cc
+periods_said_apart (Err q) (Ok k) e = impossible cc
+periods_said_apart (Err q) (Err r) e = ap Err (plain_refusals_apart q r e)

@@ -7,13 +7,6 @@ ghost use Rattle.periods.specs.Periods.{all_positive, period_within};
 
 use kinds::Refusal;
 
-// The answer for some numbers and a limit: their least common multiple, or a refusal. (10.7)
-#[derive(Clone, Copy)]
-pub enum Period {
-    Ticks(u64),
-    Refused(Refusal),
-}
-
 // The greatest common divisor of two numbers, by Euclid's rule.
 fn greatest_divisor(a: u64, b: u64) -> u64
     ensures { IsGreatestDivisor a b result }
@@ -32,37 +25,27 @@ fn greatest_divisor(a: u64, b: u64) -> u64
 fn all_positive(numbers: &[u64]) -> bool
     ensures { result ≡ all_positive numbers.now }
 {
-    let mut i: usize = 0;
-    while i < numbers.len() {
-        if numbers[i] < 1 {
-            return false;
-        }
-        i += 1;
-    }
-    true
+    numbers.iter().all(|&n| 1 <= n)
 }
 
 // Answers the least common multiple of some numbers. The answer is refusal 3 where one of them is 0, and refusal 5 where the multiple is above the limit.
 // The multiple grows number by number, and each step is tested before it is taken, so that nothing wraps round. (3.4, 3.5, 10.7)
-pub fn period_within(numbers: &[u64], limit: u64) -> Period
+pub fn period_within(numbers: &[u64], limit: u64) -> Result<u64, Refusal>
     ensures { result ≡ period_within limit numbers.now }
 {
     if !all_positive(numbers) {
-        return Period::Refused(Refusal::ValueOutOfRange);
+        return Err(Refusal::ValueOutOfRange);
     }
     if limit < 1 {
-        return Period::Refused(Refusal::PeriodTooLong);
+        return Err(Refusal::PeriodTooLong);
     }
     let mut h: u64 = 1;
-    let mut i: usize = 0;
-    while i < numbers.len() {
-        let y = numbers[i];
+    for &y in numbers {
         let part = h / greatest_divisor(h, y);
         if limit / y < part {
-            return Period::Refused(Refusal::PeriodTooLong);
+            return Err(Refusal::PeriodTooLong);
         }
         h = part * y;
-        i += 1;
     }
-    Period::Ticks(h)
+    Ok(h)
 }

@@ -1,5 +1,6 @@
 -- A play that is stopped with 1 or 14 is stopped at the first bad byte of the table or the script, and one that is stopped with 16 by its table. Up to the record that stops it the script is numbers, three
 -- to a record. (docs/RULES.md, 3.8, 7.6, 8.1 and 8.5.)
+use Rattle.std.specs.Prelude.{Ok, Err}
 use Prim.Native.Nat.{ℕ, ◌≤◌}
 use native.Mathlib.Omega.{arith}
 use mathlib.Core.Path.{◌≡◌, ap, ◌∙◌}
@@ -8,13 +9,11 @@ use mathlib.Core.List.{List}
 use Rattle.kinds.specs.Numbering.{refusal_number, refused_with}
 use Rattle.kinds.specs.declared.RefusedAt.{RefusedAt}
 use Rattle.numbers.specs.declared.Number.{Number}
-use Rattle.numbers.specs.declared.NumberRead.TheVariants as number
 use Rattle.numbers.specs.Reading.{read_at}
 use Rattle.numbers.specs.SpelledNumbers.{Bytes}
 use Rattle.numbers.specs.BadByte.{NumbersBetween, nothing_between, number_first, FirstBadByte}
 use Rattle.numbers.proofs.Spellings.{number_has_one_spelling}
 use Rattle.numbers.proofs.BadByte.{refused_at_the_bad_byte, numbers_joined, numbers_inside}
-use Rattle.table.specs.declared.TableAnswer.TheVariants as answer
 use Rattle.table.specs.Tables.{table_read}
 use Rattle.table.specs.Answers.{table_says}
 use Rattle.table.proofs.Answers.{tables_said_apart}
@@ -31,7 +30,7 @@ use Rattle.play.proofs.Stopping.{comes_sound, release_two_to_ten, stopped_means}
 
 module _ (t s : List ℕ) (b : Bytes s) where
   -- A number that is read stands there.
-  number_there : (at : ℕ) (n : Number) → read_at s at ≡ number.Number n → NumbersBetween s at n.next
+  number_there : (at : ℕ) (n : Number) → read_at s at ≡ Ok n → NumbersBetween s at n.next
   number_there at n e = number_first n (number_has_one_spelling s at n b e) nothing_between
 
   -- A gap that passed its tests stands there.
@@ -101,7 +100,7 @@ module _ (t s : List ℕ) (b : Bytes s) where
   script_bad : (r : RefusedAt) → Bytes t → StoppedFor t s r → refusal_number r.refusal ≡ 14 → FirstBadByte s r.place
   script_bad r table (the_table e) is =
       absurd (⊎_elim (λ low. omega (arith, low.1)) (λ sixteen. omega arith)
-      (refused_as_a_table t r table (tables_said_apart (table_read t).answer (answer.Refused r) e)))
+      (refused_as_a_table t r table (tables_said_apart (table_read t).answer (Err r) e)))
   script_bad r table (a_record at p c more refused) is = record_bad (comes_sound t s at p table c) (numbers_to c) refused is
   script_bad r table (the_clock p c some ten place) is = absurd (omega arith)
 

@@ -1,5 +1,8 @@
 -- What every tick of a sound run and every accepted release keeps, a whole play keeps. Its ticks come only where the clock is below 2^40, and its runs are
 -- sound. (docs/RULES.md, sections 8.1 to 8.7.)
+use Rattle.std.specs.Prelude.{Result, Ok, Err}
+use Rattle.kinds.specs.declared.Refusal.{Refusal}
+use Rattle.kinds.specs.declared.RefusedAt.{RefusedAt}
 use Prim.Native.Nat.{ℕ, zero, suc, ◌+◌, ◌-◌, ◌≤◌, ◌<◌}
 use mathlib.Core.Path.{◌≡◌, refl, subst}
 use mathlib.Core.Logic.{◌≢◌}
@@ -15,10 +18,6 @@ use Rattle.numbers.specs.SpelledNumbers.{Bytes}
 use Rattle.theory.proofs.Cases.{by_test}
 use Rattle.table.specs.Costs.{cost_limits}
 use Rattle.run.specs.declared.Accepted.{Accepted}
-use Rattle.run.specs.declared.Released.{Released}
-use Rattle.run.specs.declared.Released.TheVariants as release
-use Rattle.run.specs.declared.StartAnswer.{StartAnswer}
-use Rattle.run.specs.declared.StartAnswer.TheVariants as start
 use Rattle.run.specs.Runs.{started}
 use Rattle.run.specs.Release.{new_job, released}
 use Rattle.run.specs.ManyTicks.{SoFar, one_more_tick, ticks_while_pending}
@@ -27,8 +26,6 @@ use Rattle.run.proofs.Release.{release_keeps_sound}
 use Rattle.run.proofs.Fresh.{started_is_sound}
 use Rattle.records.specs.declared.Numbers.{Numbers}
 use Rattle.records.specs.declared.Ready.{Ready}
-use Rattle.records.specs.declared.Tested.{Tested}
-use Rattle.records.specs.declared.Tested.TheVariants as tested
 use Rattle.records.specs.Numbers.{numbers_at, tested_numbers}
 use Rattle.play.specs.Play.{Progress, begun, Step, goes_on, stops, after_release, ticked_to, after_tests, stepped}
 use Rattle.play.specs.Play.{whole, final_ticks, and_then, played_from, played_on, once_started, played}
@@ -53,7 +50,7 @@ release_more p row cost due = let run = p.so_far.run in record {
 pub record Keeps (P : Progress → Type 0) : Type 0 where
   pub tick : (p : Progress) → Good p.so_far.run → p.so_far.run.clock.0 < max_time → P p → P (tick_more p)
   pub release : (p : Progress) (row cost : ℕ) (a : Accepted) → Good p.so_far.run
-      → (released p.so_far.run row cost).answer ≡ release.Accepted a → P p → P (release_more p row cost a.due)
+      → (released p.so_far.run row cost).answer ≡ Ok a → P p → P (release_more p row cost a.due)
 
 -- ---- one record
 
@@ -62,7 +59,7 @@ pub record Went (p : Progress) (n : Numbers) (q : Progress) (next : ℕ) : Type 
   pub ready : Ready
   pub passed : Passed (cost_limits p.so_far.run.table) p.so_far.run.clock.0 n ready
   pub answer : Accepted
-  pub answered : (released (ticked_to ready.time.0 p).so_far.run ready.row.0 ready.cost).answer ≡ release.Accepted answer
+  pub answered : (released (ticked_to ready.time.0 p).so_far.run ready.row.0 ready.cost).answer ≡ Ok answer
   pub reached : q ≡ release_more (ticked_to ready.time.0 p) ready.row.0 ready.cost answer.due
   pub goes_on_after : next ≡ ready.next
 
@@ -71,17 +68,17 @@ pub went_in_time : {p : Progress} {n : Numbers} {q : Progress} {next : ℕ} (w :
 went_in_time w = rw w.passed.asks_for w.passed.row_fits.gap_fits.in_time
 
 module _ (p : Progress) (n : Numbers) (q : Progress) (next : ℕ) where
-  by_answer : (r : Ready) → Passed (cost_limits p.so_far.run.table) p.so_far.run.clock.0 n r → (a : Released)
+  by_answer : (r : Ready) → Passed (cost_limits p.so_far.run.table) p.so_far.run.clock.0 n r → (a : Result Accepted Refusal)
       → (released (ticked_to r.time.0 p).so_far.run r.row.0 r.cost).answer ≡ a
       → after_release n.gap.place r (ticked_to r.time.0 p) a ≡ goes_on q next → Went p n q next
-  by_answer r passed (release.Accepted a) e went =
+  by_answer r passed (Ok a) e went =
       record { ready = r; passed = passed; answer = a; answered = e; reached = cc; goes_on_after = cc }
-  by_answer r passed (release.Refused f) e went = impossible cc
+  by_answer r passed (Err f) e went = impossible cc
 
-  by_tests : (t : Tested) → tested_numbers p.so_far.run.table p.so_far.run.clock.0 n ≡ t
+  by_tests : (t : Result Ready RefusedAt) → tested_numbers p.so_far.run.table p.so_far.run.clock.0 n ≡ t
       → after_tests n.gap.place p t ≡ goes_on q next → Went p n q next
-  by_tests (tested.Ready r) e went = by_answer r (ready_passed (cost_limits p.so_far.run.table) p.so_far.run.clock.0 n r e) _ refl went
-  by_tests (tested.Refused f) e went = impossible cc
+  by_tests (Ok r) e went = by_answer r (ready_passed (cost_limits p.so_far.run.table) p.so_far.run.clock.0 n r e) _ refl went
+  by_tests (Err f) e went = impossible cc
 
   pub went_on : stepped p n ≡ goes_on q next → Went p n q next
   unfolding stepped
@@ -118,9 +115,9 @@ pub was_started : (t s : List ℕ) (p : Progress) → played t s ≡ whole p →
 unfolding played
 was_started t s p e = once (started t).answer e
   where
-    once : (a : StartAnswer) → once_started s (started t).run a ≡ whole p → played_on s (started t).run ≡ whole p
-    once start.Ready e₂ = e₂
-    once (start.Refused r) e₂ = impossible cc
+    once : (a : Result (Unit {0}) RefusedAt) → once_started s (started t).run a ≡ whole p → played_on s (started t).run ≡ whole p
+    once (Ok done) e₂ = e₂
+    once (Err r) e₂ = impossible cc
 
 -- ---- what is kept all through
 

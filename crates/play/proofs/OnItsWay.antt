@@ -1,4 +1,5 @@
 -- What holds for a play on its way holds at its start, after ticks and after a release. (docs/RULES.md, sections 8.1 to 8.7.)
+use Rattle.std.specs.Prelude.{Ok}
 use Prim.Native.Nat.{ℕ, ◌+◌}
 use mathlib.Core.Path.{◌≡◌, refl}
 use native.Mathlib.Omega.{arith}
@@ -8,7 +9,6 @@ use Rattle.table.proofs.Each.{each_none}
 use Rattle.jobs.specs.Places.{max_places, put}
 use Rattle.run.specs.declared.Run.{Run}
 use Rattle.run.specs.declared.Accepted.{Accepted}
-use Rattle.run.specs.declared.Released.TheVariants as release
 use Rattle.run.specs.Release.{released}
 use Rattle.run.specs.ManyTicks.{SoFar, before_any_tick}
 use Rattle.run.proofs.Release.{each_release, release_keeps_sound}
@@ -29,12 +29,12 @@ on_its_way_ticked {s} {t} w k = record {
 }
 
 -- An accepted release adds one pending job and takes one serial.
-pub release_adds_one : (run : Run) (row cost : ℕ) (a : Accepted) → (released run row cost).answer ≡ release.Accepted a
+pub release_adds_one : (run : Run) (row cost : ℕ) (a : Accepted) → (released run row cost).answer ≡ Ok a
     → ((released run row cost).run.pending.count ≡ run.pending.count + 1) × ((released run row cost).run.next.0 ≡ run.next.0 + 1)
 unfolding put
 release_adds_one run row cost a =
     each_release run row cost
-    (λ step. step.answer ≡ release.Accepted a → (step.run.pending.count ≡ run.pending.count + 1) × (step.run.next.0 ≡ run.next.0 + 1))
+    (λ step. step.answer ≡ Ok a → (step.run.pending.count ≡ run.pending.count + 1) × (step.run.next.0 ≡ run.next.0 + 1))
     (λ r e. impossible cc)
     (λ t p given e. (rw (lt-ltb run.pending.count max_places p.room), refl))
 
@@ -42,7 +42,7 @@ release_adds_one run row cost a =
 abbrev pub released_on : SoFar → (row cost : ℕ) → SoFar
 released_on s row cost = record { run = (released s.run row cost).run; late = s.late; finishes = s.finishes }
 
-pub on_its_way_released : (s : SoFar) (row cost : ℕ) (a : Accepted) → (released s.run row cost).answer ≡ release.Accepted a → OnItsWay s
+pub on_its_way_released : (s : SoFar) (row cost : ℕ) (a : Accepted) → (released s.run row cost).answer ≡ Ok a → OnItsWay s
     → OnItsWay (released_on s row cost)
 on_its_way_released s row cost a e w = record {
   good = release_keeps_sound s.run row cost w.good.1 w.good.0;

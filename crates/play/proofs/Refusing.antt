@@ -1,5 +1,7 @@
 -- What one record of a script does to a play: the first test that the record does not pass stops it, or the record's job is accepted. (docs/RULES.md, sections
 -- 8.2 and 8.5.)
+use Rattle.std.specs.Prelude.{Result, Ok, Err}
+use Rattle.run.specs.declared.Accepted.{Accepted}
 use Prim.Native.Nat.{ℕ, ◌+◌, ◌-◌}
 use mathlib.Core.Path.{◌≡◌, refl, sym, ap, ap₂, subst, ◌∙◌}
 use mathlib.Core.List.{List}
@@ -12,7 +14,6 @@ use Rattle.kinds.specs.declared.RefusedAt.{RefusedAt}
 use Rattle.kinds.proofs.Apart.{impossible}
 use Rattle.kinds.proofs.Numbering.{numbers_differ}
 use Rattle.numbers.specs.declared.Number.{Number}
-use Rattle.numbers.specs.declared.NumberRead.TheVariants as number
 use Rattle.numbers.specs.Reading.{read_at, misspelled_at}
 use Rattle.numbers.specs.Answers.{number_says}
 use Rattle.numbers.proofs.Answers.{numbers_said_apart}
@@ -20,8 +21,6 @@ use Rattle.table.specs.declared.Table.{Table}
 use Rattle.table.specs.Tables.{rows_of}
 use Rattle.table.specs.Limits.{max_c}
 use Rattle.table.specs.Costs.{cs_of, cost_limits}
-use Rattle.run.specs.declared.Released.{Released}
-use Rattle.run.specs.declared.Released.TheVariants as release
 use Rattle.run.specs.Release.{released}
 use Rattle.run.specs.ManyTicks.{ticks}
 use Rattle.run.specs.Answers.{refused, release_says}
@@ -30,8 +29,6 @@ use Rattle.script.specs.Records.{script_number}
 use Rattle.script.proofs.Records.{number_stands, number_misspelled, number_refused_there, number_read}
 use Rattle.records.specs.declared.Numbers.{Numbers}
 use Rattle.records.specs.declared.Ready.{Ready}
-use Rattle.records.specs.declared.Tested.{Tested}
-use Rattle.records.specs.declared.Tested.TheVariants as tested
 use Rattle.records.specs.Numbers.{numbers_at, tested_numbers}
 use Rattle.records.specs.PassedTests.{GapFits, RowFits, Passed, NumbersRefused}
 use Rattle.records.specs.PassedTests.{NumbersRefused}
@@ -50,17 +47,17 @@ limits_in_use t = length-append (cs_of (rows_of t)) _ ∙ ap₂ ◌+◌ (length-
 -- ---- numbers of a script
 
 -- A number of a script that was refused can't be read, and is refused with 14 where the number reader refuses it.
-unread : (s : List ℕ) (at : ℕ) (r : RefusedAt) → script_number s at ≡ number.Refused r → Unreadable s at r.place × (r.refusal ≡ ScriptMisspelled)
+unread : (s : List ℕ) (at : ℕ) (r : RefusedAt) → script_number s at ≡ Err r → Unreadable s at r.place × (r.refusal ≡ ScriptMisspelled)
 unread s at r e = let w = number_refused_there s at e in (ap number_says w.1, w.0)
 
 -- A number that can't be read is refused with 14, where the number reader refuses it.
-unread_stands : (s : List ℕ) (at place : ℕ) → Unreadable s at place → script_number s at ≡ number.Refused (record { refusal = ScriptMisspelled; place = place })
+unread_stands : (s : List ℕ) (at place : ℕ) → Unreadable s at place → script_number s at ≡ Err (record { refusal = ScriptMisspelled; place = place })
 unread_stands s at place e = number_misspelled s at (numbers_said_apart.0 (read_at s at) (misspelled_at place) e)
 
 -- Where a release says a refusal's number, it was refused with that refusal.
-pub said_refused : (a : Released) {n : ℕ} → release_says a ≡ refused n 0 → (r : Refusal) × (a ≡ release.Refused r) × (refusal_number r ≡ n)
-said_refused (release.Accepted a) e = impossible cc
-said_refused (release.Refused r) e = (r, refl, cc)
+pub said_refused : (a : Result Accepted Refusal) {n : ℕ} → release_says a ≡ refused n 0 → (r : Refusal) × (a ≡ Err r) × (refusal_number r ≡ n)
+said_refused (Ok a) e = impossible cc
+said_refused (Err r) e = (r, refl, cc)
 
 -- A refusal is settled by its number and its place.
 pub same_refusal : (r q : RefusedAt) → refusal_number r.refusal ≡ refusal_number q.refusal → r.place ≡ q.place → r ≡ q
@@ -81,10 +78,10 @@ module _ (s : List ℕ) (at : ℕ) (p : Progress) where
   limits = cost_limits table
 
   -- The row number is looked for right after the gap, and the cost right after the row number.
-  row_there : {gap : Number} → script_number s at ≡ number.Number gap → (its.row.place ≡ gap.next) × (its.row.read ≡ script_number s gap.next)
+  row_there : {gap : Number} → script_number s at ≡ Ok gap → (its.row.place ≡ gap.next) × (its.row.read ≡ script_number s gap.next)
   row_there g = rw g (refl, refl)
 
-  cost_there : {gap row : Number} → script_number s at ≡ number.Number gap → script_number s gap.next ≡ number.Number row
+  cost_there : {gap row : Number} → script_number s at ≡ Ok gap → script_number s gap.next ≡ Ok row
       → (its.cost.place ≡ row.next) × (its.cost.read ≡ script_number s row.next)
   cost_there g r = rw (g, r) (refl, refl)
 
@@ -97,7 +94,7 @@ module _ (s : List ℕ) (at : ℕ) (p : Progress) where
   gap_fits g = record { gap_read = number_stands s at g.read; in_time = g.in_time }
 
   -- The row number that the tests were given is the script's number right after the gap.
-  row_read : {gap row : Number} → script_number s at ≡ number.Number gap → its.row.read ≡ number.Number row → script_number s gap.next ≡ number.Number row
+  row_read : {gap row : Number} → script_number s at ≡ Ok gap → its.row.read ≡ Ok row → script_number s gap.next ≡ Ok row
   row_read g e = sym (row_there g).1 ∙ e
 
   row_passed : {gap row : Number} → RowFits limits time its gap row → RowPassed s at p gap row
@@ -117,12 +114,12 @@ module _ (s : List ℕ) (at : ℕ) (p : Progress) where
       }
 
   -- The cost that the tests were given is the script's number right after the row number.
-  cost_read : {gap row cost : Number} → RowFits limits time its gap row → its.cost.read ≡ number.Number cost → script_number s row.next ≡ number.Number cost
+  cost_read : {gap row cost : Number} → RowFits limits time its gap row → its.cost.read ≡ Ok cost → script_number s row.next ≡ Ok cost
   cost_read f e =
       let g = f.gap_fits.gap_read in
       sym (cost_there g (row_read g f.row_read)).1 ∙ e
 
-  cost_stands : {gap row cost : Number} → RowFits limits time its gap row → read_at s row.next ≡ number.Number cost → its.cost.read ≡ number.Number cost
+  cost_stands : {gap row cost : Number} → RowFits limits time its gap row → read_at s row.next ≡ Ok cost → its.cost.read ≡ Ok cost
   cost_stands {row = row} f e =
       let g = f.gap_fits.gap_read in
       (cost_there g (row_read g f.row_read)).1 ∙ number_stands s row.next e
@@ -141,7 +138,7 @@ module _ (s : List ℕ) (at : ℕ) (p : Progress) where
   abbrev ready : (gap row cost : Number) → Ready
   ready gap row cost = record { time = record { 0 = time + gap.value }; row = record { 0 = row.value }; cost = cost.value; next = cost.next }
 
-  tests_passed : {gap row cost : Number} → CostPassed s at p gap row cost → tested_numbers table time its ≡ tested.Ready (ready gap row cost)
+  tests_passed : {gap row cost : Number} → CostPassed s at p gap row cost → tested_numbers table time its ≡ Ok (ready gap row cost)
   tests_passed {gap} {row} {cost} c =
       let fits = row_fits c.row_passed in
       passed_ready limits time its (record {
@@ -189,11 +186,11 @@ module _ (s : List ℕ) (at : ℕ) (p : Progress) where
   abbrev there : Number → Progress
   there gap = record { so_far = ticks gap.value p.so_far; accepted = p.accepted }
 
-  abbrev said : (gap row cost : Number) → Released
+  abbrev said : (gap row cost : Number) → Result Accepted Refusal
   said gap row cost = (released (there gap).so_far.run row.value cost.value).answer
 
   -- The job of a record that passes its tests is released at the record's script time.
-  after_ready : (gap row cost : Number) → after_tests at p (tested.Ready (ready gap row cost)) ≡ after_release at (ready gap row cost) (there gap) (said gap row cost)
+  after_ready : (gap row cost : Number) → after_tests at p (Ok (ready gap row cost)) ≡ after_release at (ready gap row cost) (there gap) (said gap row cost)
   after_ready gap row cost = let many : time + gap.value - time ≡ gap.value = omega arith in rw many
 
   reaches_release : {gap row cost : Number} → CostPassed s at p gap row cost
@@ -206,9 +203,9 @@ module _ (s : List ℕ) (at : ℕ) (p : Progress) where
   SteppedSo (goes_on q next) = RecordTaken s at p q next
   SteppedSo (stops r) = RecordRefused s at p (refusal_number r.refusal) r.place
 
-  by_release : (gap row cost : Number) → CostPassed s at p gap row cost → (a : Released) → said gap row cost ≡ a
+  by_release : (gap row cost : Number) → CostPassed s at p gap row cost → (a : Result Accepted Refusal) → said gap row cost ≡ a
       → SteppedSo (after_release at (ready gap row cost) (there gap) a)
-  by_release gap row cost passed (release.Accepted a) e = record {
+  by_release gap row cost passed (Ok a) e = record {
     gap = gap;
     row = row;
     cost = cost;
@@ -222,18 +219,18 @@ module _ (s : List ℕ) (at : ℕ) (p : Progress) where
     one_job_more = refl;
     right_after = refl;
   }
-  by_release gap row cost passed (release.Refused r) e = release_refused gap row cost passed (refusal_number r) (ap release_says e)
+  by_release gap row cost passed (Err r) e = release_refused gap row cost passed (refusal_number r) (ap release_says e)
 
   -- The tests come in their order, and then the release. There is no other way for a record to stop a play.
   pub step_means : SteppedSo (stepped p its)
   unfolding stepped
   step_means = by_tests (tested_numbers table time its) (tests_mean limits time its)
     where
-      by_tests : (v : Tested) → TestedSo limits time its v → SteppedSo (after_tests at p v)
-      by_tests (tested.Ready r) w =
+      by_tests : (v : Result Ready RefusedAt) → TestedSo limits time its v → SteppedSo (after_tests at p v)
+      by_tests (Ok r) w =
           rw w.asks_for
           (subst SteppedSo (sym (after_ready w.gap w.row w.cost)) (by_release w.gap w.row w.cost (cost_passed w) _ refl))
-      by_tests (tested.Refused r) n = numbers_refused n
+      by_tests (Err r) n = numbers_refused n
 
   -- The play goes on where the record's job is accepted.
   taken_goes_on : (q : Progress) (next : ℕ) → RecordTaken s at p q next → stepped p its ≡ goes_on q next
@@ -241,7 +238,7 @@ module _ (s : List ℕ) (at : ℕ) (p : Progress) where
       reaches_release w.passed
       ∙ ap (after_release at (ready w.gap w.row w.cost) (there w.gap))
       (runs_said_apart.1 (said w.gap w.row w.cost)
-      (release.Accepted (record { serial = record { 0 = w.serial }; due = record { 0 = w.due } })) w.accepted)
+      (Ok (record { serial = record { 0 = w.serial }; due = record { 0 = w.due } })) w.accepted)
       ∙ rw (← w.run_then, ← w.late_then, ← w.finished_then, ← w.one_job_more, ← w.right_after)
 
   -- The play stops where the record is refused, with the same number and place.
@@ -286,12 +283,12 @@ goes_where : (s : List ℕ) (at : ℕ) (p q : Progress) (next : ℕ) → stepped
 unfolding stepped
 goes_where s at p q next e = by_tests (tested_numbers (table s at p) (time s at p) (its s at p)) (tests_mean (limits s at p) (time s at p) (its s at p)) e
   where
-    by_tests : (v : Tested) → TestedSo (limits s at p) (time s at p) (its s at p) v → after_tests at p v ≡ goes_on q next → RecordTaken s at p q next
-    by_tests (tested.Ready r) w f =
-        let so = ap (after_tests at p) (ap tested.Ready (sym w.asks_for)) ∙ f in
+    by_tests : (v : Result Ready RefusedAt) → TestedSo (limits s at p) (time s at p) (its s at p) v → after_tests at p v ≡ goes_on q next → RecordTaken s at p q next
+    by_tests (Ok r) w f =
+        let so = ap (after_tests at p) (ap Ok (sym w.asks_for)) ∙ f in
         subst (SteppedSo s at p) (sym (after_ready s at p w.gap w.row w.cost) ∙ so)
         (by_release s at p w.gap w.row w.cost (cost_passed s at p w) _ refl)
-    by_tests (tested.Refused r) n f = impossible cc
+    by_tests (Err r) n f = impossible cc
 
 pub record_goes_on : RecordGoesOn
 record_goes_on s at p q next = (goes_where s at p q next, taken_goes_on s at p q next)

@@ -1,4 +1,7 @@
 -- What stops a play, and when it comes to its end. (docs/RULES.md, sections 8.1, 8.2, 8.5, 8.7 and 10.4.)
+use Rattle.std.specs.Prelude.{Some, Result, Ok, Err}
+use Rattle.run.specs.declared.Accepted.{Accepted}
+use Rattle.kinds.specs.declared.Tick.{Tick}
 use Prim.Native.Nat.{ℕ, zero, suc, ◌+◌, ◌≤◌, ◌<◌}
 use mathlib.Core.Path.{◌≡◌, refl, sym, ap, subst, ◌∙◌}
 use mathlib.Core.Logic.{◌⊎◌, ◌≢◌, inl, inr, ⊎_elim}
@@ -19,9 +22,6 @@ use Rattle.theory.specs.DueTimes.{due_time}
 use Rattle.theory.specs.Servers.{server_due}
 use Rattle.table.specs.declared.Row.{Row}
 use Rattle.table.specs.declared.Server.{Server}
-use Rattle.table.specs.declared.TableAnswer.{TableAnswer}
-use Rattle.table.specs.declared.TableAnswer.TheVariants as answer
-use Rattle.table.specs.declared.CostAnswer.{CostAnswer}
 use Rattle.table.specs.Limits.{max_c}
 use Rattle.table.specs.Rows.{from_one_to, row_in_range}
 use Rattle.table.specs.Servers.{server_in_range}
@@ -31,15 +31,11 @@ use Rattle.table.proofs.Answers.{tables_said_apart}
 use Rattle.table.specs.Costs.{cost_limits}
 use Rattle.table.proofs.Refusals.{refused_as_a_table}
 use Rattle.table.proofs.CostLimits.{CostTested, cost_tested, one_limit_for_each}
-use Rattle.due.specs.declared.Due.{Due}
-use Rattle.due.specs.declared.Due.TheVariants as due
 use Rattle.due.specs.declared.Kept.{Kept}
 use Rattle.due.specs.Kept.{due_of, earlier, not_too_late}
 use Rattle.due.specs.OddJobs.{odd_due_of}
 use Rattle.jobs.specs.Places.{max_places}
 use Rattle.run.specs.declared.Run.{Run}
-use Rattle.run.specs.declared.Released.{Released}
-use Rattle.run.specs.declared.Released.TheVariants as release
 use Rattle.run.specs.Runs.{fresh_run}
 use Rattle.run.specs.Sound.{sound_of}
 use Rattle.run.specs.Release.{at_due, due_next, at_cost, released}
@@ -51,7 +47,6 @@ use Rattle.run.proofs.Sound.{limit_at}
 use Rattle.run.proofs.Release.{due_of_row, due_of_server, release_keeps_sound}
 use Rattle.run.proofs.Fresh.{started_is_sound}
 use Rattle.script.specs.declared.RecordAt.{RecordAt}
-use Rattle.script.specs.declared.RecordRead.TheVariants as read
 use Rattle.script.specs.Records.{record_at}
 use Rattle.script.proofs.Records.{number_stands, record_read}
 use Rattle.script.proofs.Scripts.{record_is_spelled}
@@ -71,7 +66,7 @@ passed_forward : (s : List ℕ) (at : ℕ) (p : Progress) (gap row cost : Number
     → (at < cost.next) × (cost.next ≤ length s)
 passed_forward s at p gap row cost bytes inside passed =
     let found : RecordAt = record { release = record { gap = gap.value; row = record { 0 = row.value }; cost = cost.value }; next = cost.next } in
-    let there : record_at s at ≡ read.Record found = record_read s at (λ z. omega arith) gap (number_stands s at passed.row_passed.gap_passed.read)
+    let there : record_at s at ≡ Ok (Some found) = record_read s at (λ z. omega arith) gap (number_stands s at passed.row_passed.gap_passed.read)
     row (number_stands s gap.next passed.row_passed.read) cost (number_stands s row.next passed.read) in
     let spelled = record_is_spelled s at found bytes there in
     (spelled.forward, spelled.within)
@@ -116,7 +111,7 @@ rest_after t s at p q next bytes rest more e = by_left rest.left rest.enough res
 
 comes_to : (t s : List ℕ) (at : ℕ) (p : Progress) → Bytes s → ComesTo t s at p → Rest t s at p
 unfolding played
-comes_to t s at p bytes (begins period e) = record { left = length s; inside = omega arith; enough = omega arith; is_played = rw (tables_said_apart (table_read t).answer (answer.Accepted period) e) }
+comes_to t s at p bytes (begins period e) = record { left = length s; inside = omega arith; enough = omega arith; is_played = rw (tables_said_apart (table_read t).answer (Ok period) e) }
 comes_to t s at p bytes (goes_further {at = from} {p = before} c more q next e) =
     rest_after t s from before q next bytes (comes_to t s from before bytes c) more e
 
@@ -143,7 +138,7 @@ at_the_end t s p bytes c = let rest = comes_to t s (length s) p bytes c in rest.
 
 stopped_for : (t s : List ℕ) (r : RefusedAt) → Bytes s → StoppedFor t s r → played t s ≡ stopped r
 unfolding played
-stopped_for t s r bytes (the_table e) = rw (tables_said_apart (table_read t).answer (answer.Refused r) e)
+stopped_for t s r bytes (the_table e) = rw (tables_said_apart (table_read t).answer (Err r) e)
 stopped_for t s r bytes (a_record at p c more refused) =
     let rest = comes_to t s at p bytes c in
     record_stops_it t s at p r rest more ((record_stops s at p r).1 refused)
@@ -182,10 +177,10 @@ module _ (t s : List ℕ) (bytes : Bytes s) where
   unfolding played
   play_ends = by_start (table_read t).answer refl
     where
-      by_start : (a : TableAnswer) → (table_read t).answer ≡ a → EndsSo (played t s)
-      by_start (answer.Accepted period) e =
+      by_start : (a : Result ℕ RefusedAt) → (table_read t).answer ≡ a → EndsSo (played t s)
+      by_start (Ok period) e =
           rw e (script_ends (length s) 0 (begun (fresh_run (table_read t).table)) (begins period (ap table_says e)) (omega arith) (omega arith))
-      by_start (answer.Refused r) e = rw e (the_table (ap table_says e))
+      by_start (Err r) e = rw e (the_table (ap table_says e))
 
 pub stopped_means : StoppedMeans
 stopped_means t s r bytes = (λ e. subst (EndsSo t s bytes) e (play_ends t s bytes), stopped_for t s r bytes)
@@ -203,13 +198,13 @@ abbrev TwoToTen : Refusal → Type 0
 TwoToTen r = (2 ≤ refusal_number r) × (refusal_number r ≤ 10)
 
 -- Each answer that may be a refusal: if it is, it is numbered 2 to 10.
-abbrev DueStops : Due → Type 0
-DueStops (due.At t) = Unit {0}
-DueStops (due.Refused r) = TwoToTen r
+abbrev DueStops : Result Tick Refusal → Type 0
+DueStops (Ok t) = Unit {0}
+DueStops (Err r) = TwoToTen r
 
-abbrev ReleaseStops : Released → Type 0
-ReleaseStops (release.Accepted a) = Unit {0}
-ReleaseStops (release.Refused r) = TwoToTen r
+abbrev ReleaseStops : Result Accepted Refusal → Type 0
+ReleaseStops (Ok a) = Unit {0}
+ReleaseStops (Err r) = TwoToTen r
 
 -- A due time that is too late is refused with 9.
 late_stops : (at : ℕ) → DueStops (not_too_late at)
@@ -241,11 +236,11 @@ release_stops : (run : Run) (row cost : ℕ) → sound_of run ≡ true → Relea
 unfolding released
 release_stops run row cost sound = rw sound (by_cost _ (cost_tested (cost_limits run.table) row cost))
   where
-    by_due : (d : Due) → DueStops d → ReleaseStops (at_due run row cost d).answer
-    by_due (due.At t) h = tt
-    by_due (due.Refused r) h = h
+    by_due : (d : Result Tick Refusal) → DueStops d → ReleaseStops (at_due run row cost d).answer
+    by_due (Ok t) h = tt
+    by_due (Err r) h = h
 
-    by_cost : (a : CostAnswer) → CostTested (cost_limits run.table) row cost a → ReleaseStops (at_cost run row cost a).answer
+    by_cost : (a : Result (Unit {0}) Refusal) → CostTested (cost_limits run.table) row cost a → ReleaseStops (at_cost run row cost a).answer
     by_cost a (CostTested.not_in_use h) = (omega arith, omega arith)
     by_cost a (CostTested.out_of_range h o) = (omega arith, omega arith)
     by_cost a (CostTested.allowed h l m) = by_test (ltb run.pending.count max_places)
@@ -292,7 +287,7 @@ record_can_stop s at p good (release_refused gap row cost q number e) =
 stops_so : (t s : List ℕ) (r : RefusedAt) → Bytes t → StoppedFor t s r → CanStop r.refusal
 stops_so t s r table (the_table e) =
     ⊎_elim (λ low. inl (omega (arith, low.1))) (λ is. inr (inr is))
-    (refused_as_a_table t r table (tables_said_apart (table_read t).answer (answer.Refused r) e))
+    (refused_as_a_table t r table (tables_said_apart (table_read t).answer (Err r) e))
 stops_so t s r table (a_record at p c more refused) = record_can_stop s at p (comes_sound t s at p table c) refused
 stops_so t s r table (the_clock p c some ten place) = inl (omega arith)
 

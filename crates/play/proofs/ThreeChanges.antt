@@ -1,5 +1,6 @@
 -- A play as it is seen from outside, and the three moves that change it: a tick that finishes no job, a tick that finishes one, and an accepted release. What
 -- all moves keep, a whole play keeps. (docs/RULES.md, sections 6.6 to 6.17 and 8.1 to 8.7.)
+use Rattle.std.specs.Prelude.{Ok}
 use Prim.Native.Nat.{ℕ, ◌+◌, ◌-◌, ◌≤◌, ◌<◌}
 use mathlib.Core.Path.{◌≡◌, refl, sym, ◌∙◌}
 use mathlib.Core.Bool.{true, false}
@@ -18,7 +19,6 @@ use Rattle.theory.proofs.Cases.{by_lt, by_test}
 use Rattle.theory.proofs.DueTimes.{due_time_at_least_d}
 use Rattle.theory.proofs.Servers.{odd_due_after_release}
 use Rattle.table.specs.declared.Table.{Table}
-use Rattle.due.specs.declared.Due.TheVariants as due
 use Rattle.due.specs.Kept.{earlier}
 use Rattle.due.proofs.NewestKept.{due_given}
 use Rattle.due.proofs.OddJobs.{odd_due_given}
@@ -31,7 +31,6 @@ use Rattle.jobs.specs.Turns.{first_job, finish_at}
 use Rattle.jobs.proofs.Changes.{first_is_there, place_holds_job, after_a_unit, put_adds_one}
 use Rattle.run.specs.declared.Run.{Run}
 use Rattle.run.specs.declared.Accepted.{Accepted}
-use Rattle.run.specs.declared.Released.TheVariants as release
 use Rattle.run.specs.declared.ReleaseStep.{ReleaseStep}
 use Rattle.run.specs.Runs.{row_at, server_at, kept_of, last_of}
 use Rattle.run.specs.Sound.{SoundJob}
@@ -185,7 +184,7 @@ module _ (p : Progress) (row cost : ℕ) (a : Accepted) (good : Good p.so_far.ru
     accepted = p.accepted ++ (new_job before row cost a.due ∷ []);
   })
 
-  module _ (t : Tick) (passed : Passed before row cost) (given : due_next before row cost ≡ due.At t) where
+  module _ (t : Tick) (passed : Passed before row cost) (given : due_next before row cost ≡ Ok t) where
     -- A row's d is at least 1.
     row_due_later : row < before.table.count → before.clock.0 < t.0
     row_due_later h =
@@ -215,9 +214,9 @@ module _ (p : Progress) (row cost : ℕ) (a : Accepted) (good : Good p.so_far.ru
         (record { all_places = good.1.all_places; in_places = (facts before good).few_pending }) passed.room
 
   release_moves : (Q : Seen → Type 0) → Moves Q → Q (seen_of p)
-      → (released before row cost).answer ≡ release.Accepted a → Q (seen_of (release_more p row cost a.due))
+      → (released before row cost).answer ≡ Ok a → Q (seen_of (release_more p row cost a.due))
   release_moves Q moves q =
-      each_release before row cost (λ step. step.answer ≡ release.Accepted a → Q (seen_after step))
+      each_release before row cost (λ step. step.answer ≡ Ok a → Q (seen_after step))
       (λ r e. impossible cc)
       (λ t passed given e.
       let same : t ≡ a.due = cc in

@@ -1,22 +1,18 @@
 -- What it is to play a script on a run, by single ticks and releases. For each record the run ticks until the record's script time, and then the record's job
 -- is released. After the last record it ticks until nothing is pending. A replay is such a play, with a log. (docs/RULES.md, 8.1 to 8.7.)
-use Rattle.std.specs.Prelude.{ℕ, zero, suc, ◌-◌, cond, List, [], ◌∷◌, ◌++◌, eqb, length}
+use Rattle.kinds.specs.declared.Refusal.{Refusal}
+use Rattle.run.specs.declared.Accepted.{Accepted}
+use Rattle.std.specs.Prelude.{ℕ, zero, suc, ◌-◌, cond, List, [], ◌∷◌, ◌++◌, eqb, length, Result, Ok, Err}
 use Rattle.kinds.specs.Numbering.{max_time}
 use Rattle.kinds.specs.declared.RefusedAt.{RefusedAt}
 use Rattle.kinds.specs.declared.Refusal.TheVariants.{TimeTooLate}
 use Rattle.jobs.specs.declared.Job.{Job}
 use Rattle.run.specs.declared.Run.{Run}
-use Rattle.run.specs.declared.StartAnswer.{StartAnswer}
-use Rattle.run.specs.declared.StartAnswer.TheVariants as start
-use Rattle.run.specs.declared.Released.{Released}
-use Rattle.run.specs.declared.Released.TheVariants as release
 use Rattle.run.specs.Runs.{started}
 use Rattle.run.specs.Release.{new_job, released}
 use Rattle.run.specs.ManyTicks.{SoFar, before_any_tick, ticks, ticks_while_pending}
 use Rattle.records.specs.declared.Numbers.{Numbers}
 use Rattle.records.specs.declared.Ready.{Ready}
-use Rattle.records.specs.declared.Tested.{Tested}
-use Rattle.records.specs.declared.Tested.TheVariants as tested
 use Rattle.records.specs.Numbers.{numbers_at, tested_numbers}
 
 -- How far a play has come. `since` has the run as it stands, the sum of the late counts of its ticks, and the jobs that finished, in order. `accepted` has the
@@ -36,12 +32,12 @@ pub data Step : Type 0 where
 
 -- A play after the answer of a record's release. An accepted job is added, and the play goes on. A refusal stops the play at the record's start. (8.5, steps 7
 -- and 8)
-abbrev pub after_release : (place : ℕ) → Ready → Progress → Released → Step
-after_release place r p (release.Accepted a) = let run = p.so_far.run in goes_on (record {
+abbrev pub after_release : (place : ℕ) → Ready → Progress → Result Accepted Refusal → Step
+after_release place r p (Ok a) = let run = p.so_far.run in goes_on (record {
   so_far = record { run = (released run r.row.0 r.cost).run; late = p.so_far.late; finishes = p.so_far.finishes };
   accepted = p.accepted ++ (new_job run r.row.0 r.cost a.due ∷ []);
 }) r.next
-after_release place r p (release.Refused refusal) = stops (record { refusal = refusal; place = place })
+after_release place r p (Err refusal) = stops (record { refusal = refusal; place = place })
 
 -- A play after single ticks until the clock is at a time. (8.2)
 abbrev pub ticked_to : (time : ℕ) → Progress → Progress
@@ -53,9 +49,9 @@ released_at place r p = after_release place r p (released p.so_far.run r.row.0 r
 
 -- A record that passed its tests is played: the run ticks until the record's script time, and then the job is released. A record that did not pass stops the
 -- play. (8.2, 8.5)
-abbrev pub after_tests : (place : ℕ) → Progress → Tested → Step
-after_tests place p (tested.Ready r) = released_at place r (ticked_to r.time.0 p)
-after_tests place p (tested.Refused r) = stops r
+abbrev pub after_tests : (place : ℕ) → Progress → Result Ready RefusedAt → Step
+after_tests place p (Ok r) = released_at place r (ticked_to r.time.0 p)
+after_tests place p (Err r) = stops r
 
 -- One record is tested and played. It is given by its three numbers with their places. The script time of the record before it is the run's clock. (8.2, 8.5)
 unfoldable pub stepped : Progress → Numbers → Step
@@ -91,9 +87,9 @@ abbrev pub played_on : List ℕ → Run → Played
 played_on s run = played_from (length s) s 0 (begun run)
 
 -- A script played on a run, given the answer of that run's start. A table that is refused stops the play with the table's refusal. (8.1)
-abbrev pub once_started : List ℕ → Run → StartAnswer → Played
-once_started s run start.Ready = played_on s run
-once_started s run (start.Refused r) = stopped r
+abbrev pub once_started : List ℕ → Run → Result (Unit {0}) RefusedAt → Played
+once_started s run (Ok done) = played_on s run
+once_started s run (Err r) = stopped r
 
 -- A script played on a table, both as bytes. (8.1)
 unfoldable pub played : (table script : List ℕ) → Played

@@ -1,10 +1,9 @@
 -- How far a play comes, what a record must pass, and what stops a play. (docs/RULES.md, sections 8.1 to 8.7, 8.12 and 10.)
-use Rattle.std.specs.Prelude.{ℕ, ◌+◌, ◌-◌, ◌^◌, ◌≤◌, ◌<◌, ◌≡◌, ◌⊎◌, ◌≢◌, List, [], ◌∷◌, ◌++◌, length, get_or}
+use Rattle.std.specs.Prelude.{ℕ, ◌+◌, ◌-◌, ◌^◌, ◌≤◌, ◌<◌, ◌≡◌, ◌⊎◌, ◌≢◌, List, [], ◌∷◌, ◌++◌, length, get_or, Ok}
 use Rattle.kinds.specs.Numbering.{values, refusal_number, refused_with}
 use Rattle.kinds.specs.declared.Refusal.{Refusal}
 use Rattle.kinds.specs.declared.RefusedAt.{RefusedAt}
 use Rattle.numbers.specs.declared.Number.{Number}
-use Rattle.numbers.specs.declared.NumberRead.TheVariants as number
 use Rattle.numbers.specs.Reading.{read_at}
 use Rattle.numbers.specs.Answers.{number_says}
 use Rattle.table.specs.declared.Table.{Table}
@@ -33,20 +32,20 @@ most_of t row = get_or (cost_limits t) row 0
 
 -- The gap of the record at a place is read, and the record's script time is at most 2^40. (8.5, steps 1 and 2)
 pub record GapPassed (s : List ℕ) (at : ℕ) (p : Progress) (gap : Number) : Type 0 where
-  pub read : read_at s at ≡ number.Number gap
+  pub read : read_at s at ≡ Ok gap
   pub in_time : p.so_far.run.clock.0 + gap.value ≤ 2 ^ 40
 
 -- The gap of the record at a place passed its tests, and its row number is read and in use. (8.5, steps 1 to 4)
 pub record RowPassed (s : List ℕ) (at : ℕ) (p : Progress) (gap row : Number) : Type 0 where
   pub gap_passed : GapPassed s at p gap
-  pub read : read_at s gap.next ≡ number.Number row
+  pub read : read_at s gap.next ≡ Ok row
   pub in_use : row.value < sources_in_use p.so_far.run.table
 
 -- The gap and the row number of the record at a place passed their tests, and its cost is read and is from 1 to the row's c, for a server to 4,096. (8.5,
 -- steps 1 to 6)
 pub record CostPassed (s : List ℕ) (at : ℕ) (p : Progress) (gap row cost : Number) : Type 0 where
   pub row_passed : RowPassed s at p gap row
-  pub read : read_at s row.next ≡ number.Number cost
+  pub read : read_at s row.next ≡ Ok cost
   pub some_cost : 1 ≤ cost.value
   pub allowed : cost.value ≤ most_of p.so_far.run.table row.value
 
@@ -57,12 +56,12 @@ Unreadable s at place = number_says (read_at s at) ≡ refused_with 1 place
 -- The record at a place is refused with a number and a place, by the first test that it does not pass. (8.5)
 pub data RecordRefused (s : List ℕ) (at : ℕ) (p : Progress) : (number place : ℕ) → Type 0 where
   no_gap : {place : ℕ} → Unreadable s at place → RecordRefused s at p 14 place
-  too_late : (gap : Number) → read_at s at ≡ number.Number gap → 2 ^ 40 < p.so_far.run.clock.0 + gap.value → RecordRefused s at p 10 at
+  too_late : (gap : Number) → read_at s at ≡ Ok gap → 2 ^ 40 < p.so_far.run.clock.0 + gap.value → RecordRefused s at p 10 at
   no_row_number : (gap : Number) → GapPassed s at p gap → {place : ℕ} → Unreadable s gap.next place → RecordRefused s at p 14 place
-  no_such_row : (gap row : Number) → GapPassed s at p gap → read_at s gap.next ≡ number.Number row → sources_in_use p.so_far.run.table ≤ row.value
+  no_such_row : (gap row : Number) → GapPassed s at p gap → read_at s gap.next ≡ Ok row → sources_in_use p.so_far.run.table ≤ row.value
       → RecordRefused s at p 6 gap.next
   no_cost : (gap row : Number) → RowPassed s at p gap row → {place : ℕ} → Unreadable s row.next place → RecordRefused s at p 14 place
-  cost_out_of_range : (gap row cost : Number) → RowPassed s at p gap row → read_at s row.next ≡ number.Number cost
+  cost_out_of_range : (gap row cost : Number) → RowPassed s at p gap row → read_at s row.next ≡ Ok cost
       → (cost.value < 1) ⊎ (most_of p.so_far.run.table row.value < cost.value) → RecordRefused s at p 7 row.next
   -- The release at the record's script time is refused, at the record's start. (8.5, steps 7 and 8)
   release_refused : (gap row cost : Number) → CostPassed s at p gap row cost → (number : ℕ)

@@ -7,7 +7,8 @@ use mathlib.Core.List.{List, [], ◌∷◌, ◌++◌, flatten, map, reverse, rev
 use native.Mathlib.Nat.{zero-add}
 use native.Mathlib.Omega.{arith}
 use lib.ListN.{length, take, length-append}
-use lib.Seq.{take_all, sets, sets-eq, length-sets}
+use lib.Seq.{sets, sets-eq, length-sets}
+use borrow.Rule.Slice.PartMut.{mid_of, put_mid}
 use Rattle.kinds.specs.Numbering.{Says, numbered, values}
 use Rattle.run.specs.declared.Run.{Run}
 use Rattle.run.specs.Runs.{started}
@@ -19,7 +20,7 @@ use Rattle.kinds.proofs.Lists.{sets-append}
 use Rattle.probe.specs.Words.{most_words, words_bytes}
 use Rattle.probe.specs.Traced.{call_length, call_at, calls_from, events_from, start_words, event_words}
 use Rattle.probe.specs.Traced.{trace_answer_length, trace_words, answers_after, EventsAreTheTrace}
-use Rattle.probe.proofs.Words.{length-words_bytes}
+use Rattle.probe.proofs.Words.{length-words_bytes, stored_from}
 
 -- ---- the promises' traces
 
@@ -52,9 +53,9 @@ event_is_four (Event.tick (says.TickSays.refused n place) late) = refl
 event_is_four (Event.end serial (says.EndingSays.ended_with units)) = refl
 event_is_four (Event.end serial (says.EndingSays.refused n place)) = refl
 
--- The first four words of an answer are all of it, and they take the bytes of an answer.
-four_are_all : (ws : List ℕ) → length ws ≡ most_words → (take most_words ws ≡ ws) × (length (words_bytes ws) ≡ trace_answer_length)
-four_are_all ws h = (take_all most_words ws (omega arith), omega (arith, length-words_bytes ws))
+-- The four words of an answer take the bytes of an answer.
+four_words : (ws : List ℕ) → length ws ≡ most_words → length (words_bytes ws) ≡ trace_answer_length
+four_words ws h = omega (arith, length-words_bytes ws)
 
 -- The answers of the calls from a place on, as many as `count` says, in bytes.
 abbrev answered : Run → (count : ℕ) (calls : List ℕ) (at : ℕ) → List ℕ
@@ -74,7 +75,7 @@ answered_length run zero calls at = refl
 answered_length run (suc k) calls at =
     let e = event_of run (call_at calls at) in
     length-append (words_bytes (event_words e)) _
-    ∙ omega (arith, (four_are_all (event_words e) (event_is_four e)).1, answered_length (run_after run (call_at calls at)) k calls (at + call_length))
+    ∙ omega (arith, four_words (event_words e) (event_is_four e), answered_length (run_after run (call_at calls at)) k calls (at + call_length))
 
 -- The first k answers are the answers of the first k calls.
 first_answers : (k n : ℕ) (run : Run) (calls : List ℕ) (at : ℕ) → k ≤ n
@@ -113,48 +114,47 @@ pub record Standing (calls answers₀ : List ℕ) (shown : ℕ) (run₀ : Run) (
   pub completes : sets answers (i * trace_answer_length) (answered run (shown - i) calls ((i - 1) * call_length))
       ≡ sets answers₀ trace_answer_length (answered run₀ (shown - 1) calls 0)
 
--- Before the loop only the answer of the start stands in the buffer.
-pub start_standing : (calls answers : List ℕ) (shown : ℕ) (run : Run) → 1 ≤ shown → shown < 2 ^ 32 → shown * trace_answer_length ≤ length answers
-    → Standing calls answers shown run answers run 1
-start_standing calls answers shown run h most room =
-    record { begun = omega arith; not_past = h; countable = most; has_room = room; same_length = refl; completes = refl }
-
--- One turn of the loop adds the answer of one more call.
+-- One turn of the loop writes the answer of one more call into the rest of the buffer behind the answers before it.
 module _ {calls answers₀ : List ℕ} {shown : ℕ} {run₀ : Run} {answers : List ℕ} {run : Run} {i : ℕ} (p : Standing calls answers₀ shown run₀ answers run i) where
   pub one_standing : i < shown
       → (let c = call_at calls ((i - 1) * call_length) in
-      Standing calls answers₀ shown run₀ (sets answers (i * trace_answer_length) (words_bytes (take most_words (event_words (event_of run c))))) (run_after run c) (i + 1))
+      let place = i * trace_answer_length in
+      let room = length answers - place in
+      let written = sets (mid_of place room answers) 0 (words_bytes (event_words (event_of run c))) in
+      Standing calls answers₀ shown run₀ (put_mid place room answers written) (run_after run c) (i + 1))
   one_standing h =
       let at = (i - 1) * call_length in
       let e = event_of run (call_at calls at) in
-      let four = four_are_all (event_words e) (event_is_four e) in
+      let bytes = words_bytes (event_words e) in
+      let four : length bytes ≡ trace_answer_length = four_words (event_words e) (event_is_four e) in
+      let stored = stored_from answers bytes (i * trace_answer_length) (omega (arith, four, p.has_room, p.same_length)) in
       let more = answered_more run (shown - i) (shown - (i + 1)) calls at (omega arith) in
       let next : (i + 1) * trace_answer_length ≡ i * trace_answer_length + trace_answer_length = omega arith in
       let after : (i + 1 - 1) * call_length ≡ at + call_length = omega (arith, p.begun) in
-      record {
+      rw stored (record {
         begun = omega arith;
         not_past = omega arith;
         countable = p.countable;
         has_room = p.has_room;
         same_length = simp length-sets p.same_length;
-        completes = rw (four.0, next, after) (rw (more, sets-append, four.1) at p.completes);
-      }
+        completes = rw (next, after) (rw (more, sets-append, four) at p.completes);
+      })
 
 -- After the loop all answers stand in the buffer, and what comes after them is as it was.
 pub all_standing : (table calls answers : List ℕ) (shown : ℕ) {after : List ℕ} {run : Run} {i : ℕ}
-    → (let first = sets answers 0 (words_bytes (take most_words (start_words (start_says (started table).answer)))) in
+    → (let first = sets answers 0 (words_bytes (start_words (start_says (started table).answer))) in
     Standing calls first shown (started table).run after run i) → shown ≤ i → shown ≤ length calls / call_length + 1
     → after ≡ answers_after shown (trace_words table calls) answers
 all_standing table calls answers shown {after} {run} {i} p h there =
     let first = start_words (start_says (started table).answer) in
-    let four = four_are_all first (start_is_four (start_says (started table).answer)) in
+    let four = four_words first (start_is_four (start_says (started table).answer)) in
     let bytes = words_bytes first in
     let later = answered (started table).run (shown - 1) calls 0 in
     let over : shown - i ≡ 0 = omega arith in
     let long : length (bytes ++ later) ≡ shown * trace_answer_length =
-    length-append bytes later ∙ omega (arith, four.1, answered_length (started table).run (shown - 1) calls 0, p.begun, p.not_past) in
+    length-append bytes later ∙ omega (arith, four, answered_length (started table).run (shown - 1) calls 0, p.begun, p.not_past) in
     let stored : after ≡ sets answers 0 (bytes ++ later) =
-    rw (over, answered_none) at p.completes ∙ rw (four.0, sets-append, four.1, zero-add) in
-    let room = rw (four.0, length-sets) at p.has_room in
+    rw (over, answered_none) at p.completes ∙ rw (sets-append, four, zero-add) in
+    let room = rw length-sets at p.has_room in
     let all = shown_answers table calls shown (omega (arith, p.begun, p.not_past)) there in
     stored ∙ sets-eq (bytes ++ later) answers 0 (omega (arith, room)) ∙ rw (zero-add, long, all)

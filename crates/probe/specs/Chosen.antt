@@ -1,8 +1,9 @@
 -- What the probe's chooser call returns, and what it leaves in the two buffers that are lent to it. (docs/RULES.md, section 7.)
-use Rattle.std.specs.Prelude.{ℕ, ◌*◌, min, cond, List, [], ◌∷◌, ◌++◌, eqb, length, take, drop}
+use Rattle.script.specs.declared.RefusedIn.{RefusedIn}
+use Rattle.script.specs.declared.Next.{Next}
+use Rattle.std.specs.Prelude.{ℕ, ◌*◌, min, cond, List, [], ◌∷◌, ◌++◌, eqb, length, take, drop, Option, Result}
 use Rattle.kinds.specs.Numbering.{Said, Says, numbered, values, refusal_number}
 use Rattle.kinds.specs.declared.Refusal.TheVariants.{AnswerNot16Bytes}
-use Rattle.script.specs.declared.Chosen.{Chosen}
 use Rattle.script.specs.Answers.{chosen_says}
 use Rattle.script.specs.Chooser.{chosen, part_of}
 use Rattle.words.specs.Words.{word_length}
@@ -34,7 +35,7 @@ in_three_numbers (values vs) = record { number = 1; first = length_in vs; second
 in_three_numbers (numbered s) = s
 
 -- The status and the two numbers of a choice. (7.8 to 7.12)
-abbrev pub chosen_said : Chosen → Said
+abbrev pub chosen_said : Result (Option Next) RefusedIn → Said
 chosen_said c = in_three_numbers (chosen_says c)
 
 -- What the chooser call returns, and its two buffers afterwards.
@@ -45,7 +46,7 @@ pub record Answered : Type 0 where
 
 -- The chooser call after a choice. It returns the status, the answer buffer holds the two numbers, and the next record's bytes are copied to the start of
 -- `part`. (7.8)
-abbrev pub answered_by : Chosen → (s₁ s₂ part : List ℕ) → Answered
+abbrev pub answered_by : Result (Option Next) RefusedIn → (s₁ s₂ part : List ℕ) → Answered
 answered_by c s₁ s₂ part = record {
   status = (chosen_said c).number;
   part = copied (part_of c s₁ s₂) part;

@@ -8,8 +8,13 @@ use Rattle.run.specs.Ticking.{ticked}
 use Rattle.run.specs.Ending.{ended}
 use Rattle.run.specs.Answers.{start_says, release_says, tick_says, end_says}
 use Rattle.promise.specs.Traces.{Call, run_after, event_of}
-use Rattle.probe.specs.declared.LentStep.{LentStep}
+use Rattle.probe.specs.declared.FourWords.{FourWords}
 use Rattle.probe.specs.Traced.{start_words, release_words, tick_words, end_words, event_words}
+
+-- A run after a call, and the call's answer in words.
+pub record LentStep : Type 0 where
+  pub run : Run
+  pub answer : FourWords
 
 -- The run after a call, and the call's answer in four words.
 abbrev pub in_words : Run → (words : List ℕ) → LentStep

@@ -1,10 +1,10 @@
 -- A trace as bytes: each call on a run in three words of eight bytes, and each answer in four. The answers are those of the traces of the promises (crate
 -- promise, specs/Traces.antt), listed oldest first. (docs/RULES.md, section 6.)
-use Rattle.std.specs.Prelude.{ℕ, zero, suc, ◌+◌, ◌-◌, ◌*◌, ◌/◌, ◌^◌, min, ◌≡◌, true, false, cond, eqb, length, take, drop}
+use Rattle.kinds.specs.declared.RefusedAt.{RefusedAt}
+use Rattle.numbers.specs.declared.Number.{Number}
+use Rattle.std.specs.Prelude.{ℕ, zero, suc, ◌+◌, ◌-◌, ◌*◌, ◌/◌, ◌^◌, min, ◌≡◌, true, false, cond, eqb, length, take, drop, Result, Ok, Err}
 use mathlib.Core.List.{List, [], ◌∷◌, ◌++◌, flatten, map, reverse}
 use Rattle.kinds.specs.Numbering.{Says, numbered, values}
-use Rattle.numbers.specs.declared.NumberRead.{NumberRead}
-use Rattle.numbers.specs.declared.NumberRead.TheVariants as number
 use Rattle.run.specs.declared.Run.{Run}
 use Rattle.run.specs.Runs.{started}
 use Rattle.run.specs.Answers.{start_says}
@@ -12,6 +12,8 @@ use Rattle.run.specs.Answers.{ReleaseSays, accepted, TickSays, idle, ran, taken,
 use Rattle.run.specs.Answers as says
 use Rattle.promise.specs.Traces.{Call, Event, run_after, event_of, trace}
 use Rattle.words.specs.Words.{word_length, word_at}
+use Rattle.probe.specs.declared.Call as code
+use Rattle.probe.specs.declared.Call.TheVariants as call
 use Rattle.probe.specs.declared.Played.{Played}
 use Rattle.probe.specs.Words.{most_words, words_bytes}
 
@@ -22,13 +24,19 @@ abbrev pub call_length : ℕ
 call_length = 3 * word_length
 
 -- The value that was read, or 0 where the reading was refused.
-abbrev pub value_or_0 : NumberRead → ℕ
-value_or_0 (number.Number n) = n.value
-value_or_0 (number.Refused r) = 0
+abbrev pub value_or_0 : Result Number RefusedAt → ℕ
+value_or_0 (Ok n) = n.value
+value_or_0 (Err r) = 0
 
 -- The word at a place, or 0 where it is cut off.
 abbrev pub word_or_0 : List ℕ → (at : ℕ) → ℕ
 word_or_0 s at = value_or_0 (word_at s at)
+
+-- The call of the promises that a call of the code is.
+abbrev pub as_call : code.Call → Call
+as_call (call.Release row cost) = Call.release row.0 cost
+as_call (call.End serial) = Call.end serial.0
+as_call call.Tick = Call.tick
 
 -- The call that three words say. It is a release of a row with a cost where the first word is 1, the end of the job with the serial in the second word where
 -- the first word is 3, and a tick where it is anything else.

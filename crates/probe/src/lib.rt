@@ -3,27 +3,27 @@
 // first.
 #![tactic(auto)]
 
-ghost use Rattle.std.specs.Prelude.{◌≡◌, ◌+◌, ◌*◌, ◌≤◌, length, take};
+ghost use Rattle.std.specs.Prelude.{◌≡◌, ◌*◌, ◌≤◌, length};
 ghost use Rattle.std.proofs.lemmas.List.Edits.{sets};
 ghost use Rattle.numbers.specs.Answers.{written_says};
 ghost use Rattle.numbers.specs.Writing.{written, buffer_after};
 ghost use Rattle.script.specs.Answers.{which_number};
 ghost use Rattle.words.specs.Words.{word_length};
-ghost use Rattle.host.specs.Answer.{VerdictAnswered};
+ghost use Rattle.host.specs.Answer.{answer_length, answer_bytes, VerdictAnswered};
 ghost use Rattle.run.specs.Answers.{start_says, release_says, tick_says, end_says};
-ghost use Rattle.probe.specs.Words.{most_words, words_bytes};
+ghost use Rattle.live.specs.Statuses.{as_said};
+ghost use Rattle.probe.specs.Words.{words_bytes};
 ghost use Rattle.probe.specs.Written.{in_one_number};
-ghost use Rattle.probe.specs.Chosen.{copied, chosen_answered};
-ghost use Rattle.probe.specs.Traced.{word_or_0, call_of, start_words, release_words, tick_words, end_words, after_call, answers_shown, trace_words, answers_after};
+ghost use Rattle.probe.specs.Chosen.{copied, chosen_said, chosen_answered};
+ghost use Rattle.probe.specs.Traced.{word_or_0, as_call, call_of, start_words, release_words, tick_words, end_words};
+ghost use Rattle.probe.specs.Traced.{after_call, answers_shown, trace_words, answers_after};
 ghost use Rattle.probe.specs.LentRuns.{lent_started, lent_released, lent_ticked, lent_ended};
 
 use jobs::Finished;
-use kinds::{Refusal, RowNumber, Serial, Tick};
-use lent::TickAnswer;
-use numbers::{NumberRead, Written};
-use run::{Ended, Released, Run, StartAnswer, Ticked};
-use script::{Chosen, Which};
-use verdict::Verdict;
+use kinds::{Refusal, RefusedAt, RowNumber, Serial, Tick};
+use live::Saying;
+use run::{Accepted, Run, Ticked};
+use script::{Next, RefusedIn, Which};
 use words::WORD;
 
 // The length of the chooser's answer buffer in bytes: two words.
@@ -47,17 +47,24 @@ const END: u64 = 3;
 // The most answers that a trace writes: their number is returned in four bytes.
 const MOST: usize = 0xFFFF_FFFF;
 
-// Writes the first `count` words into a buffer, one after another, from a place on.
-fn put_words(buffer: &mut [u8], at: usize, words: [u64; 4], count: usize)
-    requires { (count ≤ most_words) × (at + word_length * count ≤ length buffer.old) }
-    ensures { buffer.new ≡ sets buffer.old at (words_bytes (take count words)) }
+// Writes words into a buffer, one after another, from its start on.
+fn put_words(buffer: &mut [u8], words: &[u64])
+    requires { word_length * length words.now ≤ length buffer.old }
+    ensures { buffer.new ≡ sets buffer.old 0 (words_bytes words.now) }
 {
-    let mut k: usize = 0;
-    while k < count {
-        let place = at + k * WORD;
-        words::put(&mut buffer[place..], words[k]);
-        k += 1;
+    for (k, &word) in words.iter().enumerate() {
+        // The buffer has room for all words, so none is refused.
+        let _ = words::put(&mut buffer[k * WORD..], word);
     }
+}
+
+// Writes the two numbers beside a status into an answer buffer of two words, and returns the status. (9.4)
+fn say(answer: &mut [u8], told: Saying) -> u32
+    requires { length answer.old ≡ answer_length }
+    ensures { (result ≡ told.number) × (answer.new ≡ answer_bytes (as_said told)) }
+{
+    put_words(answer, &[told.first, told.second]);
+    told.number
 }
 
 // ---- the number writer
@@ -69,8 +76,8 @@ pub extern "C" fn write_number(number: u64, buffer: &mut [u8]) -> u32
         × (buffer.new ≡ buffer_after (written number (length buffer.old)) number buffer.old) }
 {
     match numbers::write(buffer, number) {
-        Written::Length(n) => n as u32,
-        Written::Refused(r) => r.number(),
+        Ok(n) => n as u32,
+        Err(r) => r.number(),
     }
 }
 
@@ -80,25 +87,41 @@ pub extern "C" fn write_number(number: u64, buffer: &mut [u8]) -> u32
 fn copy(bytes: &[u8], buffer: &mut [u8])
     ensures { buffer.new ≡ copied bytes.now buffer.old }
 {
-    let fit = if bytes.len() < buffer.len() {
-        bytes.len()
-    } else {
-        buffer.len()
-    };
-    let mut i: usize = 0;
-    while i < fit {
-        buffer[i] = bytes[i];
-        i += 1;
-    }
+    let fit = bytes.len().min(buffer.len());
+    buffer[..fit].copy_from_slice(&bytes[..fit]);
 }
 
-// The number that says which script it is: 1 for the first and 2 for the second.
+// The number that says which script it is: 1 for the first and 2 for the second. It is no `From`, because both types are those of other crates.
 fn which_number(script: Which) -> u64
     ensures { result ≡ which_number script }
 {
     match script {
         Which::First => 1,
         Which::Second => 2,
+    }
+}
+
+// What the chooser says: 1 with the next record's length and its script, 1 with 0 and 0 where both scripts have ended, or the refusal with its place and which
+// script it is. (7.8 to 7.12)
+fn chosen_told(chosen: Result<Option<Next>, RefusedIn>) -> Saying
+    ensures { as_said result ≡ chosen_said chosen }
+{
+    match chosen {
+        Ok(Some(next)) => Saying {
+            number: A_RECORD,
+            first: next.length as u64,
+            second: which_number(next.script),
+        },
+        Ok(None) => Saying {
+            number: A_RECORD,
+            first: 0,
+            second: 0,
+        },
+        Err(r) => Saying {
+            number: r.at.refusal.number(),
+            first: r.at.place as u64,
+            second: which_number(r.script),
+        },
     }
 }
 
@@ -124,35 +147,11 @@ pub extern "C" fn choose<'a>(
     let one = Tick(first_time);
     let other = Tick(second_time);
     copy(script::chosen_part(first, second, one, other), part);
-    match script::choose(first, second, one, other) {
-        Chosen::Next(n) => {
-            let script = n.script;
-            put_words(answer, 0, [n.length as u64, which_number(script), 0, 0], 2);
-            A_RECORD
-        }
-        Chosen::Ended => {
-            put_words(answer, 0, [0, 0, 0, 0], 2);
-            A_RECORD
-        }
-        Chosen::Refused(r) => {
-            let at = r.at;
-            let refusal = at.refusal;
-            let script = r.script;
-            put_words(answer, 0, [at.place as u64, which_number(script), 0, 0], 2);
-            refusal.number()
-        }
-    }
+    let chosen = script::choose(first, second, one, other);
+    say(answer, chosen_told(chosen))
 }
 
 // ---- the verdict by every length
-
-// The length of the answer buffer of a verdict in bytes: two words. (9.4)
-const VERDICT: usize = 2 * WORD;
-
-// The statuses of a verdict that are no refusal. (1.15)
-const FEASIBLE: u32 = 20;
-
-const OVERLOADED: u32 = 21;
 
 // The verdict on a table, by a look at every length in turn. It returns and writes what the host's verdict does, by the same contract, which one status and one
 // answer buffer only satisfy. (9.2, 9.5, 9.6)
@@ -160,27 +159,35 @@ const OVERLOADED: u32 = 21;
 pub extern "C" fn verdict_every_length(table: &[u8], answer: &mut [u8]) -> u32
     ensures { VerdictAnswered table.now answer.old result answer.new }
 {
-    if answer.len() != VERDICT {
+    if answer.len() != host::ANSWER {
         return Refusal::AnswerNot16Bytes.number();
     }
-    match verdict::judge_every_length(table) {
-        Verdict::Feasible => {
-            put_words(answer, 0, [0, 0, 0, 0], 2);
-            FEASIBLE
-        }
-        Verdict::Overloaded(w) => {
-            put_words(answer, 0, [w.length, w.demand, 0, 0], 2);
-            OVERLOADED
-        }
-        Verdict::Refused(r) => {
-            let refusal = r.refusal;
-            put_words(answer, 0, [r.place as u64, 0, 0, 0], 2);
-            refusal.number()
-        }
-    }
+    let verdict = verdict::judge_every_length(table);
+    say(answer, host::verdict_told(verdict))
 }
 
 // ---- a trace
+
+// A call of a trace: a release of a row with a cost, the end of the job with a serial, or a tick.
+#[derive(Clone, Copy)]
+enum Call {
+    Release(RowNumber, u64),
+    End(Serial),
+    Tick,
+}
+
+impl Call {
+    // The call that three words say.
+    fn of(kind: u64, row: u64, cost: u64) -> Call
+        ensures { as_call result ≡ call_of kind row cost }
+    {
+        match kind {
+            RELEASE => Call::Release(RowNumber(row), cost),
+            END => Call::End(Serial(row)),
+            _ => Call::Tick,
+        }
+    }
+}
 
 // The run after a call, and the call's answer in four words.
 #[derive(Clone, Copy)]
@@ -194,31 +201,28 @@ fn word_at(bytes: &[u8], at: usize) -> u64
     ensures { result ≡ word_or_0 bytes.now at }
 {
     match words::get(bytes, at) {
-        NumberRead::Number(n) => n.value,
-        NumberRead::Refused(_) => 0,
+        Ok(n) => n.value,
+        Err(_) => 0,
     }
 }
 
 // The words of a start's answer: 1 where the run is ready, or 6 with the refusal's number and place. (6.4)
-fn start_words(answer: StartAnswer) -> [u64; 4]
+fn start_words(answer: Result<(), RefusedAt>) -> [u64; 4]
     ensures { result ≡ start_words (start_says answer) }
 {
     match answer {
-        StartAnswer::Ready => [1, 0, 0, 0],
-        StartAnswer::Refused(r) => {
-            let refusal = r.refusal;
-            [6, refusal.number() as u64, r.place as u64, 0]
-        }
+        Ok(()) => [1, 0, 0, 0],
+        Err(r) => [6, r.refusal.number() as u64, r.place as u64, 0],
     }
 }
 
 // The words of a release's answer: 2 with the job's serial and due time, or 6 with the refusal's number. (6.6, 6.8)
-fn release_words(answer: Released) -> [u64; 4]
+fn release_words(answer: Result<Accepted, Refusal>) -> [u64; 4]
     ensures { result ≡ release_words (release_says answer) }
 {
     match answer {
-        Released::Accepted(a) => [2, a.serial.0, a.due.0, 0],
-        Released::Refused(r) => [6, r.number() as u64, 0, 0],
+        Ok(a) => [2, a.serial.0, a.due.0, 0],
+        Err(r) => [6, r.number() as u64, 0, 0],
     }
 }
 
@@ -229,56 +233,51 @@ fn tick_words(answer: Ticked, late: u64) -> [u64; 4]
 {
     match answer {
         Ticked::Idle => [3, 0, 0, late],
-        Ticked::Ran(ran) => {
-            let finished = ran.finished;
-            match finished {
-                Finished::No => [4, ran.serial.0, 0, late],
-                Finished::Yes => [5, ran.serial.0, 0, late],
-            }
-        }
+        Ticked::Ran(ran) => match ran.finished {
+            Finished::No => [4, ran.serial.0, 0, late],
+            Finished::Yes => [5, ran.serial.0, 0, late],
+        },
         Ticked::Taken => [7, 0, 0, late],
         Ticked::Refused(r) => [6, r.number() as u64, 0, 0],
     }
 }
 
 // The words of an end's answer: 8 with the units that the job was given, or 6 with the refusal's number. (6.27, 6.30)
-fn end_words(answer: Ended) -> [u64; 4]
+fn end_words(answer: Result<u64, Refusal>) -> [u64; 4]
     ensures { result ≡ end_words (end_says answer) }
 {
     match answer {
-        Ended::Units(units) => [8, units, 0, 0],
-        Ended::Refused(r) => [6, r.number() as u64, 0, 0],
+        Ok(units) => [8, units, 0, 0],
+        Err(r) => [6, r.number() as u64, 0, 0],
     }
 }
 
-// Plays the call that three words say: a release of a row with a cost, the end of the job with a serial, or a tick.
-fn play(run: Run, kind: u64, row: u64, cost: u64) -> Played
-    ensures { result ≡ after_call run (call_of kind row cost) }
+// Plays a call on a run.
+fn play(run: Run, call: Call) -> Played
+    ensures { result ≡ after_call run (as_call call) }
 {
-    if kind == RELEASE {
-        let step = run.release(RowNumber(row), cost);
-        let after = step.run;
-        let said = step.answer;
-        return Played {
-            run: after,
-            answer: release_words(said),
-        };
-    }
-    if kind == END {
-        let step = run.end(Serial(row));
-        let after = step.run;
-        let said = step.answer;
-        return Played {
-            run: after,
-            answer: end_words(said),
-        };
-    }
-    let step = run.tick();
-    let after = step.run;
-    let said = step.answer;
-    Played {
-        run: after,
-        answer: tick_words(said, step.late),
+    match call {
+        Call::Release(row, cost) => {
+            let step = run.release(row, cost);
+            Played {
+                run: step.run,
+                answer: release_words(step.answer),
+            }
+        }
+        Call::End(serial) => {
+            let step = run.end(serial);
+            Played {
+                run: step.run,
+                answer: end_words(step.answer),
+            }
+        }
+        Call::Tick => {
+            let step = run.tick();
+            Played {
+                run: step.run,
+                answer: tick_words(step.answer, step.late),
+            }
+        }
     }
 }
 
@@ -287,10 +286,7 @@ fn play(run: Run, kind: u64, row: u64, cost: u64) -> Played
 fn answers_shown(calls: usize, room: usize) -> usize
     ensures { result ≡ answers_shown calls room }
 {
-    let there = calls / CALL + 1;
-    let fit = room / ANSWER;
-    let shown = if there < fit { there } else { fit };
-    if MOST < shown { MOST } else { shown }
+    (calls / CALL + 1).min(room / ANSWER).min(MOST)
 }
 
 // Plays calls on a run that is started on a table. It writes the answer of the start and then the answer of each call, in four words each, and returns how many
@@ -305,23 +301,18 @@ pub extern "C" fn trace(table: &[u8], calls: &[u8], answers: &mut [u8]) -> u32
         return 0;
     }
     let started = run::start(table);
+    put_words(answers, &start_words(started.answer));
     let mut run = started.run;
-    let answer = started.answer;
-    put_words(answers, 0, start_words(answer), 4);
-    let mut i: usize = 1;
-    while i < shown {
+    for i in 1..shown {
         let at = (i - 1) * CALL;
-        let step = play(
-            run,
+        let call = Call::of(
             word_at(calls, at),
             word_at(calls, at + WORD),
             word_at(calls, at + 2 * WORD),
         );
-        let next = step.run;
-        run = next;
-        let words = step.answer;
-        put_words(answers, i * ANSWER, words, 4);
-        i += 1;
+        let step = play(run, call);
+        put_words(&mut answers[i * ANSWER..], &step.answer);
+        run = step.run;
     }
     shown as u32
 }
@@ -335,64 +326,16 @@ pub struct FourWords {
     pub words: [u64; 4],
 }
 
-// The run after a call, and the call's answer in words.
-#[derive(Clone, Copy)]
-struct LentStep {
-    run: Run,
-    answer: FourWords,
-}
-
-// A start by value, with its answer in words. (6.4)
-fn start_step(table: &[u8]) -> LentStep
-    ensures { result ≡ lent_started table.now }
-{
-    let step = run::start(table);
-    let after = step.run;
-    let said = step.answer;
-    LentStep {
-        run: after,
-        answer: FourWords {
-            words: start_words(said),
-        },
-    }
-}
-
-// The answer of a release in words. (6.6, 6.8)
-fn release_said(answer: Released) -> FourWords
-    ensures { result ≡ record { words = release_words (release_says answer) } }
-{
-    FourWords {
-        words: release_words(answer),
-    }
-}
-
-// The answer of a tick in words. (6.12, 6.14)
-fn tick_said(said: TickAnswer) -> FourWords
-    ensures { result ≡ record { words = tick_words (tick_says said.answer) said.late } }
-{
-    let answer = said.answer;
-    FourWords {
-        words: tick_words(answer, said.late),
-    }
-}
-
-// The answer of an end in words. (6.27, 6.30)
-fn end_said(answer: Ended) -> FourWords
-    ensures { result ≡ record { words = end_words (end_says answer) } }
-{
-    FourWords {
-        words: end_words(answer),
-    }
-}
-
 // Starts a run on a table, in the memory that is lent, whatever stood there before. It returns the start's answer in four words, as a trace writes it. (6.4)
 #[unsafe(no_mangle)]
 pub extern "C" fn lent_start(table: &[u8], run: &mut Run) -> FourWords
     ensures { (result ≡ (lent_started table.now).answer) × (run.new ≡ (lent_started table.now).run) }
 {
-    let step = start_step(table);
-    *run = step.run;
-    step.answer
+    let started = run::start(table);
+    *run = started.run;
+    FourWords {
+        words: start_words(started.answer),
+    }
 }
 
 // Releases a job of a row in the run that is lent. It returns the release's answer in four words, as a trace writes it. The run afterwards is that of the
@@ -401,8 +344,9 @@ pub extern "C" fn lent_start(table: &[u8], run: &mut Run) -> FourWords
 pub extern "C" fn lent_release(run: &mut Run, row: RowNumber, cost: u64) -> FourWords
     ensures { (result ≡ (lent_released run.old row.0 cost).answer) × (run.new ≡ (lent_released run.old row.0 cost).run) }
 {
-    let said = lent::release(run, row, cost);
-    release_said(said)
+    FourWords {
+        words: release_words(lent::release(run, row, cost)),
+    }
 }
 
 // Lets one tick go by in the run that is lent. It returns the tick's answer in four words, as a trace writes it. The run afterwards is that of the tick by
@@ -412,7 +356,9 @@ pub extern "C" fn lent_tick(run: &mut Run) -> FourWords
     ensures { (result ≡ (lent_ticked run.old).answer) × (run.new ≡ (lent_ticked run.old).run) }
 {
     let said = lent::tick(run);
-    tick_said(said)
+    FourWords {
+        words: tick_words(said.answer, said.late),
+    }
 }
 
 // Ends the pending job that has a serial in the run that is lent. It returns the end's answer in four words, as a trace writes it. The run afterwards is that
@@ -421,6 +367,7 @@ pub extern "C" fn lent_tick(run: &mut Run) -> FourWords
 pub extern "C" fn lent_end(run: &mut Run, serial: Serial) -> FourWords
     ensures { (result ≡ (lent_ended run.old serial.0).answer) × (run.new ≡ (lent_ended run.old serial.0).run) }
 {
-    let said = lent::end(run, serial);
-    end_said(said)
+    FourWords {
+        words: end_words(lent::end(run, serial)),
+    }
 }

@@ -1,6 +1,8 @@
 -- At the host: the proof. A replay makes the run's own calls, so the bridge holds all through it. On a feasible table every accepted job that is due was ended
 -- early or has had its cost. So no tick counts a late job. At 2^40 every job is due, so nothing is pending then, and the final ticks come to their end. (8.3,
 -- 8.7, 8.14)
+use Rattle.std.specs.Prelude.{Option, Some, None, Result, Ok, Err}
+use Rattle.run.specs.declared.Accepted.{Accepted}
 use Prim.Native.Nat.{ℕ, zero, suc, ◌+◌, ◌-◌, ◌≤◌, ◌<◌}
 use mathlib.Core.Path.{◌≡◌, refl, sym, subst, ◌∙◌}
 use mathlib.Core.Bool.{Bool, true, false, cond}
@@ -22,10 +24,6 @@ use Rattle.theory.specs.Jobs.{Job}
 use Rattle.theory.proofs.Cases.{by_lt, by_eq, by_test}
 use Rattle.theory.proofs.Lists.{all_of_members, none_passes}
 use Rattle.table.specs.declared.Table.{Table}
-use Rattle.table.specs.declared.TableAnswer.{TableAnswer}
-use Rattle.table.specs.declared.TableAnswer.TheVariants as table
-use Rattle.table.specs.declared.CostLimit.{CostLimit}
-use Rattle.table.specs.declared.CostLimit.TheVariants as limit
 use Rattle.table.specs.Costs.{cost_limits, limit_of, cost_answer}
 use Rattle.table.specs.Rows.{from_one_to}
 use Rattle.table.specs.Tables.{table_read}
@@ -35,9 +33,6 @@ use Rattle.verdict.specs.Verdict.{RightOfRead, verdict_says}
 use Rattle.jobs.specs.Places.{no_job, jobs_of}
 use Rattle.jobs.proofs.Changes.{job_among_the_rest}
 use Rattle.run.specs.declared.Run.{Run}
-use Rattle.run.specs.declared.Released.{Released}
-use Rattle.run.specs.declared.Released.TheVariants as release
-use Rattle.run.specs.declared.StartAnswer.TheVariants as start
 use Rattle.run.specs.Runs.{start_answer, started}
 use Rattle.run.specs.Release.{released}
 use Rattle.run.specs.Ticking.{ticked}
@@ -49,8 +44,6 @@ use Rattle.script.proofs.Records.{number_or_14}
 use Rattle.script.proofs.Scripts.{record_is_spelled}
 use Rattle.logs.specs.SpelledLogs.{spelled_log}
 use Rattle.records.specs.declared.Ready.{Ready}
-use Rattle.records.specs.declared.Tested.{Tested}
-use Rattle.records.specs.declared.Tested.TheVariants as tested
 use Rattle.records.specs.Numbers.{numbers_at, refused_at, on_number, on_row, on_cost, tested_numbers}
 use Rattle.play.specs.Play.{Progress, begun, Step, goes_on, stops, after_release, ticked_to, after_tests, stepped}
 use Rattle.play.specs.Play.{Played, whole, stopped, final_ticks, and_then, played_from, played}
@@ -180,8 +173,8 @@ module _ {t : Table} (fits : EveryLengthFits (table_demand t)) where
 -- ---- where a record stops a replay
 
 -- The tests of a record answer ready, or a refusal that is no 10 outside the script.
-data TestedInside (end : ℕ) : Tested → Type 0 where
-  ready : (r : Ready) → TestedInside end (tested.Ready r)
+data TestedInside (end : ℕ) : Result Ready RefusedAt → Type 0 where
+  ready : (r : Ready) → TestedInside end (Ok r)
   refused : (r : Refusal) (place : ℕ) → (refusal_number r ≡ 10 → place < end) → TestedInside end (refused_at r place)
 
 -- A record goes on, or stops the replay with a refusal that is no 10 outside the script.
@@ -191,22 +184,22 @@ StepInside end (stops r) = Inside end r
 
 module _ {end : ℕ} where
   -- A number of a script that can't be read is refused with 14 and not with 10.
-  number_inside : (s : List ℕ) (at : ℕ) (k : Number → Tested) → ((n : Number) → TestedInside end (k n)) → TestedInside end (on_number (script_number s at) k)
+  number_inside : (s : List ℕ) (at : ℕ) (k : Number → Result Ready RefusedAt) → ((n : Number) → TestedInside end (k n)) → TestedInside end (on_number (script_number s at) k)
   number_inside s at k h = number_or_14 (λ v. TestedInside end (on_number v k)) s at h (λ place. refused ScriptMisspelled place (λ e. absurd (omega arith)))
 
   -- A row number that is not in use is refused with 6 and not with 10.
-  row_inside : (most : CostLimit) (place : ℕ) (then : Tested) → TestedInside end then → TestedInside end (on_row most place then)
-  row_inside (limit.Units most) place then h = h
-  row_inside limit.NoSuchRow place then h = refused NoSuchRow place (λ e. absurd (omega arith))
+  row_inside : (most : Option ℕ) (place : ℕ) (then : Result Ready RefusedAt) → TestedInside end then → TestedInside end (on_row most place then)
+  row_inside (Some most) place then h = h
+  row_inside None place then h = refused NoSuchRow place (λ e. absurd (omega arith))
 
   -- A cost that is 0 or above its limit is refused with 7 and not with 10.
-  cost_inside : (most : CostLimit) (cost place : ℕ) (then : Tested) → TestedInside end then → TestedInside end (on_cost (cost_answer most cost) place then)
-  cost_inside (limit.Units most) cost place then h =
+  cost_inside : (most : Option ℕ) (cost place : ℕ) (then : Result Ready RefusedAt) → TestedInside end then → TestedInside end (on_cost (cost_answer most cost) place then)
+  cost_inside (Some most) cost place then h =
       by_test (from_one_to most cost) (λ allowed. rw allowed h) (λ out. rw out (refused CostOutOfRange place (λ e. absurd (omega arith))))
-  cost_inside limit.NoSuchRow cost place then h = refused NoSuchRow place (λ e. absurd (omega arith))
+  cost_inside None cost place then h = refused NoSuchRow place (λ e. absurd (omega arith))
 
   -- A script time above 2^40 is refused at the place that is named, which is inside the script.
-  time_inside : (test : Bool) (then : Tested) (place : ℕ) → place < end → TestedInside end then → TestedInside end (cond test then (refused_at TimeTooLate place))
+  time_inside : (test : Bool) (then : Result Ready RefusedAt) (place : ℕ) → place < end → TestedInside end then → TestedInside end (cond test then (refused_at TimeTooLate place))
   time_inside true then place inside h = h
   time_inside false then place inside h = refused TimeTooLate place (λ e. inside)
 
@@ -223,12 +216,12 @@ module _ (s : List ℕ) (at : ℕ) (inside : at < length s) where
       cost_inside (limit_of (cost_limits t) row.value) cost.value n.cost.place _ (ready _)))
 
   -- A release of a replay is refused at the record's start, which is inside the script.
-  release_inside : (r : Ready) (p : Progress) (a : Released) → StepInside (length s) (after_release at r p a)
-  release_inside r p (release.Accepted a) = tt
-  release_inside r p (release.Refused refusal) = λ e. inside
+  release_inside : (r : Ready) (p : Progress) (a : Result Accepted Refusal) → StepInside (length s) (after_release at r p a)
+  release_inside r p (Ok a) = tt
+  release_inside r p (Err refusal) = λ e. inside
 
   -- A record that passes its tests stops the replay only by its release.
-  after_tests_inside : (p : Progress) {x : Tested} → TestedInside (length s) x → StepInside (length s) (after_tests at p x)
+  after_tests_inside : (p : Progress) {x : Result Ready RefusedAt} → TestedInside (length s) x → StepInside (length s) (after_tests at p x)
   after_tests_inside p (ready r) =
       let there = ticked_to r.time.0 p in
       release_inside r there (released there.so_far.run r.row.0 r.cost).answer
@@ -267,9 +260,9 @@ module _ {t : Table} (fits : EveryLengthFits (table_demand t)) (s : List ℕ) (b
 -- ---- the answer
 
 -- A run is started on every table that is found feasible.
-pub feasible_starts : (t : Table) (a : TableAnswer) (v : Verdict) → RightOfRead t a v → (verdict_says v).number ≡ 20 → start_answer a ≡ start.Ready
-feasible_starts t (table.Accepted period) v right says = refl
-feasible_starts t (table.Refused r) v right says = let refused_so = rw right at says in absurd (no_answer r.refusal (omega arith) (omega arith))
+pub feasible_starts : (t : Table) (a : Result ℕ RefusedAt) (v : Verdict) → RightOfRead t a v → (verdict_says v).number ≡ 20 → start_answer a ≡ Ok tt
+feasible_starts t (Ok period) v right says = refl
+feasible_starts t (Err r) v right says = let refused_so = rw right at says in absurd (no_answer r.refusal (omega arith) (omega arith))
 
 module _ (bytes script : List ℕ) (table : Bytes bytes) (fine : Bytes script) where
   -- On a feasible table every script is played in time.

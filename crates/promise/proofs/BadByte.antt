@@ -1,5 +1,7 @@
 -- Refusals point at the bad byte is proved: the table's refusals and the play's do, and the verdict, the replay and the host's calls hand them on.
 -- (docs/RULES.md, 2.10, 3.8, 7.6, 8.1 and 9.5.)
+use Rattle.std.specs.Prelude.{Result, Ok, Err}
+use Rattle.kinds.specs.declared.RefusedAt.{RefusedAt}
 use Prim.Native.Nat.{ℕ, ◌≤◌}
 use native.Mathlib.Omega.{arith}
 use mathlib.Core.Path.{◌≡◌, refl, sym, ap, subst, ◌∙◌}
@@ -10,8 +12,6 @@ use Rattle.kinds.specs.Numbering.{Said, refusal_at, refused_with}
 use Rattle.numbers.specs.BadByte.{FirstBadByte}
 use Rattle.theory.proofs.Cases.{by_eq, by_test}
 use Rattle.table.specs.declared.Table.{Table}
-use Rattle.table.specs.declared.TableAnswer.{TableAnswer}
-use Rattle.table.specs.declared.TableAnswer.TheVariants as answer
 use Rattle.table.specs.Tables.{table_read}
 use Rattle.table.specs.Answers.{table_says}
 use Rattle.table.proofs.BadBytes.{refused_at_the_first_bad_byte}
@@ -41,9 +41,9 @@ verdict_points table v b judged one = by_answer (table_read table).answer refl j
     of_accepted t (verdict.Overloaded o) right is = omega arith
     of_accepted t (verdict.Refused r) right is = right
 
-    by_answer : (a : TableAnswer) → (table_read table).answer ≡ a → RightOfRead (table_read table).table a v → FirstBadByte table (verdict_says v).first
-    by_answer (answer.Accepted period) e right = absurd (of_accepted (table_read table).table v right one)
-    by_answer (answer.Refused r) e right =
+    by_answer : (a : Result ℕ RefusedAt) → (table_read table).answer ≡ a → RightOfRead (table_read table).table a v → FirstBadByte table (verdict_says v).first
+    by_answer (Ok period) e right = absurd (of_accepted (table_read table).table v right one)
+    by_answer (Err r) e right =
         let is = rw right at one in
         rw right (refused_at_the_first_bad_byte table r.place b (ap table_says e ∙ ap (λ number. refused_with number r.place) is))
 

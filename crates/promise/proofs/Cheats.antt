@@ -1,4 +1,7 @@
 -- The cheats are shut out: the proofs.
+use Rattle.std.specs.Prelude.{Result, Ok, Err}
+use Rattle.kinds.specs.declared.Refusal.{Refusal}
+use Rattle.kinds.specs.declared.RefusedAt.{RefusedAt}
 use Prim.Native.Nat.{ℕ, ◌≤◌, ◌<◌}
 use mathlib.Core.Path.{◌≡◌, refl}
 use mathlib.Core.List.{flatten}
@@ -8,8 +11,6 @@ use Rattle.numbers.specs.Reading as reading
 use Rattle.numbers.specs.Spelling as spelling
 use Rattle.theory.specs.DueTimes.{due_time}
 use Rattle.table.specs.declared.Table.{Table}
-use Rattle.table.specs.declared.TableAnswer.{TableAnswer}
-use Rattle.table.specs.declared.TableAnswer.TheVariants as answer
 use Rattle.table.specs.Servers as servers
 use Rattle.table.specs.Tables.{table_read, read_rows}
 use Rattle.table.specs.Period.{first_multiple, least_common_multiple}
@@ -24,8 +25,6 @@ use Rattle.verdict.specs.Demand.{table_demand}
 use Rattle.verdict.specs.Verdict.{RightOfRead}
 use Rattle.verdict.proofs.Verdicts.{one_verdict}
 use Rattle.run.specs.declared.Accepted.{Accepted}
-use Rattle.run.specs.declared.Released.{Released}
-use Rattle.run.specs.declared.Released.TheVariants as release
 use Rattle.run.specs.Sound.{sound_of, job_fits, job_sound}
 use Rattle.run.specs.Release.{released}
 use Rattle.run.specs.Ticking.{ticked}
@@ -47,10 +46,10 @@ pub not_always_feasible : NotAlwaysFeasible
 not_always_feasible v judged = rw (one_verdict v8 v (verdict.Overloaded (record { length = 26; demand = 27 })) judged v8_is_overloaded)
 
 -- The witness of a right overloaded verdict has a length that fails, and the table's demand in it.
-witness_is_right : (t : Table) (a : TableAnswer) (w : Witness) → RightOfRead t a (verdict.Overloaded w)
+witness_is_right : (t : Table) (a : Result ℕ RefusedAt) (w : Witness) → RightOfRead t a (verdict.Overloaded w)
     → (1 ≤ w.length) × (w.length < w.demand) × (w.demand ≡ table_demand t w.length)
-witness_is_right t (answer.Accepted period) w right = (right.0.some_length, rw right.1 right.0.fails, right.1)
-witness_is_right t (answer.Refused r) w right = impossible cc
+witness_is_right t (Ok period) w right = (right.0.some_length, rw right.1 right.0.fails, right.1)
+witness_is_right t (Err r) w right = impossible cc
 
 pub no_blank_witness : NoBlankWitness
 no_blank_witness bytes v judged L units said =
@@ -72,9 +71,9 @@ unfolding
 not_always_idle = refl
 
 -- An answer that says accepted is an accepted release.
-says_accepted : (r : Released) (serial due : ℕ) → release_says r ≡ accepted serial due → (a : Accepted) × (r ≡ release.Accepted a)
-says_accepted (release.Accepted a) serial due said = (a, refl)
-says_accepted (release.Refused r) serial due said = impossible cc
+says_accepted : (r : Result Accepted Refusal) (serial due : ℕ) → release_says r ≡ accepted serial due → (a : Accepted) × (r ≡ Ok a)
+says_accepted (Ok a) serial due said = (a, refl)
+says_accepted (Err r) serial due said = impossible cc
 
 -- A tick is idle only where nothing is pending, and after an accepted release something is pending.
 pub not_idle_after_a_release : NotIdleAfterARelease

@@ -1,5 +1,7 @@
 -- The examples hold. A table's verdict is settled by a look at finitely many lengths, which is made by computing. The theory's bound says that these lengths
 -- are enough. Of S3 and S5, whose periods are long, the demand is worked out for every length instead.
+use Rattle.std.specs.Prelude.{Result, Ok}
+use Rattle.kinds.specs.declared.RefusedAt.{RefusedAt}
 use Prim.Native.Nat.{ℕ, zero, suc, ◌+◌, ◌*◌, ◌≤◌, ◌<◌}
 use mathlib.Core.Path.{◌≡◌, refl, sym, ap, subst, ◌∙◌}
 use mathlib.Core.Bool.{Bool, true, ◌&&◌}
@@ -21,8 +23,6 @@ use Rattle.theory.proofs.Cases.{by_lt}
 use Rattle.theory.proofs.Curves.{settled_within_a_period}
 use Rattle.table.specs.declared.Row.{Row}
 use Rattle.table.specs.declared.Table.{Table}
-use Rattle.table.specs.declared.TableAnswer.{TableAnswer}
-use Rattle.table.specs.declared.TableAnswer.TheVariants as answer
 use Rattle.table.specs.Limits.{max_x, max_y, max_d, max_c}
 use Rattle.table.specs.Rows.{from_one_to, row_in_range}
 use Rattle.table.proofs.Ranges.{both_true, in_range_of}
@@ -30,7 +30,6 @@ use Rattle.table.specs.Tables.{table_read, read_rows}
 use Rattle.table.specs.Servers as servers
 use Rattle.table.specs.Period.{first_multiple, least_common_multiple}
 use Rattle.due.specs.declared.Kept.{Kept}
-use Rattle.due.specs.declared.Due.TheVariants as due
 use Rattle.due.specs.Kept.{nothing_kept, due_of, kept_with}
 use Rattle.due.specs.OddJobs.{odd_due_of}
 use Rattle.due.specs.KeptTimes.{KeepsNewest}
@@ -74,10 +73,10 @@ looked f (suc n) h L some most =
 -- ---- verdicts by a look
 
 -- A verdict that is right for an accepted table is right for the bytes.
-accepted_right : (t : Table) (a : TableAnswer) (period : ℕ) (v : Verdict) → a ≡ answer.Accepted period → RightOf t v → RightOfRead t a v
+accepted_right : (t : Table) (a : Result ℕ RefusedAt) (period : ℕ) (v : Verdict) → a ≡ Ok period → RightOf t v → RightOfRead t a v
 accepted_right t a period v accepted right = rw accepted right
 
-module _ (s : List ℕ) (period : ℕ) (accepted : (table_read s).answer ≡ answer.Accepted period) where
+module _ (s : List ℕ) (period : ℕ) (accepted : (table_read s).answer ≡ Ok period) where
   -- A table is feasible where every length fits.
   feasible_where_all_fit : EveryLengthFits (table_demand (table_read s).table) → RightVerdictSays s feasible
   feasible_where_all_fit fits =
@@ -93,7 +92,7 @@ module _ (s : List ℕ) (period : ℕ) (accepted : (table_read s).answer ≡ ans
     refl,
   )
 
-module _ (s : List ℕ) (period : ℕ) (bytes : all_bytes s ≡ true) (accepted : (table_read s).answer ≡ answer.Accepted period) where
+module _ (s : List ℕ) (period : ℕ) (bytes : all_bytes s ≡ true) (accepted : (table_read s).answer ≡ Ok period) where
   -- A table is feasible where its demand grows by at most the period in a period, and every length up to period + largest d fits.
   pub feasible_by_look : leb (table_growth (table_read s).table period) period ≡ true
       → looks (table_demand (table_read s).table) (period + largest_d (table_read s).table) ≡ true → RightVerdictSays s feasible
@@ -128,7 +127,7 @@ by_the_rule r in_range k history [] keeps fits = refl
 by_the_rule r in_range k history (t ∷ ts) keeps fits =
     let D : ℕ = due_time r.x r.y r.d history t in
     let both = both_true (leb D max_time) (none_late (ruled r.x r.y r.d (D ∷ history) ts)) fits in
-    let given : due_of k r t r.c ≡ due.At (record { 0 = D }) = (due_given k r t r.c (record { 0 = D })).1 (record {
+    let given : due_of k r t r.c ≡ Ok (record { 0 = D }) = (due_given k r t r.c (record { 0 = D })).1 (record {
       row_is_in_range = in_range;
       by_rule = due_is_the_papers k r history t in_range keeps;
       in_time = leb-true D max_time both.0;

@@ -1,5 +1,7 @@
 -- Hopeless rows are refused is proved: the table's reader refuses them with 16, and the verdict, a start, a replay and the host's calls hand the refusal on.
 -- (docs/RULES.md, 3.3, 6.4, 6.21, 8.1 and 9.5.)
+use Rattle.std.specs.Prelude.{Result, Ok, Err}
+use Rattle.kinds.specs.declared.RefusedAt.{RefusedAt}
 use Prim.Native.Nat.{ℕ, ◌≤◌, ◌<◌}
 use native.Mathlib.Decide.{dec_le}
 use native.Mathlib.Omega.{arith}
@@ -17,8 +19,6 @@ use Rattle.numbers.specs.Spelling.{spelling}
 use Rattle.theory.proofs.Cases.{by_eq, by_test}
 use Rattle.table.specs.declared.Row.{Row}
 use Rattle.table.specs.declared.Table.{Table}
-use Rattle.table.specs.declared.TableAnswer.{TableAnswer}
-use Rattle.table.specs.declared.TableAnswer.TheVariants as answer
 use Rattle.table.specs.Tables.{table_read}
 use Rattle.table.specs.Answers.{table_says}
 use Rattle.table.specs.SpelledTables.{WithinLimits, AcceptableRow, spelled_row, spelled_servers, spelled_table}
@@ -55,16 +55,16 @@ use Rattle.promise.specs.HopelessRows.{HopelessRunIsRefused, VerdictCallHopeless
 -- ---- the verdict and a start
 
 -- What a right verdict says of a table that is refused is what the table's answer says.
-verdict_hands_on : (t : Table) (a : TableAnswer) (v : Verdict) (place : ℕ) → RightOfRead t a v
+verdict_hands_on : (t : Table) (a : Result ℕ RefusedAt) (v : Verdict) (place : ℕ) → RightOfRead t a v
     → ((verdict_says v ≡ refusal_at 16 place) → table_says a ≡ refused_with 16 place)
     × ((table_says a ≡ refused_with 16 place) → verdict_says v ≡ refusal_at 16 place)
-verdict_hands_on t (answer.Accepted period) v place right = (λ e. absurd (of_accepted v right (ap (λ (s : Said). s.number) e)), λ e. impossible cc)
+verdict_hands_on t (Ok period) v place right = (λ e. absurd (of_accepted v right (ap (λ (s : Said). s.number) e)), λ e. impossible cc)
   where
     of_accepted : (w : Verdict) → RightOf t w → (verdict_says w).number ≡ 16 → ⊥
     of_accepted verdict.Feasible right is = omega arith
     of_accepted (verdict.Overloaded o) right is = omega arith
     of_accepted (verdict.Refused r) right is = right
-verdict_hands_on t (answer.Refused r) v place right =
+verdict_hands_on t (Err r) v place right =
     rw right ((λ e. ap numbered e), λ e. cc)
 
 pub verdict_says_hopeless : VerdictSaysHopeless
@@ -74,11 +74,11 @@ verdict_says_hopeless table v place b judged =
     (λ e. exactly.0 (hands_on.0 e), λ p. hands_on.1 (exactly.1 p))
 
 -- A start says of a table that is refused what the table's answer says.
-start_hands_on : (a : TableAnswer) (place : ℕ)
+start_hands_on : (a : Result ℕ RefusedAt) (place : ℕ)
     → ((start_says (start_answer a) ≡ refused_with 16 place) → table_says a ≡ refused_with 16 place)
     × ((table_says a ≡ refused_with 16 place) → start_says (start_answer a) ≡ refused_with 16 place)
-start_hands_on (answer.Accepted period) place = (λ e. impossible cc, λ e. impossible cc)
-start_hands_on (answer.Refused r) place = (λ e. e, λ e. e)
+start_hands_on (Ok period) place = (λ e. impossible cc, λ e. impossible cc)
+start_hands_on (Err r) place = (λ e. e, λ e. e)
 
 pub start_says_hopeless : StartSaysHopeless
 start_says_hopeless table place b =
@@ -217,9 +217,9 @@ hopeless_is_refused content more good few within r m above =
 pub no_hopeless_row_is_judged : NoHopelessRowIsJudged
 no_hopeless_row_is_judged table v b judged is r m = by_answer (table_read table).answer refl judged
   where
-    by_answer : (a : TableAnswer) → (table_read table).answer ≡ a → RightOfRead (table_read table).table a v → r.c ≤ r.d
-    by_answer (answer.Accepted period) e right = (accepted_is_usable table period b e).c_within_d r m
-    by_answer (answer.Refused q) e right = absurd (⊎_elim
+    by_answer : (a : Result ℕ RefusedAt) → (table_read table).answer ≡ a → RightOfRead (table_read table).table a v → r.c ≤ r.d
+    by_answer (Ok period) e right = (accepted_is_usable table period b e).c_within_d r m
+    by_answer (Err q) e right = absurd (⊎_elim
         (λ twenty. no_answer q.refusal (omega (arith, number_of right twenty)) (omega (arith, number_of right twenty)))
         (λ one_more. no_answer q.refusal (omega (arith, number_of right one_more)) (omega (arith, number_of right one_more)))
         is)

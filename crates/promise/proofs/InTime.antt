@@ -3,6 +3,8 @@
 -- theory in which the earliest due job goes first and no free tick idles while a job waits. So the theory's theorem applies: a job that is due has had
 -- its cost, or left early and so was ended. An ended job has had what the end answered, at every later point too. Beside these stand the clock, which comes to
 -- every due time, and the due times, which are all at 2^40 or before. (5.3, 5.4, 6.26, 6.27, 6.29)
+use Rattle.std.specs.Prelude.{Result, Ok, Err}
+use Rattle.kinds.specs.declared.RefusedAt.{RefusedAt}
 use Prim.Native.Nat.{ℕ, suc, ◌+◌, ◌≤◌, ◌<◌, min}
 use mathlib.Core.Path.{◌≡◌, refl, sym, ◌∙◌}
 use mathlib.Core.Logic.{⊎_elim}
@@ -31,8 +33,6 @@ use Rattle.theory.proofs.EarliestDue.{trace_is_in_time as in_time_by_the_theory}
 use Rattle.theory.proofs.Servers.{odd_due_after_release}
 use Rattle.theory.proofs.Sources.{sum_of_sources}
 use Rattle.table.specs.declared.Table.{Table}
-use Rattle.table.specs.declared.TableAnswer.{TableAnswer}
-use Rattle.table.specs.declared.TableAnswer.TheVariants as answer
 use Rattle.table.specs.Tables.{no_row, table_read}
 use Rattle.verdict.specs.declared.Verdict.{Verdict}
 use Rattle.verdict.specs.declared.Verdict.TheVariants as verdict
@@ -62,11 +62,11 @@ use Rattle.promise.proofs.Share.{own_member, server_good, no_demand_at_zero, sou
 -- ---- a feasible table
 
 -- Only the verdict feasible has the number 20, and it is right only where every length fits.
-right_and_feasible : (t : Table) (a : TableAnswer) (v : Verdict) → RightOfRead t a v → (verdict_says v).number ≡ 20 → EveryLengthFits (table_demand t)
-right_and_feasible t (answer.Accepted period) verdict.Feasible right says = right
-right_and_feasible t (answer.Accepted period) (verdict.Overloaded w) right says = absurd (omega arith)
-right_and_feasible t (answer.Accepted period) (verdict.Refused r) right says = absurd right
-right_and_feasible t (answer.Refused r) v right says =
+right_and_feasible : (t : Table) (a : Result ℕ RefusedAt) (v : Verdict) → RightOfRead t a v → (verdict_says v).number ≡ 20 → EveryLengthFits (table_demand t)
+right_and_feasible t (Ok period) verdict.Feasible right says = right
+right_and_feasible t (Ok period) (verdict.Overloaded w) right says = absurd (omega arith)
+right_and_feasible t (Ok period) (verdict.Refused r) right says = absurd right
+right_and_feasible t (Err r) v right says =
     let refused = rw right at says in
     ⊎_elim (λ h. absurd (omega arith)) (λ h. absurd (omega arith)) (never_an_answer r.refusal)
 

@@ -2,6 +2,8 @@
 -- it. A call with an answer buffer of 16 bytes returns another status than 13, and says two numbers that fit eight bytes each. So the program reads the event
 -- of that call. A call with another answer buffer returns 13 and leaves the run alone. The promises about what the program reads are then those about the
 -- trace. (9.9 to 9.15)
+use Rattle.std.specs.Prelude.{Result, Ok, Err}
+use Rattle.kinds.specs.declared.RefusedAt.{RefusedAt}
 use Prim.Native.Nat.{ℕ, ◌+◌, ◌^◌, ◌≤◌, ◌<◌}
 use mathlib.Core.Path.{◌≡◌, refl, sym, ap, ap₂, subst, ◌∙◌}
 use mathlib.Core.Logic.{◌↔◌, ◌⊎◌, inl, inr, ◌≢◌}
@@ -17,8 +19,6 @@ use Rattle.words.specs.Words.{word_length, lowest_first, from_lowest_first}
 use Rattle.words.proofs.Storing.{length-lowest_first, word_reads_back}
 use Rattle.theory.proofs.Cases.{by_lt, by_eq, by_test}
 use Rattle.table.specs.declared.Table.{Table}
-use Rattle.table.specs.declared.TableAnswer.{TableAnswer}
-use Rattle.table.specs.declared.TableAnswer.TheVariants as read
 use Rattle.table.specs.Limits.{max_c}
 use Rattle.table.specs.Rows.{from_one_to}
 use Rattle.table.specs.Tables.{table_read}
@@ -385,11 +385,11 @@ live_13_exactly memory table fine calls c size =
     )
 
 -- What a start says of what was read, by a verdict that is right for it.
-start_by_verdict_lem : (t : Table) (a : TableAnswer) (v : Verdict) → RightOfRead t a v → start_said (start_answer a) ≡ start_by_verdict v
-start_by_verdict_lem t (read.Accepted period) verdict.Feasible right = refl
-start_by_verdict_lem t (read.Accepted period) (verdict.Overloaded w) right = refl
-start_by_verdict_lem t (read.Accepted period) (verdict.Refused r) right = absurd right
-start_by_verdict_lem t (read.Refused r) v right = ap start_by_verdict (sym right)
+start_by_verdict_lem : (t : Table) (a : Result ℕ RefusedAt) (v : Verdict) → RightOfRead t a v → start_said (start_answer a) ≡ start_by_verdict v
+start_by_verdict_lem t (Ok period) verdict.Feasible right = refl
+start_by_verdict_lem t (Ok period) (verdict.Overloaded w) right = refl
+start_by_verdict_lem t (Ok period) (verdict.Refused r) right = absurd right
+start_by_verdict_lem t (Err r) v right = ap start_by_verdict (sym right)
 
 -- A start says by the verdict whether the table is accepted, and else its refusal.
 pub live_starts_by_the_verdict : LiveStartsByTheVerdict

@@ -1,6 +1,7 @@
 -- The jobs that a length names are the theory's jobs that are all released at zero: the definitions that a release uses give the jobs of rows the same due
 -- times, and the odd jobs are the theory's own. So they are as many as 5.10 and 5.17 count, they are due by the rules and within the length, and they cost the
 -- demand of the sources. (5.10, 5.17)
+use Rattle.std.specs.Prelude.{Ok}
 use Prim.Native.Nat.{ℕ, zero, suc, ◌+◌, ◌-◌, ◌≤◌, ◌<◌}
 use mathlib.Core.Path.{◌≡◌, refl, sym, ap, ap₂, subst, ◌∙◌}
 use mathlib.Core.Logic.{◌≢◌}
@@ -31,7 +32,6 @@ use Rattle.table.specs.Tables.{InRange, table_read}
 use Rattle.table.specs.SpelledTables.{WithinLimits}
 use Rattle.table.proofs.Ranges.{in_range_of}
 use Rattle.table.proofs.Tables.{read_in_range}
-use Rattle.due.specs.declared.Due.TheVariants as due
 use Rattle.due.specs.Kept.{due_of}
 use Rattle.due.specs.KeptTimes.{KeepsNewest}
 use Rattle.due.proofs.NewestKept.{due_given, keeps_on_keeping, due_is_the_papers, starts_empty}
@@ -52,7 +52,7 @@ module _ (r : Row) (within : WithinLimits r) (L : ℕ) (not_too_late : L ≤ max
 
   -- Where the kept due times are the newest of the theory's jobs, a release of the next job gives it the theory's due time.
   same_due : (source first n : ℕ) → KeepsNewest (kept_after r n) r.x (dues (of_theory source first n)) → suc n ≤ row_jobs r.x r.y r.d L
-      → due_of (kept_after r n) r 0 r.c ≡ due.At (record { 0 = due_time r.x r.y r.d (dues (of_theory source first n)) 0 })
+      → due_of (kept_after r n) r 0 r.c ≡ Ok (record { 0 = due_time r.x r.y r.d (dues (of_theory source first n)) 0 })
   unfolding all_at_zero
   same_due source first n keeps named =
       let in_range = in_range_of r within in

@@ -1,5 +1,7 @@
 -- No order: the proof. The jobs that a witness of length L names are due by L and cost more than the ticks that the timer leaves free before L, so no
 -- assignment serves them. (5.11)
+use Rattle.std.specs.Prelude.{Result, Ok, Err}
+use Rattle.kinds.specs.declared.RefusedAt.{RefusedAt}
 use Prim.Native.Nat.{ℕ, zero, suc, ◌+◌, ◌≤◌}
 use mathlib.Core.Path.{◌≡◌, refl, ap}
 use mathlib.Core.Logic.{⊎_elim}
@@ -21,8 +23,6 @@ use Rattle.theory.proofs.Curves.{decided, one_smallest_failing, none_where_every
 use Rattle.theory.proofs.Timers.{timer_takes_from_zero}
 use Rattle.theory.proofs.Schedules.{overload_of_sources}
 use Rattle.table.specs.declared.Table.{Table}
-use Rattle.table.specs.declared.TableAnswer.{TableAnswer}
-use Rattle.table.specs.declared.TableAnswer.TheVariants as answer
 use Rattle.table.specs.Tables.{table_read}
 use Rattle.verdict.specs.declared.Witness.{Witness}
 use Rattle.verdict.specs.declared.Verdict.{Verdict}
@@ -95,15 +95,15 @@ pub says_overloaded : (v : Verdict) (L demand : ℕ) → verdict_says v ≡ reco
 says_overloaded v L demand said = verdicts_said_apart v (verdict.Overloaded (record { length = L; demand = demand })) said
 
 -- An overloaded verdict is right only for an accepted table, where its length is the smallest that fails.
-overloaded_is_right : (t : Table) (a : TableAnswer) (w : Witness) → RightOfRead t a (verdict.Overloaded w)
-    → (period : ℕ) × (a ≡ answer.Accepted period) × SmallestFailing (table_demand t) w.length
-overloaded_is_right t (answer.Accepted period) w right = (period, refl, right.0)
-overloaded_is_right t (answer.Refused r) w right = impossible cc
+overloaded_is_right : (t : Table) (a : Result ℕ RefusedAt) (w : Witness) → RightOfRead t a (verdict.Overloaded w)
+    → (period : ℕ) × (a ≡ Ok period) × SmallestFailing (table_demand t) w.length
+overloaded_is_right t (Ok period) w right = (period, refl, right.0)
+overloaded_is_right t (Err r) w right = impossible cc
 
 module _ (bytes : List ℕ) (fine : Bytes bytes) (v : Verdict) (judged : Judged bytes v) (L demand : ℕ)
     (said : verdict_says v ≡ record { number = 21; first = L; second = demand }) where
   -- The bytes that were judged are an accepted table, and L is the smallest length that fails.
-  witness : (period : ℕ) × ((table_read bytes).answer ≡ answer.Accepted period) × SmallestFailing (table_demand (table_read bytes).table) L
+  witness : (period : ℕ) × ((table_read bytes).answer ≡ Ok period) × SmallestFailing (table_demand (table_read bytes).table) L
   witness =
       overloaded_is_right (table_read bytes).table (table_read bytes).answer (record { length = L; demand = demand })
       (rw (says_overloaded v L demand said) at judged)

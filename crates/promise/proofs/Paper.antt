@@ -1,5 +1,6 @@
 -- The verdict is the paper's Theorem 4.2, since the demand of the rows is the sum of the expressions of Lemma 4.1, and the table's demand adds the servers'
 -- demand and the ticks that the timer takes. (5.2 to 5.4)
+use Rattle.std.specs.Prelude.{Ok}
 use Prim.Native.Nat.{ℕ, ◌+◌}
 use mathlib.Core.Path.{◌≡◌, refl, ap₂}
 use mathlib.Core.Logic.{◌↔◌}
@@ -11,7 +12,6 @@ use Rattle.theory.specs.Paper.{paper_demand}
 use Rattle.theory.proofs.Paper.{demand_is_lemma41}
 use Rattle.theory.proofs.Curves.{one_smallest_failing, none_where_every_length_fits}
 use Rattle.table.specs.declared.Row.{Row}
-use Rattle.table.specs.declared.TableAnswer.TheVariants as answer
 use Rattle.table.specs.Tables.{rows_of, table_read}
 use Rattle.table.specs.SpelledTables.{WithinLimits}
 use Rattle.table.proofs.Answers.{tables_said_apart}
@@ -55,7 +55,7 @@ pub feasible_is_theorem42 : FeasibleIsTheorem42
 unfolding table_demand
 feasible_is_theorem42 bytes b h says v judged =
     let t = (table_read bytes).table in
-    let accepted = tables_said_apart (table_read bytes).answer (answer.Accepted h) says in
+    let accepted = tables_said_apart (table_read bytes).answer (Ok h) says in
     let within : All WithinLimits (rows_of t) = rows_within (accepted_is_known bytes h b accepted).in_range t.count (omega arith) in
     let means = feasible_means (table_demand t) v (rw accepted at judged) in (
       (λ said L some. rw (← demand_is_the_papers (rows_of t) L within) (means.0 said L some)),

@@ -2,6 +2,7 @@
 -- the run was started on. As many jobs are pending as are unfinished. The next serial is the number of accepted jobs. The due time over what the run keeps of
 -- due times is the one by the rules over all accepted jobs of the row or server. A pending job has a serial exactly where the accepted job with that serial is
 -- unfinished, and its units given are those that the ticks gave. The run counts as many ended jobs as the trace. (6.8, 6.16, 6.18, 6.27, 6.30)
+use Rattle.std.specs.Prelude.{Ok, Err}
 use Prim.Native.Nat.{ℕ, ◌+◌, ◌-◌, ◌≤◌, ◌<◌}
 use mathlib.Core.Path.{◌≡◌, refl, ap, subst, ◌∙◌}
 use mathlib.Core.Logic.{◌↔◌}
@@ -21,7 +22,6 @@ use Rattle.theory.specs.Sources.{own}
 use Rattle.theory.proofs.Cases.{by_lt, by_test}
 use Rattle.theory.proofs.Lists.{all_at}
 use Rattle.table.specs.declared.Table.{Table}
-use Rattle.table.specs.declared.CostAnswer.TheVariants as cost_case
 use Rattle.table.specs.Costs.{cost_limits, limit_of, cost_answer}
 use Rattle.table.specs.Limits.{max_c}
 use Rattle.table.specs.Rows.{from_one_to, row_in_range}
@@ -72,8 +72,8 @@ total_of_ones (a ∷ l) = omega (arith, total_of_ones l)
 one_test : (run : Run) (row cost : ℕ) → sound_of run ≡ true → Whole run
     → cost_answer (limit_of (cost_limits run.table) row) cost
     ≡ cond (row_in_use run.table row)
-    (cond (from_one_to (cost_limit run.table row) cost) cost_case.Allowed (cost_case.Refused CostOutOfRange))
-    (cost_case.Refused NoSuchRow)
+    (cond (from_one_to (cost_limit run.table row) cost) (Ok tt) (Err CostOutOfRange))
+    (Err NoSuchRow)
 one_test run row cost sound whole = one_test_means run.table (bounded run sound).few_rows whole.all_rows row cost
 
 -- A release of a row number in use, on a sound run, is answered by these tests in their order, where `at` is the due time of the row number's next job.

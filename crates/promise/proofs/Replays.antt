@@ -1,5 +1,6 @@
 -- A replay is a trace: the proof. Each tick and each release of a replay is one more call of the trace, and the call's answer tells what it adds to the
 -- replay. A replay has no ends. (8.2, 8.3)
+use Rattle.std.specs.Prelude.{Ok}
 use Prim.Native.Nat.{ℕ, zero, suc, ◌+◌, ◌-◌, ◌≤◌, ◌<◌}
 use mathlib.Core.Path.{◌≡◌, refl, sym, ap, subst, ◌∙◌}
 use mathlib.Core.Logic.{◌≢◌}
@@ -22,7 +23,6 @@ use Rattle.jobs.specs.Units.{last_unit}
 use Rattle.jobs.specs.Turns.{first_job}
 use Rattle.run.specs.declared.Run.{Run}
 use Rattle.run.specs.declared.Accepted.{Accepted}
-use Rattle.run.specs.declared.Released.TheVariants as release
 use Rattle.run.specs.Release.{new_job, released}
 use Rattle.run.specs.Ticking.{ticked}
 use Rattle.run.specs.ManyTicks.{SoFar, finished_by, one_more_tick, ticks, ticks_while_pending}
@@ -96,12 +96,12 @@ unfolding told
 release_finishes row cost (accepted serial due) es = refl
 release_finishes row cost (says.ReleaseSays.refused number place) es = refl
 
-module _ {t : Table} {run : Run} {es : List Event} (b : Bridge t run es) (row cost : ℕ) (a : Accepted) (e : (released run row cost).answer ≡ release.Accepted a) where
+module _ {t : Table} {run : Run} {es : List Event} (b : Bridge t run es) (row cost : ℕ) (a : Accepted) (e : (released run row cost).answer ≡ Ok a) where
   -- An accepted release tells about its job.
   job_told : jobs_of_trace (event_of run (Call.release row cost) ∷ es) ≡ job_of (new_job run row cost a.due) ∷ jobs_of_trace es
   unfolding told
   job_told = each_release run row cost
-      (λ step. step.answer ≡ release.Accepted a
+      (λ step. step.answer ≡ Ok a
       → jobs_of_trace (Event.release row cost (release_says step.answer) ∷ es) ≡ job_of (new_job run row cost a.due) ∷ jobs_of_trace es)
       (λ r q. impossible cc)
       (λ due passed given q. let same : due ≡ a.due = cc in rw (same, b.same_clock))
@@ -179,14 +179,14 @@ module _ (t : List ℕ) (fine : Bytes t) where
         }
 
     -- After an accepted release a replay is what the longer trace tells.
-    after_a_release : (row cost : ℕ) (a : Accepted) → (released s.run row cost).answer ≡ release.Accepted a
+    after_a_release : (row cost : ℕ) (a : Accepted) → (released s.run row cost).answer ≡ Ok a
         → Traced t (Call.release row cost ∷ calls) (release_more (record { so_far = s; accepted = jobs }) row cost a.due)
     unfolding run_at trace
     after_a_release row cost a e =
         let b = bridge t fine calls in
         let run = run_at t calls in
         let same = so_far.run_there in
-        let answered : (released run row cost).answer ≡ release.Accepted a = rw same at e in
+        let answered : (released run row cost).answer ≡ Ok a = rw same at e in
         let says = release_says (released run row cost).answer in
         record {
           run_there = rw same;

@@ -1,5 +1,6 @@
 -- The bridge holds at every point of every trace: at the fresh run that is started on a table's bytes, and after each release, each tick and each end,
 -- refused ones included. (6.25)
+use Rattle.std.specs.Prelude.{Ok}
 use Prim.Native.Nat.{ℕ, ◌+◌, ◌-◌, ◌≤◌, ◌<◌}
 use mathlib.Core.Path.{◌≡◌, refl, ap, subst}
 use mathlib.Core.Bool.{true, false}
@@ -30,7 +31,6 @@ use Rattle.jobs.specs.JobChanges.{IsFirst, WellFormed}
 use Rattle.jobs.proofs.Changes.{choice_is_first, place_holds_job, put_adds_one, after_a_unit, taken_out_is_without}
 use Rattle.run.specs.declared.Run.{Run}
 use Rattle.run.specs.declared.Accepted.{Accepted}
-use Rattle.run.specs.declared.Released.TheVariants as answer
 use Rattle.run.specs.Runs.{row_at, server_at, started}
 use Rattle.run.specs.Release.{new_job, with_job, released}
 use Rattle.run.specs.Ticking.{run_with, is_taken, taken_tick, idle_tick, busy_tick, ticked}
@@ -149,7 +149,7 @@ module _ {t : Table} {run : Run} {es : List Event} (b : Bridge t run es) where
   release_keeps_bridge row cost =
       each_release run row cost
       (λ step. Good step.run
-      → ((a : Accepted) → step.answer ≡ answer.Accepted a → GaveDue run (dues_of (jobs_of_trace es)) row cost a.due.0 step.run)
+      → ((a : Accepted) → step.answer ≡ Ok a → GaveDue run (dues_of (jobs_of_trace es)) row cost a.due.0 step.run)
       → Bridge t step.run (Event.release row cost (release_says step.answer) ∷ es))
       (λ r still gave. refused_release_keeps row cost (refusal_number r) 0)
       (λ due p given still gave. accepted_keeps p due still (gave (record { serial = run.next; due = due }) refl))

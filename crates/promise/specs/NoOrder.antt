@@ -2,7 +2,8 @@
 -- released at zero and at full cost, and of each server one odd job of cost floor(a · L / b), where that is not 0, released at zero. It names them all, however
 -- many places they would need in a run, and however far above 4,096 the cost of an odd job is. They can't be run in time in any order by anybody: whoever tries
 -- has only the ticks that the timer leaves free, counted from zero. (1.20, 5.10, 5.11, 5.17)
-use Rattle.std.specs.Prelude.{ℕ, zero, suc, ◌+◌, ◌≤◌, ◌<◌, ◌≡◌, ◌↔◌, Bool, false, cond, eqb, length}
+use Rattle.kinds.specs.declared.Refusal.{Refusal}
+use Rattle.std.specs.Prelude.{ℕ, zero, suc, ◌+◌, ◌≤◌, ◌<◌, ◌≡◌, ◌↔◌, Bool, false, cond, eqb, length, Result, Ok, Err}
 use Rattle.std.proofs.Math.Option.{Option, some}
 use mathlib.Core.List.{List, [], ◌∷◌, flatten}
 use Rattle.kinds.specs.Numbering.{max_time}
@@ -19,8 +20,6 @@ use Rattle.table.specs.declared.Server.{Server}
 use Rattle.table.specs.declared.Table.{Table}
 use Rattle.table.specs.Tables.{table_read}
 use Rattle.due.specs.declared.Kept.{Kept}
-use Rattle.due.specs.declared.Due.{Due}
-use Rattle.due.specs.declared.Due.TheVariants as due
 use Rattle.due.specs.Kept.{nothing_kept, due_of, kept_with}
 use Rattle.verdict.specs.declared.Verdict.{Verdict}
 use Rattle.verdict.specs.Demand.{server_demand_of}
@@ -32,9 +31,9 @@ use Rattle.promise.specs.Link.{taken_on}
 
 -- `due_at` is a due time as a number, where a time above 2^40 stands for a refused one. No job that a witness names has such a due time: page NamedJobs proves
 -- that.
-abbrev pub due_at : Due → Tick
-due_at (due.At t) = t
-due_at (due.Refused r) = record { 0 = suc max_time }
+abbrev pub due_at : Result Tick Refusal → Tick
+due_at (Ok t) = t
+due_at (Err r) = record { 0 = suc max_time }
 
 -- `kept_after` is the due times kept for a row after n of its jobs were released at zero and at full cost, by the definitions that a release uses. (4.6)
 unfoldable pub kept_after : Row → (n : ℕ) → Kept

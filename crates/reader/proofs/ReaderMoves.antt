@@ -1,4 +1,5 @@
 -- The laws of the script reader: one step goes by what was found, and many steps go by the records that stand from a place on. (docs/RULES.md, 7.7.)
+use Rattle.std.specs.Prelude.{Some, None, Ok}
 use Prim.Native.Nat.{ℕ, zero, suc, ◌+◌, ◌≤◌}
 use native.Mathlib.Omega.{arith}
 use mathlib.Core.Path.{◌≡◌, refl, sym, ap, ◌∙◌}
@@ -7,7 +8,6 @@ use mathlib.Core.List.{List, [], ◌∷◌, ◌++◌, flatten, append_assoc, app
 use lib.ListN.{length, length-append}
 use Rattle.script.specs.declared.Record.{Record}
 use Rattle.script.specs.declared.RecordAt.{RecordAt}
-use Rattle.script.specs.declared.RecordRead.TheVariants as read
 use Rattle.script.specs.SpelledScripts.{spelled_record, spelled_script, AllCanBeSpelled}
 use Rattle.script.specs.Answers.{record_says}
 use Rattle.script.proofs.Scripts.{record_reads_back, record_is_spelled, end_is_the_length}
@@ -22,15 +22,15 @@ use Rattle.reader.specs.ReaderLaws.{StandsAfterTheFirst, FindsTheNext, EndsAfter
 
 pub moves_past_a_record : MovesPastARecord
 moves_past_a_record reader found b said =
-    let e = scripts_said_apart.0 (found_by reader) (read.Record found) said in
+    let e = scripts_said_apart.0 (found_by reader) (Ok (Some found)) said in
     rw (e, (record_is_spelled reader.script.now reader.at found b e).ends)
 
 -- Where the end is found, the script reader keeps its place.
-stays_there : (reader : ScriptReader) → found_by reader ≡ read.End → moved reader ≡ reader
+stays_there : (reader : ScriptReader) → found_by reader ≡ Ok None → moved reader ≡ reader
 stays_there reader e = rw e
 
 pub stays_at_the_end : StaysAtTheEnd
-stays_at_the_end reader said = stays_there reader (scripts_said_apart.0 (found_by reader) read.End said)
+stays_at_the_end reader said = stays_there reader (scripts_said_apart.0 (found_by reader) (Ok None) said)
 
 pub stays_on_a_refusal : StaysOnARefusal
 stays_on_a_refusal reader said e = refused_record (found_by reader) said e λ r is says. rw is
@@ -48,7 +48,7 @@ unfolding moved_times flatten
 past_records reader front [] rest all holds here = ap (placed reader) (omega arith)
 past_records reader front (r ∷ rs) rest all holds here =
     let one = spelled_record r in
-    let found : found_by reader ≡ read.Record (record { release = r; next = length front + length one }) =
+    let found : found_by reader ≡ Ok (Some (record { release = r; next = length front + length one })) =
     rw (holds, here, append_assoc one (spelled_script rs) rest) (record_reads_back front r (spelled_script rs ++ rest) (all r (Memᴰ.head refl))) in
     let next : moved reader ≡ placed reader (length front + length one) = rw found in
     let behind : reader.script.now ≡ (front ++ one) ++ (spelled_script rs ++ rest) =
@@ -64,18 +64,18 @@ stands_after_the_first reader first rest all start =
 pub finds_the_next : FindsTheNext
 finds_the_next reader first r rest all can start =
     let here : RecordAt = record { release = r; next = length (spelled_script first) + length (spelled_record r) } in
-    let found : found_by (moved_times (length first) reader) ≡ read.Record here =
+    let found : found_by (moved_times (length first) reader) ≡ Ok (Some here) =
     rw (stands_after_the_first reader first (spelled_record r ++ rest) all start, start.holds) (record_reads_back (spelled_script first) r rest can) in
     ap record_says found
 
 -- At the end more steps change nothing.
-stays_for_good : (n : ℕ) (reader : ScriptReader) → found_by reader ≡ read.End → moved_times n reader ≡ reader
+stays_for_good : (n : ℕ) (reader : ScriptReader) → found_by reader ≡ Ok None → moved_times n reader ≡ reader
 unfolding moved_times
 stays_for_good zero reader e = refl
 stays_for_good (suc n) reader e = ap (moved_times n) (stays_there reader e) ∙ stays_for_good n reader e
 
 -- A script reader that is at the end after m steps is there after any larger number of steps.
-end_for_good : (m n : ℕ) (reader : ScriptReader) → m ≤ n → found_by (moved_times m reader) ≡ read.End → moved_times n reader ≡ moved_times m reader
+end_for_good : (m n : ℕ) (reader : ScriptReader) → m ≤ n → found_by (moved_times m reader) ≡ Ok None → moved_times n reader ≡ moved_times m reader
 unfolding moved_times
 end_for_good zero n reader h e = stays_for_good n reader e
 end_for_good (suc m) zero reader h e = absurd (omega arith)
@@ -85,7 +85,7 @@ pub ends_after_the_last : EndsAfterTheLast
 ends_after_the_last reader rs n all start many =
     let last = placed reader (length (spelled_script rs)) in
     let whole : reader.script.now ≡ spelled_script rs = start.holds in
-    let end : found_by last ≡ read.End = (end_is_the_length reader.script.now (length (spelled_script rs))).1 (ap length (sym whole)) in
+    let end : found_by last ≡ Ok None = (end_is_the_length reader.script.now (length (spelled_script rs))).1 (ap length (sym whole)) in
     let stands : moved_times (length rs) reader ≡ last =
     stands_after_the_first reader rs [] all (record { holds = whole ∙ sym (append-nil (spelled_script rs)); at_start = start.at_start }) in
     let there : moved_times n reader ≡ last = end_for_good (length rs) n reader many (ap found_by stands ∙ end) ∙ stands in

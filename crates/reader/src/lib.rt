@@ -4,7 +4,8 @@
 ghost use Rattle.std.specs.Prelude.{◌≡◌};
 ghost use Rattle.reader.specs.Reader.{yielded, found_by, moved};
 
-use script::RecordRead;
+use kinds::RefusedAt;
+use script::RecordAt;
 
 // A script reader holds the lent script and its place in it. (7.7)
 #[derive(Clone, Copy)]
@@ -16,7 +17,7 @@ pub struct ScriptReader<'a> {
 // One step of a script reader: what it found, and its place afterwards. (7.7)
 #[derive(Clone, Copy)]
 pub struct Yielded {
-    pub found: RecordRead,
+    pub found: Result<Option<RecordAt>, RefusedAt>,
     pub at: usize,
 }
 
@@ -30,12 +31,16 @@ impl<'a> ScriptReader<'a> {
 
     // Yields what `record_at` finds at the reader's place. After a record the place is the one right after it; on a refusal and at the end it is kept. The
     // reader keeps the same reference to the script. (7.7)
-    pub fn next(&mut self) -> RecordRead
+    // A script reader is no `Iterator`, because it answers the same refusal for ever, and so a loop over it would not end.
+    pub fn next(&mut self) -> Result<Option<RecordAt>, RefusedAt>
         ensures { (result ≡ found_by self.old) × (self.new ≡ moved self.old) }
     {
-        let got = yield_at(self.script, self.at);
-        self.at = got.at;
-        got.found
+        let found = script::record_at(self.script, self.at);
+        match found {
+            Ok(Some(r)) => self.at = r.next,
+            Ok(None) | Err(_) => {}
+        }
+        found
     }
 }
 
@@ -48,17 +53,5 @@ pub fn read_through(script: &[u8], at: usize) -> Yielded
     Yielded {
         found,
         at: reader.at,
-    }
-}
-
-// What `next` does, on a plain slice and a place. (7.7)
-fn yield_at(script: &[u8], at: usize) -> Yielded
-    ensures { result ≡ yielded script.now at }
-{
-    let found = script::record_at(script, at);
-    match found {
-        RecordRead::Record(r) => Yielded { found, at: r.next },
-        RecordRead::End => Yielded { found, at },
-        RecordRead::Refused(_) => Yielded { found, at },
     }
 }

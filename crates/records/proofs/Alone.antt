@@ -1,6 +1,9 @@
 -- A record that was read already: each answer of its tests, what the answer means, and that these tests agree with those of a record's numbers at their places.
 -- (docs/RULES.md, section 8.5.)
-use Prim.Native.Nat.{ℕ, ◌+◌, ◌-◌, ◌≤◌, ◌<◌}
+use Rattle.std.specs.Prelude.{Option, Some, None, Result, Ok, Err}
+use Rattle.records.specs.declared.Asked.{Asked}
+use Rattle.kinds.specs.declared.RefusedAt.{RefusedAt}
+use Prim.Native.Nat.{ℕ, ◌+◌, ◌≤◌, ◌<◌}
 use mathlib.Core.Path.{◌≡◌, refl, sym, ap, ◌∙◌}
 use mathlib.Core.Logic.{◌⊎◌, ⊎_elim}
 use mathlib.Core.Bool.{Bool, true, false, cond}
@@ -16,67 +19,32 @@ use Rattle.kinds.specs.declared.Refusal.TheVariants as refusal
 use Rattle.kinds.proofs.Apart.{impossible}
 use Rattle.kinds.proofs.Numbering.{said_in}
 use Rattle.numbers.specs.declared.Number.{Number}
-use Rattle.numbers.specs.declared.NumberRead.{NumberRead}
-use Rattle.numbers.specs.declared.NumberRead.TheVariants as number
 use Rattle.script.specs.declared.Record.{Record}
 use Rattle.script.specs.declared.RecordAt.{RecordAt}
-use Rattle.script.specs.declared.RecordRead.{RecordRead}
-use Rattle.script.specs.declared.RecordRead.TheVariants as read
 use Rattle.script.specs.Records.{script_number, after_number}
-use Rattle.table.specs.declared.CostLimit.{CostLimit}
-use Rattle.table.specs.declared.CostLimit.TheVariants as limit
-use Rattle.table.specs.declared.CostAnswer.{CostAnswer}
-use Rattle.table.specs.declared.CostAnswer.TheVariants as answer
 use Rattle.table.specs.Costs.{limit_of, cost_answer}
 use Rattle.table.proofs.CostLimits.{CostTested, cost_tested}
 use Rattle.records.specs.declared.Ready.{Ready}
-use Rattle.records.specs.declared.Tested.{Tested}
-use Rattle.records.specs.declared.Tested.TheVariants as tested
-use Rattle.records.specs.declared.RecordTested.{RecordTested}
-use Rattle.records.specs.declared.RecordTested.TheVariants as record_case
 use Rattle.records.specs.Numbers.{numbers_at, refused_at, on_row, on_cost, allowed_or, record_tested, places_aside}
 use Rattle.records.specs.TestLaws.{RecordCostMeans, RecordNoRowMeans, RecordReadyMeans, RecordTooLateMeans, TestedAlike, TestedInAScript}
 use Rattle.records.specs.Answers.{record_tested_says}
 use Rattle.records.specs.PassedTests.{RecordFits}
 
--- A gap is at most 2^40 less the time reached exactly where the sum of the two is at most 2^40.
-pub gap_in_time : (time gap : ℕ) → time ≤ max_time → leb gap (max_time - time) ≡ leb (time + gap) max_time
-gap_in_time time gap h = elim (dec_le (time + gap) max_time) [
-  | yes l ↦ le-leb gap (max_time - time) (omega arith) ∙ sym (le-leb (time + gap) max_time l)
-  | no l ↦ lt-leb gap (max_time - time) (omega arith) ∙ sym (lt-leb (time + gap) max_time (omega arith))
-]
-
-module _ (limits : List ℕ) (time : ℕ) (r : Record) where
-  -- A record whose time is above 2^40 is refused with 10.
-  pub record_too_late : leb (time + r.gap) max_time ≡ false → record_case.Refused refusal.TimeTooLate ≡ record_tested limits time r
-  record_too_late late = rw late
-
-  module _ (in_time : leb (time + r.gap) max_time ≡ true) where
-    -- A record in time whose row number is not in use is refused with 6, and one whose cost is not allowed with 7.
-    pub record_refused : {q : Refusal} → cost_answer (limit_of limits r.row.0) r.cost ≡ answer.Refused q
-        → record_case.Refused q ≡ record_tested limits time r
-    record_refused h = rw (in_time, h)
-
-    -- A record that no test refuses is ready.
-    pub record_ready : cost_answer (limit_of limits r.row.0) r.cost ≡ answer.Allowed
-        → record_case.Ready (record { time = record { 0 = time + r.gap }; row = r.row; cost = r.cost }) ≡ record_tested limits time r
-    record_ready h = rw (in_time, h)
-
 -- ---- what each answer means
 
 -- The four answers of the tests, each with what holds where it is given.
-data Sorted (limits : List ℕ) (time : ℕ) (r : Record) : RecordTested → Type 0 where
-  late : max_time < time + r.gap → Sorted limits time r (record_case.Refused refusal.TimeTooLate)
-  no_row : time + r.gap ≤ max_time → length limits ≤ r.row.0 → Sorted limits time r (record_case.Refused refusal.NoSuchRow)
+data Sorted (limits : List ℕ) (time : ℕ) (r : Record) : Result Asked Refusal → Type 0 where
+  late : max_time < time + r.gap → Sorted limits time r (Err refusal.TimeTooLate)
+  no_row : time + r.gap ≤ max_time → length limits ≤ r.row.0 → Sorted limits time r (Err refusal.NoSuchRow)
   no_cost : time + r.gap ≤ max_time → r.row.0 < length limits → (r.cost ≡ 0) ⊎ (get_or limits r.row.0 0 < r.cost)
-      → Sorted limits time r (record_case.Refused refusal.CostOutOfRange)
+      → Sorted limits time r (Err refusal.CostOutOfRange)
   fits : RecordFits limits time r
-      → Sorted limits time r (record_case.Ready (record { time = record { 0 = time + r.gap }; row = r.row; cost = r.cost }))
+      → Sorted limits time r (Ok (record { time = record { 0 = time + r.gap }; row = r.row; cost = r.cost }))
 
 module _ (limits : List ℕ) (time : ℕ) (r : Record) where
-  by_cost : time + r.gap ≤ max_time → (a : CostAnswer) → CostTested limits r.row.0 r.cost a
+  by_cost : time + r.gap ≤ max_time → (a : Result (Unit {0}) Refusal) → CostTested limits r.row.0 r.cost a
       → Sorted limits time r
-      (allowed_or a (record_case.Ready (record { time = record { 0 = time + r.gap }; row = r.row; cost = r.cost })))
+      (allowed_or a (Ok (record { time = record { 0 = time + r.gap }; row = r.row; cost = r.cost })))
   by_cost in_time a (CostTested.not_in_use h) = no_row in_time h
   by_cost in_time a (CostTested.out_of_range h o) = no_cost in_time h o
   by_cost in_time a (CostTested.allowed h l m) = fits (record { in_time = in_time; in_use = h; some_cost = l; allowed = m })
@@ -95,13 +63,13 @@ numbers_apart e p q apart = absurd (apart (sym p ∙ ap (λ (a : Says). (said_in
 pub record_too_late_means : RecordTooLateMeans
 record_too_late_means limits time r = (to _ (sorted limits time r), from _ (sorted limits time r))
   where
-    to : (v : RecordTested) → Sorted limits time r v → record_tested_says v ≡ refused_with 10 0 → max_time < time + r.gap
+    to : (v : Result Asked Refusal) → Sorted limits time r v → record_tested_says v ≡ refused_with 10 0 → max_time < time + r.gap
     to v (late h) e = h
     to v (no_row h u) e = numbers_apart {m = 6} {n = 10} e refl refl (λ z. omega arith)
     to v (no_cost h u o) e = numbers_apart {m = 7} {n = 10} e refl refl (λ z. omega arith)
     to v (fits f) e = impossible cc
 
-    from : (v : RecordTested) → Sorted limits time r v → max_time < time + r.gap → record_tested_says v ≡ refused_with 10 0
+    from : (v : Result Asked Refusal) → Sorted limits time r v → max_time < time + r.gap → record_tested_says v ≡ refused_with 10 0
     from v (late h) l = refl
     from v (no_row h u) l = absurd (omega arith)
     from v (no_cost h u o) l = absurd (omega arith)
@@ -110,13 +78,13 @@ record_too_late_means limits time r = (to _ (sorted limits time r), from _ (sort
 pub record_no_row_means : RecordNoRowMeans
 record_no_row_means limits time r = (to _ (sorted limits time r), from _ (sorted limits time r))
   where
-    to : (v : RecordTested) → Sorted limits time r v → record_tested_says v ≡ refused_with 6 0 → (time + r.gap ≤ max_time) × (length limits ≤ r.row.0)
+    to : (v : Result Asked Refusal) → Sorted limits time r v → record_tested_says v ≡ refused_with 6 0 → (time + r.gap ≤ max_time) × (length limits ≤ r.row.0)
     to v (late h) e = numbers_apart {m = 10} {n = 6} e refl refl (λ z. omega arith)
     to v (no_row h u) e = (h, u)
     to v (no_cost h u o) e = numbers_apart {m = 7} {n = 6} e refl refl (λ z. omega arith)
     to v (fits f) e = impossible cc
 
-    from : (v : RecordTested) → Sorted limits time r v → (time + r.gap ≤ max_time) × (length limits ≤ r.row.0) → record_tested_says v ≡ refused_with 6 0
+    from : (v : Result Asked Refusal) → Sorted limits time r v → (time + r.gap ≤ max_time) × (length limits ≤ r.row.0) → record_tested_says v ≡ refused_with 6 0
     from v (late h) l = absurd (omega (arith, l.0))
     from v (no_row h u) l = refl
     from v (no_cost h u o) l = absurd (omega (arith, l.1))
@@ -125,14 +93,14 @@ record_no_row_means limits time r = (to _ (sorted limits time r), from _ (sorted
 pub record_cost_means : RecordCostMeans
 record_cost_means limits time r = (to _ (sorted limits time r), from _ (sorted limits time r))
   where
-    to : (v : RecordTested) → Sorted limits time r v → record_tested_says v ≡ refused_with 7 0
+    to : (v : Result Asked Refusal) → Sorted limits time r v → record_tested_says v ≡ refused_with 7 0
         → (time + r.gap ≤ max_time) × (r.row.0 < length limits) × ((r.cost ≡ 0) ⊎ (get_or limits r.row.0 0 < r.cost))
     to v (late h) e = numbers_apart {m = 10} {n = 7} e refl refl (λ z. omega arith)
     to v (no_row h u) e = numbers_apart {m = 6} {n = 7} e refl refl (λ z. omega arith)
     to v (no_cost h u o) e = (h, u, o)
     to v (fits f) e = impossible cc
 
-    from : (v : RecordTested) → Sorted limits time r v
+    from : (v : Result Asked Refusal) → Sorted limits time r v
         → (time + r.gap ≤ max_time) × (r.row.0 < length limits) × ((r.cost ≡ 0) ⊎ (get_or limits r.row.0 0 < r.cost))
         → record_tested_says v ≡ refused_with 7 0
     from v (late h) l = absurd (omega (arith, l.0))
@@ -143,7 +111,8 @@ record_cost_means limits time r = (to _ (sorted limits time r), from _ (sorted l
 pub record_ready_means : RecordReadyMeans
 record_ready_means limits time r a = (to _ (sorted limits time r), from _ (sorted limits time r))
   where
-    to : (v : RecordTested) → Sorted limits time r v → record_tested_says v ≡ values (a.time.0 ∷ a.row.0 ∷ a.cost ∷ []) → RecordFits limits time r × (a.time.0 ≡ time + r.gap) × (a.row ≡ r.row) × (a.cost ≡ r.cost)
+    to : (v : Result Asked Refusal) → Sorted limits time r v → record_tested_says v ≡ values (a.time.0 ∷ a.row.0 ∷ a.cost ∷ [])
+        → RecordFits limits time r × (a.time.0 ≡ time + r.gap) × (a.row ≡ r.row) × (a.cost ≡ r.cost)
     to v (late h) e = impossible cc
     to v (no_row h u) e = impossible cc
     to v (no_cost h u o) e = impossible cc
@@ -151,7 +120,8 @@ record_ready_means limits time r a = (to _ (sorted limits time r), from _ (sorte
         let row : a.row.0 ≡ r.row.0 = cc in
         (f, cc, ap (λ (n : ℕ). record { 0 = n }) row, cc)
 
-    from : (v : RecordTested) → Sorted limits time r v → RecordFits limits time r × (a.time.0 ≡ time + r.gap) × (a.row ≡ r.row) × (a.cost ≡ r.cost) → record_tested_says v ≡ values (a.time.0 ∷ a.row.0 ∷ a.cost ∷ [])
+    from : (v : Result Asked Refusal) → Sorted limits time r v → RecordFits limits time r × (a.time.0 ≡ time + r.gap) × (a.row ≡ r.row) × (a.cost ≡ r.cost)
+        → record_tested_says v ≡ values (a.time.0 ∷ a.row.0 ∷ a.cost ∷ [])
     from v (late h) l = absurd (omega (arith, l.0.in_time))
     from v (no_row h u) l = absurd (omega (arith, l.0.in_use))
     from v (no_cost h u o) l = ⊎_elim (λ z. absurd (omega (arith, l.0.some_cost))) (λ above. absurd (omega (arith, l.0.allowed))) o
@@ -160,21 +130,21 @@ record_ready_means limits time r a = (to _ (sorted limits time r), from _ (sorte
 -- ---- both tests agree
 
 -- The two tests agree on a cost, whether it is allowed or refused.
-alike_cost : (a : CostAnswer) (place : ℕ) (r : Ready)
-    → places_aside (on_cost a place (tested.Ready r)) ≡ allowed_or a (record_case.Ready (record { time = r.time; row = r.row; cost = r.cost }))
-alike_cost answer.Allowed place r = refl
-alike_cost (answer.Refused q) place r = refl
+alike_cost : (a : Result (Unit {0}) Refusal) (place : ℕ) (r : Ready)
+    → places_aside (on_cost a place (Ok r)) ≡ allowed_or a (Ok (record { time = r.time; row = r.row; cost = r.cost }))
+alike_cost (Ok done) place r = refl
+alike_cost (Err q) place r = refl
 
 -- The two tests agree on a row number, whether it has a limit or none.
-alike_row : (l : CostLimit) (row_place cost_place : ℕ) (r : Ready)
-    → places_aside (on_row l row_place (on_cost (cost_answer l r.cost) cost_place (tested.Ready r)))
-    ≡ allowed_or (cost_answer l r.cost) (record_case.Ready (record { time = r.time; row = r.row; cost = r.cost }))
-alike_row (limit.Units most) row_place cost_place r = alike_cost (cost_answer (limit.Units most) r.cost) cost_place r
-alike_row limit.NoSuchRow row_place cost_place r = refl
+alike_row : (l : Option ℕ) (row_place cost_place : ℕ) (r : Ready)
+    → places_aside (on_row l row_place (on_cost (cost_answer l r.cost) cost_place (Ok r)))
+    ≡ allowed_or (cost_answer l r.cost) (Ok (record { time = r.time; row = r.row; cost = r.cost }))
+alike_row (Some most) row_place cost_place r = alike_cost (cost_answer (Some most) r.cost) cost_place r
+alike_row None row_place cost_place r = refl
 
 -- The two tests agree on whether a time is above 2^40.
-alike_time : (test : Bool) (x : Tested) (y : RecordTested) (place : ℕ) → places_aside x ≡ y
-    → places_aside (cond test x (refused_at refusal.TimeTooLate place)) ≡ cond test y (record_case.Refused refusal.TimeTooLate)
+alike_time : (test : Bool) (x : Result Ready RefusedAt) (y : Result Asked Refusal) (place : ℕ) → places_aside x ≡ y
+    → places_aside (cond test x (refused_at refusal.TimeTooLate place)) ≡ cond test y (Err refusal.TimeTooLate)
 alike_time true x y place e = e
 alike_time false x y place e = refl
 
@@ -185,27 +155,27 @@ tested_alike limits time n gap row cost e₁ e₂ e₃ =
     (record { time = record { 0 = time + gap.value }; row = record { 0 = row.value }; cost = cost.value; next = cost.next })))
 
 -- Where a record was read, each of its numbers was read.
-number_before : (v : NumberRead) (k : Number → RecordRead) (found : RecordAt) → after_number v k ≡ read.Record found
-    → (n : Number) × (v ≡ number.Number n) × (k n ≡ read.Record found)
-number_before (number.Number n) k found e = (n, refl, e)
-number_before (number.Refused r) k found e = impossible cc
+number_before : (v : Result Number RefusedAt) (k : Number → Result (Option RecordAt) RefusedAt) (found : RecordAt) → after_number v k ≡ Ok (Some found)
+    → (n : Number) × (v ≡ Ok n) × (k n ≡ Ok (Some found))
+number_before (Ok n) k found e = (n, refl, e)
+number_before (Err r) k found e = impossible cc
 
 -- Where a record was read, the script had not ended.
-not_ended : (t : Bool) (then : RecordRead) (found : RecordAt) → cond t read.End then ≡ read.Record found → then ≡ read.Record found
+not_ended : (t : Bool) (then : Result (Option RecordAt) RefusedAt) (found : RecordAt) → cond t (Ok None) then ≡ Ok (Some found) → then ≡ Ok (Some found)
 not_ended true then found e = impossible cc
 not_ended false then found e = e
 
 -- The row number of a record is read right after the gap, and the cost right after the row number.
-row_after : (s : List ℕ) (at : ℕ) {gap row : Number} → script_number s at ≡ number.Number gap → script_number s gap.next ≡ number.Number row
-    → (numbers_at s at).row.read ≡ number.Number row
+row_after : (s : List ℕ) (at : ℕ) {gap row : Number} → script_number s at ≡ Ok gap → script_number s gap.next ≡ Ok row
+    → (numbers_at s at).row.read ≡ Ok row
 row_after s at g r = rw g r
 
-cost_after : (s : List ℕ) (at : ℕ) {gap row cost : Number} → script_number s at ≡ number.Number gap → script_number s gap.next ≡ number.Number row
-    → script_number s row.next ≡ number.Number cost → (numbers_at s at).cost.read ≡ number.Number cost
+cost_after : (s : List ℕ) (at : ℕ) {gap row cost : Number} → script_number s at ≡ Ok gap → script_number s gap.next ≡ Ok row
+    → script_number s row.next ≡ Ok cost → (numbers_at s at).cost.read ≡ Ok cost
 cost_after s at g r c = rw (g, r) c
 
 -- Two readings that answer the same have read the same record.
-one_record : {a b : RecordAt} → read.Record a ≡ read.Record b → a ≡ b
+one_record : {a b : RecordAt} → ◌≡◌ {A = Result (Option RecordAt) RefusedAt} (Ok (Some a)) (Ok (Some b)) → a ≡ b
 one_record e = cc
 
 pub tested_in_a_script : TestedInAScript

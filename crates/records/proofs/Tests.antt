@@ -1,4 +1,5 @@
 -- The tests of a record's numbers: the tests that lead to each answer, and that there is no other answer. (docs/RULES.md, section 8.5.)
+use Rattle.std.specs.Prelude.{Some, None, Result, Ok, Err}
 use Prim.Native.Nat.{ℕ, ◌+◌, ◌<◌}
 use mathlib.Core.Path.{◌≡◌, refl, sym, ap, subst, ◌∙◌}
 use mathlib.Core.Logic.{inl, inr, ⊎_elim}
@@ -11,86 +12,40 @@ use Rattle.kinds.specs.Numbering.{max_time, refusal_number}
 use Rattle.kinds.specs.declared.Refusal.{Refusal}
 use Rattle.kinds.specs.declared.RefusedAt.{RefusedAt}
 use Rattle.kinds.specs.declared.Refusal.TheVariants.{NoSuchRow, CostOutOfRange, TimeTooLate}
-use Rattle.kinds.proofs.Apart.{impossible}
 use Rattle.numbers.specs.declared.Number.{Number}
-use Rattle.numbers.specs.declared.NumberRead.{NumberRead}
-use Rattle.numbers.specs.declared.NumberRead.TheVariants as number
-use Rattle.script.specs.Records.{script_number}
-use Rattle.table.specs.declared.CostLimit.TheVariants as limit
-use Rattle.table.specs.declared.CostAnswer.TheVariants as answer
 use Rattle.table.specs.Costs.{limit_of, cost_answer}
 use Rattle.table.proofs.CostLimits.{limit_in_use, limit_not_in_use, cost_allowed, no_cost, cost_too_high}
-use Rattle.records.specs.declared.Placed.{Placed}
 use Rattle.records.specs.declared.Numbers.{Numbers}
 use Rattle.records.specs.declared.Ready.{Ready}
-use Rattle.records.specs.declared.Tested.{Tested}
-use Rattle.records.specs.declared.Tested.TheVariants as tested
-use Rattle.records.specs.Numbers.{placed_at, place_after_number, numbers_at, refused_at, tested_by}
+use Rattle.records.specs.Numbers.{refused_at, tested_by}
 use Rattle.records.specs.PassedTests.{GapFits, RowFits, Passed, NumbersRefused}
 
--- ---- the numbers of a record
-
--- Three numbers, each read at the place after the one before, are the numbers of the record.
-pub numbers_of : (s : List ℕ) (at : ℕ) (gap row cost : Placed) (second third : ℕ) → gap ≡ placed_at s at → second ≡ place_after_number gap.read gap.place
-    → row ≡ placed_at s second → third ≡ place_after_number row.read row.place → cost ≡ placed_at s third
-    → ◌≡◌ {A = Numbers} (record { gap = gap; row = row; cost = cost }) (numbers_at s at)
-numbers_of s at gap row cost second third first a b d e = rw (e, d, b, a, first)
-
-module _ (s : List ℕ) (at : ℕ) {gap : Number} (g : script_number s at ≡ number.Number gap) where
-  -- The row number stands behind the gap.
-  pub row_place : (numbers_at s at).row.place ≡ gap.next
-  row_place = rw g
-
-  -- The row number is what is read behind the gap.
-  pub row_read : {x : NumberRead} → script_number s gap.next ≡ x → (numbers_at s at).row.read ≡ x
-  row_read e = rw g e
-
-  module _ {row : Number} (r : script_number s gap.next ≡ number.Number row) where
-    -- The cost stands behind the row number.
-    pub cost_place : (numbers_at s at).cost.place ≡ row.next
-    cost_place = rw (g, r)
-
-    -- The cost is what is read behind the row number.
-    pub cost_read : {x : NumberRead} → script_number s row.next ≡ x → (numbers_at s at).cost.read ≡ x
-    cost_read e = rw (g, r) e
-
 -- ---- each answer by the tests that lead to it
-
--- A row number with a limit is in use.
-pub row_in_use : (limits : List ℕ) (row most : ℕ) → limit_of limits row ≡ limit.Units most → row < length limits
-row_in_use limits row most e = elim (dec_le (length limits) row) [
-  | yes h ↦ let none = limit_not_in_use limits row h in impossible cc
-  | no h ↦ omega arith
-]
-
--- The limit of a row number in use is the one that stands at its number.
-pub its_limit : (limits : List ℕ) (row most : ℕ) → limit_of limits row ≡ limit.Units most → get_or limits row 0 ≡ most
-its_limit limits row most e = let here = limit_in_use limits row (row_in_use limits row most e) in cc
 
 module _ (limits : List ℕ) where
   module _ (time : ℕ) (n : Numbers) where
     -- A gap that can't be read is refused with 14.
-    pub gap_unread : {r : RefusedAt} → n.gap.read ≡ number.Refused r → tested.Refused r ≡ tested_by limits time n
+    pub gap_unread : {r : RefusedAt} → n.gap.read ≡ Err r → Err r ≡ tested_by limits time n
     gap_unread e = rw e
 
     -- A time above 2^40 is refused with 10.
-    pub time_too_late : {gap : Number} → n.gap.read ≡ number.Number gap → max_time < time + gap.value
+    pub time_too_late : {gap : Number} → n.gap.read ≡ Ok gap → max_time < time + gap.value
         → refused_at TimeTooLate n.gap.place ≡ tested_by limits time n
     time_too_late {gap} e h = simp (e, lt-leb (time + gap.value) max_time h)
 
   module _ {time : ℕ} {n : Numbers} {gap : Number} (p : GapFits time n gap) where
     -- A row number that can't be read is refused with 14.
-    pub row_unread : {r : RefusedAt} → n.row.read ≡ number.Refused r → tested.Refused r ≡ tested_by limits time n
+    pub row_unread : {r : RefusedAt} → n.row.read ≡ Err r → Err r ≡ tested_by limits time n
     row_unread e = simp (p.gap_read, le-leb (time + gap.value) max_time p.in_time, e)
 
     -- A row number that is not in use is refused with 6.
-    pub no_such_row : {row : Number} → n.row.read ≡ number.Number row → limit_of limits row.value ≡ limit.NoSuchRow
+    pub no_such_row : {row : Number} → n.row.read ≡ Ok row → limit_of limits row.value ≡ None
         → refused_at NoSuchRow n.row.place ≡ tested_by limits time n
     no_such_row e h = rw (p.gap_read, le-leb (time + gap.value) max_time p.in_time, e, h)
 
   module _ {time : ℕ} {n : Numbers} {gap row : Number} (p : RowFits limits time n gap row) where
     -- A cost that can't be read is refused with 14.
-    pub cost_unread : {r : RefusedAt} → n.cost.read ≡ number.Refused r → tested.Refused r ≡ tested_by limits time n
+    pub cost_unread : {r : RefusedAt} → n.cost.read ≡ Err r → Err r ≡ tested_by limits time n
     cost_unread e = rw (
       p.gap_fits.gap_read,
       le-leb (time + gap.value) max_time p.gap_fits.in_time,
@@ -99,9 +54,9 @@ module _ (limits : List ℕ) where
       e,
     )
 
-    module _ {cost : Number} (e : n.cost.read ≡ number.Number cost) where
+    module _ {cost : Number} (e : n.cost.read ≡ Ok cost) where
       -- A cost that is not allowed is refused with 7.
-      pub not_allowed : {r : Refusal} → cost_answer (limit.Units (get_or limits row.value 0)) cost.value ≡ answer.Refused r
+      pub not_allowed : {r : Refusal} → cost_answer (Some (get_or limits row.value 0)) cost.value ≡ Err r
           → refused_at r n.cost.place ≡ tested_by limits time n
       not_allowed h = rw (
         p.gap_fits.gap_read,
@@ -113,8 +68,8 @@ module _ (limits : List ℕ) where
       )
 
       -- A record that no test refuses is ready.
-      pub ready : cost_answer (limit.Units (get_or limits row.value 0)) cost.value ≡ answer.Allowed
-          → tested.Ready (record { time = record { 0 = time + gap.value }; row = record { 0 = row.value }; cost = cost.value; next = cost.next })
+      pub ready : cost_answer (Some (get_or limits row.value 0)) cost.value ≡ Ok tt
+          → Ok (record { time = record { 0 = time + gap.value }; row = record { 0 = row.value }; cost = cost.value; next = cost.next })
           ≡ tested_by limits time n
       ready h = rw (
         p.gap_fits.gap_read,
@@ -128,15 +83,15 @@ module _ (limits : List ℕ) where
 -- ---- what each answer means
 
 -- A reading has read a number, or it was refused.
-by_read : {G : Type 0} (v : NumberRead) → ((x : Number) → v ≡ number.Number x → G) → ((r : RefusedAt) → v ≡ number.Refused r → G) → G
-by_read (number.Number x) read refused = read x refl
-by_read (number.Refused r) read refused = refused r refl
+by_read : {G : Type 0} (v : Result Number RefusedAt) → ((x : Number) → v ≡ Ok x → G) → ((r : RefusedAt) → v ≡ Err r → G) → G
+by_read (Ok x) read refused = read x refl
+by_read (Err r) read refused = refused r refl
 
 module _ (limits : List ℕ) (time : ℕ) (n : Numbers) where
   -- What is known about the numbers of a record, given the answer of their tests.
-  abbrev pub TestedSo : Tested → Type 0
-  TestedSo (tested.Ready r) = Passed limits time n r
-  TestedSo (tested.Refused r) = NumbersRefused limits time n (refusal_number r.refusal) r.place
+  abbrev pub TestedSo : Result Ready RefusedAt → Type 0
+  TestedSo (Ok r) = Passed limits time n r
+  TestedSo (Err r) = NumbersRefused limits time n (refusal_number r.refusal) r.place
 
   -- The tests in their order lead to one of these answers, and there is no other.
   pub tests_mean : TestedSo (tested_by limits time n)
@@ -148,7 +103,7 @@ module _ (limits : List ℕ) (time : ℕ) (n : Numbers) where
       ])
       (λ r e₁. subst TestedSo (gap_unread limits time n e₁) (NumbersRefused.no_gap r e₁))
     where
-      with_cost : (gap row cost : Number) → RowFits limits time n gap row → n.cost.read ≡ number.Number cost → TestedSo (tested_by limits time n)
+      with_cost : (gap row cost : Number) → RowFits limits time n gap row → n.cost.read ≡ Ok cost → TestedSo (tested_by limits time n)
       with_cost gap row cost p e = let most = get_or limits row.value 0 in elim (dec_le 1 cost.value) [
         | no l ↦ subst TestedSo (not_allowed limits p e (no_cost most cost.value (omega arith)))
             (NumbersRefused.cost_out_of_range gap row cost p e (inl (omega arith)))
@@ -172,14 +127,14 @@ module _ (limits : List ℕ) (time : ℕ) (n : Numbers) where
           (λ r e₂. subst TestedSo (row_unread limits p e₂) (NumbersRefused.no_row_number gap p r e₂))
 
   -- A record whose numbers pass is ready.
-  pub passed_ready : {r : Ready} → Passed limits time n r → tested_by limits time n ≡ tested.Ready r
+  pub passed_ready : {r : Ready} → Passed limits time n r → tested_by limits time n ≡ Ok r
   passed_ready w =
       sym (ready limits w.row_fits w.cost_read (cost_allowed (get_or limits w.row.value 0) w.cost.value w.some_cost w.allowed))
-      ∙ ap tested.Ready (sym w.asks_for)
+      ∙ ap Ok (sym w.asks_for)
 
   -- A record that a test refuses is refused with that number and at that place.
   pub refused_so : {k place : ℕ} → NumbersRefused limits time n k place
-      → (r : RefusedAt) × (tested_by limits time n ≡ tested.Refused r) × (refusal_number r.refusal ≡ k) × (r.place ≡ place)
+      → (r : RefusedAt) × (tested_by limits time n ≡ Err r) × (refusal_number r.refusal ≡ k) × (r.place ≡ place)
   refused_so (NumbersRefused.no_gap r e) = (r, sym (gap_unread limits time n e), refl, refl)
   refused_so (NumbersRefused.too_late gap e late) = (_, sym (time_too_late limits time n e late), refl, refl)
   refused_so (NumbersRefused.no_row_number gap p r e) = (r, sym (row_unread limits p e), refl, refl)
@@ -187,7 +142,7 @@ module _ (limits : List ℕ) (time : ℕ) (n : Numbers) where
   refused_so (NumbersRefused.no_cost gap row p r e) = (r, sym (cost_unread limits p e), refl, refl)
   refused_so (NumbersRefused.cost_out_of_range gap row cost p e out) =
       let most = get_or limits row.value 0 in
-      let so : cost_answer (limit.Units most) cost.value ≡ answer.Refused CostOutOfRange = elim (dec_le 1 cost.value) [
+      let so : cost_answer (Some most) cost.value ≡ Err CostOutOfRange = elim (dec_le 1 cost.value) [
         | yes l ↦ cost_too_high most cost.value l (⊎_elim (λ none. absurd (omega arith)) (λ above. above) out)
         | no l ↦ no_cost most cost.value (omega arith)
       ] in

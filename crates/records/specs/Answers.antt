@@ -1,45 +1,44 @@
 -- What the tests of a record say. (docs/RULES.md, sections 8 and 10.)
-use Rattle.std.specs.Prelude.{ℕ, ◌≡◌, [], ◌∷◌}
+use Rattle.records.specs.declared.Asked.{Asked}
+use Rattle.kinds.specs.declared.RefusedAt.{RefusedAt}
+use Rattle.records.specs.declared.Ready.{Ready}
+use Rattle.std.specs.Prelude.{ℕ, ◌≡◌, [], ◌∷◌, Result, Ok, Err}
 use Rattle.kinds.specs.Numbering.{Says, numbered, values, refusal_number, refused_says, without_place, NeverNumberedZero, SaysApart, refused_with}
 use Rattle.kinds.specs.declared.Refusal.{Refusal}
-use Rattle.records.specs.declared.Tested.{Tested}
-use Rattle.records.specs.declared.Tested.TheVariants as tested
-use Rattle.records.specs.declared.RecordTested.{RecordTested}
-use Rattle.records.specs.declared.RecordTested.TheVariants as record_case
 
 -- What the tests of a record's numbers say outside. A record that is ready says its time, its row number, its cost and the place after it. A refusal says its
 -- number and its place. (1.17, 10.2)
-abbrev pub tested_says : Tested → Says
-tested_says (tested.Ready r) = values (r.time.0 ∷ r.row.0 ∷ r.cost ∷ r.next ∷ [])
-tested_says (tested.Refused r) = numbered (refused_says r)
+abbrev pub tested_says : Result Ready RefusedAt → Says
+tested_says (Ok r) = values (r.time.0 ∷ r.row.0 ∷ r.cost ∷ r.next ∷ [])
+tested_says (Err r) = numbered (refused_says r)
 
 -- What the tests of a record that was read already say outside. A record that is ready says its time, its row number and its cost. A refusal says its number,
 -- at place 0. (1.17, 10.2)
-abbrev pub record_tested_says : RecordTested → Says
-record_tested_says (record_case.Ready a) = values (a.time.0 ∷ a.row.0 ∷ a.cost ∷ [])
-record_tested_says (record_case.Refused r) = numbered (refused_says (without_place r))
+abbrev pub record_tested_says : Result Asked Refusal → Says
+record_tested_says (Ok a) = values (a.time.0 ∷ a.row.0 ∷ a.cost ∷ [])
+record_tested_says (Err r) = numbered (refused_says (without_place r))
 
 -- ---- what is proved about what the answers say (proofs/Answers.antt)
 
 -- A record at a place that is ready says its time, its row number, its cost and the place after it. (1.17)
 abbrev pub TestReadySays : Type 0
 TestReadySays = (time row cost next : ℕ)
-    → tested_says (tested.Ready (record { time = record { 0 = time }; row = record { 0 = row }; cost = cost; next = next }))
+    → tested_says (Ok (record { time = record { 0 = time }; row = record { 0 = row }; cost = cost; next = next }))
     ≡ values (time ∷ row ∷ cost ∷ next ∷ [])
 
 -- A record at a place that is refused says the refusal's number, its place and 0. (1.17, 10.2)
 abbrev pub TestRefusedSays : Type 0
 TestRefusedSays = (r : Refusal) (place : ℕ)
-    → tested_says (tested.Refused (record { refusal = r; place = place })) ≡ refused_with (refusal_number r) place
+    → tested_says (Err (record { refusal = r; place = place })) ≡ refused_with (refusal_number r) place
 
 -- A record that was read already and is ready says its time, its row number and its cost. (1.17)
 abbrev pub RecordReadySays : Type 0
 RecordReadySays = (time row cost : ℕ)
-    → record_tested_says (record_case.Ready (record { time = record { 0 = time }; row = record { 0 = row }; cost = cost })) ≡ values (time ∷ row ∷ cost ∷ [])
+    → record_tested_says (Ok (record { time = record { 0 = time }; row = record { 0 = row }; cost = cost })) ≡ values (time ∷ row ∷ cost ∷ [])
 
 -- A record that was read already and is refused says the refusal's number, 0 and 0. (1.17, 10.2)
 abbrev pub RecordRefusedSays : Type 0
-RecordRefusedSays = (r : Refusal) → record_tested_says (record_case.Refused r) ≡ refused_with (refusal_number r) 0
+RecordRefusedSays = (r : Refusal) → record_tested_says (Err r) ≡ refused_with (refusal_number r) 0
 
 -- No answer of either test is numbered 0. (1.16)
 abbrev pub TestsNeverZero : Type 0

@@ -1,12 +1,10 @@
 -- The laws of a record's tests: each answer is given exactly when its rule says, and the tests with places agree with those without. (docs/RULES.md, section
 -- 8.5.)
-use Rattle.std.specs.Prelude.{ℕ, ◌+◌, ◌^◌, ◌≤◌, ◌<◌, ◌≡◌, ◌⊎◌, ◌↔◌, List, [], ◌∷◌, length, get_or}
+use Rattle.std.specs.Prelude.{ℕ, ◌+◌, ◌^◌, ◌≤◌, ◌<◌, ◌≡◌, ◌⊎◌, ◌↔◌, List, [], ◌∷◌, length, get_or, Some, Ok}
 use Rattle.kinds.specs.Numbering.{values, refused_with}
 use Rattle.numbers.specs.declared.Number.{Number}
-use Rattle.numbers.specs.declared.NumberRead.TheVariants as number
 use Rattle.script.specs.declared.Record.{Record}
 use Rattle.script.specs.declared.RecordAt.{RecordAt}
-use Rattle.script.specs.declared.RecordRead.TheVariants as read
 use Rattle.script.specs.Records.{record_at}
 use Rattle.records.specs.declared.Numbers.{Numbers}
 use Rattle.records.specs.declared.Ready.{Ready}
@@ -52,10 +50,10 @@ RecordCostMeans = (limits : List ℕ) (time : ℕ) (r : Record)
 -- Where all three numbers can be read, the tests of the numbers and the tests of the record that they make give the same answer, places aside. (10.7)
 abbrev pub TestedAlike : Type 0
 TestedAlike = (limits : List ℕ) (time : ℕ) (n : Numbers) (gap row cost : Number)
-    → n.gap.read ≡ number.Number gap → n.row.read ≡ number.Number row → n.cost.read ≡ number.Number cost
+    → n.gap.read ≡ Ok gap → n.row.read ≡ Ok row → n.cost.read ≡ Ok cost
     → places_aside (tested_by limits time n) ≡ record_tested limits time (record { gap = gap.value; row = record { 0 = row.value }; cost = cost.value })
 
 -- Where a script has a record at a place, the tests of its numbers there and the tests of that record give the same answer, places aside. (10.7)
 abbrev pub TestedInAScript : Type 0
-TestedInAScript = (limits : List ℕ) (time : ℕ) (s : List ℕ) (at : ℕ) (found : RecordAt) → record_at s at ≡ read.Record found
+TestedInAScript = (limits : List ℕ) (time : ℕ) (s : List ℕ) (at : ℕ) (found : RecordAt) → record_at s at ≡ Ok (Some found)
     → places_aside (tested_by limits time (numbers_at s at)) ≡ record_tested limits time found.release

@@ -1,5 +1,6 @@
 -- What a replay answers and leaves in the log buffer, case by case: how the play ended, whether its log fits, and whether a job is late.
 -- (docs/RULES.md, sections 8.8 to 8.17, 9.5 and 10.)
+use Rattle.std.specs.Prelude.{Ok}
 use Prim.Native.Nat.{ℕ, ◌-◌, ◌≤◌, ◌<◌}
 use mathlib.Core.Path.{◌≡◌, refl, sym, ap, ap₂, subst, ◌∙◌}
 use mathlib.Core.Logic.{◌⊎◌, ◌≢◌, ◌↔◌, inl, inr, ⊎_elim}
@@ -14,7 +15,6 @@ use Rattle.kinds.specs.declared.RefusedAt.{RefusedAt}
 use Rattle.kinds.proofs.Numbering.{numbers_differ, never_zero, no_answer}
 use Rattle.numbers.specs.SpelledNumbers.{Bytes}
 use Rattle.theory.proofs.Cases.{by_lt}
-use Rattle.table.specs.declared.TableAnswer.TheVariants as answer
 use Rattle.table.specs.Tables.{table_read}
 use Rattle.table.proofs.Answers.{tables_said_apart}
 use Rattle.run.specs.Runs.{started}
@@ -218,13 +218,13 @@ ends_at_once end p none =
     rw (no_more (max_time - p.so_far.run.clock.0) p.so_far none, eq-eqb p.so_far.run.pending.count 0 none)
 
 -- The play of an empty script on an accepted table ends at once, with the fresh run.
-nothing_played : (t : List ℕ) (period : ℕ) → (table_read t).answer ≡ answer.Accepted period → played t [] ≡ whole (begun (started t).run)
+nothing_played : (t : List ℕ) (period : ℕ) → (table_read t).answer ≡ Ok period → played t [] ≡ whole (begun (started t).run)
 unfolding played played_from
 nothing_played t period e = rw e (ends_at_once 0 (begun (started t).run) refl)
 
 pub no_jobs : NoJobs
 unfolding late_finishes flatten
-no_jobs t log period e = rw (nothing_played t period (tables_said_apart (table_read t).answer (answer.Accepted period) e), le-leb 0 (length log) (omega arith)) (refl, refl)
+no_jobs t log period e = rw (nothing_played t period (tables_said_apart (table_read t).answer (Ok period) e), le-leb 0 (length log) (omega arith)) (refl, refl)
 
 -- ---- what is said outside
 

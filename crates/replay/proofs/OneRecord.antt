@@ -1,4 +1,5 @@
 -- A play that is held in arrays comes to a record's script time, and the record's job is released there. (docs/RULES.md, sections 6.6 to 6.9 and 8.1 to 8.7.)
+use Rattle.std.specs.Prelude.{Ok}
 use Prim.Native.Nat.{ℕ, zero, suc, ◌+◌, ◌-◌, ◌≤◌, ◌<◌}
 use mathlib.Core.Path.{◌≡◌, sym, ap, ◌∙◌}
 use mathlib.Core.Logic.{◌≢◌}
@@ -10,17 +11,16 @@ use borrow.Author.Tests.{eqb-true, le-ltb}
 use Rattle.theory.proofs.Cases.{by_test}
 use Rattle.kinds.specs.Numbering.{max_time}
 use Rattle.kinds.specs.declared.Tick.{Tick}
-use Rattle.due.specs.declared.Due.TheVariants as due
 use Rattle.jobs.specs.declared.Job.{Job}
 use Rattle.jobs.specs.Places.{no_job, jobs_of}
 use Rattle.jobs.specs.Late.{late_count}
 use Rattle.jobs.specs.JobChanges.{WellFormed}
 use Rattle.jobs.proofs.Changes.{put_adds_one}
-use Rattle.columns.specs.Columns.{Columns, put_in}
+use Rattle.columns.specs.declared.Columns.{Columns}
+use Rattle.columns.specs.Columns.{put_in}
 use Rattle.columns.specs.Ordered.{in_place}
 use Rattle.columns.proofs.Holding.{put_in_holds}
 use Rattle.columns.proofs.Ordered.{put_keeps_order, put_keeps_jobs, same_are_among}
-use Rattle.run.specs.declared.Released.TheVariants as release
 use Rattle.run.specs.declared.ReleaseStep.{ReleaseStep}
 use Rattle.run.specs.Ticking.{run_with, is_taken}
 use Rattle.run.specs.Release.{new_job, with_job, due_next, released}
@@ -106,13 +106,13 @@ module _ {s : SoFar} {log₀ : List ℕ} {h : TickArrays} (w : ArraysHoldRun s l
 -- ---- a release
 
 module _ {s : SoFar} {log₀ : List ℕ} {h : TickArrays} (w : ArraysHoldRun s log₀ h) {row cost : ℕ} (p : Passed s.run row cost) {t : Tick}
-    (given : due_next s.run row cost ≡ due.At t) where
+    (given : due_next s.run row cost ≡ Ok t) where
   -- A release that no test refused is accepted with its due time.
   pub release_accepted : released s.run row cost
-      ≡ record { run = with_job s.run row cost t; answer = release.Accepted (record { serial = s.run.next; due = t }) }
-  release_accepted = sym (due_settles s.run row cost p (due.At t) given)
+      ≡ record { run = with_job s.run row cost t; answer = Ok (record { serial = s.run.next; due = t }) }
+  release_accepted = sym (due_settles s.run row cost p (Ok t) given)
 
-  accepted_so : (released s.run row cost).answer ≡ release.Accepted (record { serial = s.run.next; due = t })
+  accepted_so : (released s.run row cost).answer ≡ Ok (record { serial = s.run.next; due = t })
   accepted_so = ap (λ (x : ReleaseStep). x.answer) release_accepted
 
   -- The new job's serial is above that of every pending job.

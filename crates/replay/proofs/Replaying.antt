@@ -1,12 +1,14 @@
 -- A script is played record by record on arrays, up to its end, and the answers of `play` and `replay` are those of their definitions. (docs/RULES.md, section
 -- 8.)
+use Rattle.std.specs.Prelude.{Option, Result, Ok, Err}
 use Prim.Native.Nat.{ℕ, zero, suc, ◌+◌, ◌-◌, ◌≤◌, ◌<◌}
 use mathlib.Core.Path.{◌≡◌, refl, sym, ap, ap₂, subst, ◌∙◌}
 use mathlib.Core.Bool.{true, false}
 use mathlib.Core.List.{List, []}
 use native.Mathlib.Omega.{arith}
-use lib.ListN.{length, take, get_or, replicate, length-replicate}
+use lib.ListN.{length, take, get_or, replicate}
 use borrow.Author.Tests.{eq-eqb, ne_eqb}
+use Rattle.theory.proofs.Cases.{by_eq}
 use Rattle.kinds.specs.Numbering.{max_time}
 use Rattle.kinds.specs.declared.Serial.{Serial}
 use Rattle.kinds.specs.declared.Refusal.TheVariants.{TimeTooLate, NoRoom}
@@ -16,17 +18,15 @@ use Rattle.table.specs.declared.Table.{Table}
 use Rattle.table.specs.Limits.{max_rows, max_servers}
 use Rattle.table.specs.Timer.{GoodTimer}
 use Rattle.table.specs.Tables.{no_row, table_read}
-use Rattle.table.specs.declared.CostLimit.{CostLimit}
 use Rattle.table.specs.Costs.{cost_limits, held_limits, limit_of, cost_answer}
 use Rattle.table.proofs.CostLimits.{limit_in_use, cost_allowed}
 use Rattle.table.proofs.SpelledTables.{in_range_means}
-use Rattle.columns.specs.Columns.{max_entries}
-use Rattle.columns.proofs.Holding.{nothing_is_held}
-use Rattle.rings.specs.Rings.{max_times}
+use Rattle.columns.specs.Columns.{empty_columns}
+use Rattle.columns.proofs.Holding.{empty_holds_nothing}
+use Rattle.rings.specs.Rings.{empty_rings}
 use Rattle.rings.proofs.Holding.{rings_empty}
 use Rattle.run.specs.declared.Run.{Run}
 use Rattle.table.specs.declared.TableRead.{TableRead}
-use Rattle.table.specs.declared.TableAnswer.TheVariants as table_answer
 use Rattle.run.specs.Runs.{fresh_run, start_answer, row_at, server_at}
 use Rattle.run.specs.ManyTicks.{SoFar, ticks_while_pending}
 use Rattle.run.proofs.Fresh.{started_is_sound}
@@ -36,8 +36,6 @@ use Rattle.run.proofs.Ticking.{Good, facts}
 use Rattle.script.proofs.Scripts.{record_is_spelled}
 use Rattle.records.specs.declared.Numbers.{Numbers}
 use Rattle.records.specs.declared.Ready.{Ready}
-use Rattle.records.specs.declared.Tested.{Tested}
-use Rattle.records.specs.declared.Tested.TheVariants as tested
 use Rattle.records.specs.Numbers.{numbers_at, tested_by, tested_numbers}
 use Rattle.records.specs.PassedTests.{Passed}
 use Rattle.records.proofs.ReadRecords.{ready_passed, passed_is_read}
@@ -51,13 +49,11 @@ use Rattle.replay.specs.declared.LateJobs.{LateJobs}
 use Rattle.replay.specs.declared.Replayed.{Replayed}
 use Rattle.replay.specs.declared.Replayed.TheVariants as replayed
 use Rattle.replay.specs.declared.Going.{Going}
-use Rattle.replay.specs.declared.RecordStep.{RecordStep}
-use Rattle.replay.specs.declared.RecordStep.TheVariants as step
 use Rattle.replay.specs.declared.Source.{Source}
 use Rattle.replay.specs.declared.Source.TheVariants as source
 use Rattle.replay.specs.Outcome.{finished_in, replay_outcome, replay_of, log_after}
-use Rattle.replay.specs.Arrays.{Logs, TickArrays, InBounds, ArraysHoldRun, HasTimer, LeadsTo, LeftIn}
-use Rattle.replay.specs.Arrays.{Lists, lists, columns_in, tick_arrays_in, CanGo, ArraysHoldPlay, PlaceInRange, SourceOf, MayRelease, SteppedTo, RecordPlayed}
+use Rattle.replay.specs.Arrays.{Logs, TickArrays, InBounds, ArraysHoldRun, HasTimer, LeadsTo, LeftIn, play_outcome}
+use Rattle.replay.specs.Arrays.{tick_arrays_in, CanGo, ArraysHoldPlay, PlaceInRange, SourceOf, MayRelease, SteppedTo, RecordPlayed}
 use Rattle.replay.proofs.Releasing.{place_in_range}
 use Rattle.replay.proofs.Logging.{logs_none, late_are_few, answers_full, answers_in_time, answers_late}
 
@@ -76,19 +72,19 @@ ticks_last zero s at p e = refl
 ticks_last (suc n) s at p e = rw (eq-eqb at (length s) e)
 
 -- The arrays hold a play at a place of its script, and the play by single ticks from there on comes to the same end as the whole play.
-pub record Plays (s : List ℕ) (t : Table) (log₀ : List ℕ) (l : Lists) (g : Going) (at : ℕ) : Type 0 where
+pub record Plays (s : List ℕ) (t : Table) (log₀ log : List ℕ) (g : Going) (at : ℕ) : Type 0 where
   pub progress : Progress
   pub left : ℕ
   pub leads_on : played_from left s at progress ≡ played_on s (fresh_run t)
   pub enough : length s ≤ at + left
   pub within : at ≤ length s
   pub same_table : progress.so_far.run.table ≡ t
-  pub stands : ArraysHoldPlay progress log₀ l g
+  pub stands : ArraysHoldPlay progress log₀ log g
 
 -- Before the script's end, a record stands at the place. It passed its tests at the point that a play has reached, and `r` is the release that it asks for.
 pub record Asks (s : List ℕ) (at : ℕ) (p : Progress) (r : Ready) : Type 0 where
   pub inside : at < length s
-  pub passes : tested_numbers p.so_far.run.table p.so_far.run.clock.0 (numbers_at s at) ≡ tested.Ready r
+  pub passes : tested_numbers p.so_far.run.table p.so_far.run.clock.0 (numbers_at s at) ≡ Ok r
 
 -- A play on arrays came to its end: the play by single ticks ends the same way, and its finished jobs are logged.
 pub record PlaysWhole (s : List ℕ) (t : Table) (log₀ log : List ℕ) (l : Logged) : Type 0 where
@@ -104,46 +100,39 @@ on_its_table t = record {
       each_release p.so_far.run row cost (λ after. after.run.table ≡ p.so_far.run.table) (λ r. refl) (λ u passed given. refl) ∙ same;
 }
 
--- How far a play has come before its first record.
+-- How far a play has come before its first record: no job is pending, and no due time is kept.
 abbrev pub not_begun : Going
-not_begun = record { first = 0; count = 0; clock = record { 0 = 0 }; next = record { 0 = 0 }; length = 0; late = 0; full = false }
+not_begun = record {
+  jobs = empty_columns;
+  rings = empty_rings;
+  lasts = replicate max_servers (record { 0 = 0 });
+  clock = record { 0 = 0 };
+  next = record { 0 = 0 };
+  logged = record { length = 0; late = 0; full = false };
+}
 
--- The arrays at the start of a play: all numbers are 0.
-abbrev pub zeros : (log : List ℕ) → Lists
-zeros log =
-    let places = replicate {A = ℕ} max_entries 0 in
-    lists places places places places places (replicate max_times 0) (replicate max_rows 0) (replicate max_rows 0) (replicate max_servers 0) log
-
-pub plays_first : (s : List ℕ) (t : Table) (log : List ℕ) → Good (fresh_run t) → Plays s t log (zeros log) not_begun 0
-plays_first s t log good =
-    let all = length-replicate {A = ℕ} max_entries 0 in
-    let none = columns_in (zeros log) 0 0 in
-    record {
-      progress = begun (fresh_run t);
-      left = length s;
-      leads_on = refl;
-      enough = omega arith;
-      within = omega arith;
-      same_table = refl;
-      stands = record {
-        stands = record {
-          on_its_way = on_its_way_first (fresh_run t) good refl refl;
-          counts = refl;
-          clocks = refl;
-          jobs_held = record {
-            queue = [];
-            held = nothing_is_held none (record { of_serials = all; of_rows = all; of_releases = all; of_dues = all; of_left = all }) refl;
-            in_order = tt;
-            same = refl;
-          };
-          logs = logs_none log;
-        };
-        kept = rings_empty t.count t.rows (facts (fresh_run t) good).few_rows
-            (λ row h. (in_range_means (get_or t.rows row no_row)).1 ((facts (fresh_run t) good).rows row h));
-        last_held = refl;
-        same_next = refl;
-      };
-    }
+pub plays_first : (s : List ℕ) (t : Table) (log : List ℕ) → Good (fresh_run t) → Plays s t log log not_begun 0
+plays_first s t log good = record {
+  progress = begun (fresh_run t);
+  left = length s;
+  leads_on = refl;
+  enough = omega arith;
+  within = omega arith;
+  same_table = refl;
+  stands = record {
+    stands = record {
+      on_its_way = on_its_way_first (fresh_run t) good refl refl;
+      counts = refl;
+      clocks = refl;
+      jobs_held = record { queue = []; held = empty_holds_nothing; in_order = tt; same = refl };
+      logs = logs_none log;
+    };
+    kept = rings_empty t.count t.rows (facts (fresh_run t) good).few_rows
+        (λ row h. (in_range_means (get_or t.rows row no_row)).1 ((facts (fresh_run t) good).rows row h));
+    last_held = refl;
+    same_next = refl;
+  };
+}
 
 -- Where the arrays hold a play, their numbers are in bounds.
 pub stands_in_bounds : {s : SoFar} {log₀ : List ℕ} {h : TickArrays} → ArraysHoldRun s log₀ h → InBounds h
@@ -166,7 +155,7 @@ stands_in_bounds {s} w =
       );
     }
 
-module _ {s : List ℕ} {t : Table} {log₀ : List ℕ} {l : Lists} {g : Going} {at : ℕ} (w : Plays s t log₀ l g at) where
+module _ {s : List ℕ} {t : Table} {log₀ log : List ℕ} {g : Going} {at : ℕ} (w : Plays s t log₀ log g at) where
   -- `reached` is the run that the play by single ticks has reached.
   abbrev reached : Run
   reached = w.progress.so_far.run
@@ -181,10 +170,10 @@ module _ {s : List ℕ} {t : Table} {log₀ : List ℕ} {l : Lists} {g : Going} 
   pub good_timer : GoodTimer t.s t.p
   good_timer = rw (← w.same_table) (facts reached good).good_timer
 
-  pub plays_in_bounds : InBounds (tick_arrays_in l g)
+  pub plays_in_bounds : InBounds (tick_arrays_in log g)
   plays_in_bounds = stands_in_bounds w.stands.stands
 
-  pub log_as_long : length l.log ≡ length log₀
+  pub log_as_long : length log ≡ length log₀
   log_as_long = w.stands.stands.logs.same_length
 
   few_rows : t.count ≤ max_rows
@@ -211,7 +200,7 @@ module _ {s : List ℕ} {t : Table} {log₀ : List ℕ} {l : Lists} {g : Going} 
     stops_so : {r : RefusedAt} → stepped w.progress (numbers_at s at) ≡ stops r → played_on s (fresh_run t) ≡ stopped r
     stops_so e = one_record ∙ rw e
 
-  module _ (inside : at < length s) {n : Numbers} (read_so : n ≡ numbers_at s at) {limits : List ℕ} (limits_so : limits ≡ held_limits t) {v : Tested}
+  module _ (inside : at < length s) {n : Numbers} (read_so : n ≡ numbers_at s at) {limits : List ℕ} (limits_so : limits ≡ held_limits t) {v : Result Ready RefusedAt}
       (tested_so : v ≡ tested_by (take (t.count + t.serving) limits) g.clock.0 n) where
     -- The tests of the code are the tests on the run that the play by single ticks has reached.
     on_run : tested_numbers reached.table reached.clock.0 (numbers_at s at) ≡ v
@@ -222,12 +211,12 @@ module _ {s : List ℕ} {t : Table} {log₀ : List ℕ} {l : Lists} {g : Going} 
         ∙ sym tested_so
 
     -- A record that a test refuses stops the play.
-    pub plays_refused : {r : RefusedAt} → v ≡ tested.Refused r → played_on s (fresh_run t) ≡ stopped r
+    pub plays_refused : {r : RefusedAt} → v ≡ Err r → played_on s (fresh_run t) ≡ stopped r
     unfolding stepped
     plays_refused e = stops_so inside (rw (on_run ∙ e))
 
     -- A record that passes the tests of the code passes them on that run.
-    pub plays_ready : {r : Ready} → v ≡ tested.Ready r → Asks s at w.progress r
+    pub plays_ready : {r : Ready} → v ≡ Ok r → Asks s at w.progress r
     plays_ready e = record { inside = inside; passes = on_run ∙ e }
 
   -- From here on the record passed its tests.
@@ -259,7 +248,7 @@ module _ {s : List ℕ} {t : Table} {log₀ : List ℕ} {l : Lists} {g : Going} 
     pub source_in_range : (from : Source) → SourceOf t r.row.0 from → PlaceInRange from
     source_in_range from its = place_in_range t few_servers r.row.0 from its
 
-    pub can_go : CanGo l g r
+    pub can_go : CanGo log g r
     can_go =
         let asks = ap (λ (x : Ready). x.time.0) passed.asks_for in
         let known = facts reached good in
@@ -294,7 +283,7 @@ module _ {s : List ℕ} {t : Table} {log₀ : List ℕ} {l : Lists} {g : Going} 
           its_source = subst (λ (u : Table). SourceOf u r.row.0 from) (sym w.same_table) its;
           allowed =
               ap₂ (λ (n c : ℕ). cost_answer (limit_of limits_there n) c) row cost
-              ∙ ap (λ (most : CostLimit). cost_answer most passed.cost.value) (limit_in_use limits_there passed.row.value passed.row_fits.in_use)
+              ∙ ap (λ (most : Option ℕ). cost_answer most passed.cost.value) (limit_in_use limits_there passed.row.value passed.row_fits.in_use)
               ∙ cost_allowed (get_or limits_there passed.row.value 0) passed.cost.value passed.some_cost passed.allowed;
           ahead = omega (arith, time);
         }
@@ -303,17 +292,17 @@ module _ {s : List ℕ} {t : Table} {log₀ : List ℕ} {l : Lists} {g : Going} 
     unfolding stepped
     released_so = rw its_record.passes
 
-    module _ {from : Source} (its : SourceOf t r.row.0 from) (after : Lists) (x : RecordStep)
-        (done : RecordPlayed t.s t.p at r from l g after x) where
-      done_here : SteppedTo (released_at at r (ticked_to r.time.0 w.progress)) r.next log₀ after x
+    module _ {from : Source} (its : SourceOf t r.row.0 from) (after : List ℕ) (h : Going) (x : Result (Unit {0}) RefusedAt)
+        (done : RecordPlayed t.s t.p at r from log after g h x) where
+      done_here : SteppedTo (released_at at r (ticked_to r.time.0 w.progress)) r.next log₀ after h x
       done_here = done w.progress log₀ w.stands (may_release its)
 
       -- Where the release is refused, the play is stopped with that refusal.
-      pub plays_stopped : {q : RefusedAt} → x ≡ step.Refused q → played_on s (fresh_run t) ≡ stopped q
+      pub plays_stopped : {q : RefusedAt} → x ≡ Err q → played_on s (fresh_run t) ≡ stopped q
       plays_stopped e = stops_so its_record.inside (released_so ∙ (rw e at done_here))
 
       -- Where the release is accepted, the play goes on at the place after the record.
-      pub plays_next : {h : Going} → x ≡ step.Next h → Bytes s → Plays s t log₀ after h r.next
+      pub plays_next : {u : Unit {0}} → x ≡ Ok u → Bytes s → Plays s t log₀ after h r.next
       plays_next e bytes =
           let on = rw e at done_here in
           record {
@@ -329,7 +318,7 @@ module _ {s : List ℕ} {t : Table} {log₀ : List ℕ} {l : Lists} {g : Going} 
           }
 
   -- From here on the place is the script's end, and the final ticks have been given.
-  module _ (ended : length s ≤ at) {h : TickArrays} (led : LeadsTo t.s t.p max_time (tick_arrays_in l g) h) where
+  module _ (ended : length s ≤ at) {h : TickArrays} (led : LeadsTo t.s t.p max_time (tick_arrays_in log g) h) where
     abbrev last : Progress
     last = record { so_far = ticks_while_pending (max_time - reached.clock.0) w.progress.so_far; accepted = w.progress.accepted }
 
@@ -372,18 +361,26 @@ module _ {s : List ℕ} {t : Table} {log₀ log : List ℕ} {l : Logged} (w : Pl
 
   module _ (not_full : l.full ≡ false) where
     -- A play whose log is not full and whose jobs are all in time answers 22.
-    pub in_time_ends : l.late ≡ 0 → Ends s t log₀ log (replayed.InTime l.length)
+    in_time_ends : l.late ≡ 0 → Ends s t log₀ log (replayed.InTime l.length)
     in_time_ends none = rw w.ends (sym (answers_in_time w.progress w.logs (length s) not_full none), (w.logs.holds not_full).stands)
 
     -- A play whose log is not full and some of whose jobs are late answers 23.
-    pub late_ends : (l.late ≡ 0 → ⊥) → Ends s t log₀ log (replayed.Late (record { length = l.length; late = l.late }))
+    late_ends : (l.late ≡ 0 → ⊥) → Ends s t log₀ log (replayed.Late (record { length = l.length; late = l.late }))
     late_ends some = rw w.ends (sym (answers_late w.progress w.logs (length s) not_full some), (w.logs.holds not_full).stands)
+
+    -- A play whose log is not full answers the log's length and the number of jobs late.
+    pub fit_ends : Ends s t log₀ log (play_outcome (Ok (record { length = l.length; late = l.late })))
+    fit_ends = by_eq l.late 0 (λ none. rw (eq-eqb l.late 0 none) (in_time_ends none)) (λ some. rw (ne_eqb l.late 0 some) (late_ends some))
 
 -- ---- the answer of a replay
 
 -- What `replay` answers and leaves in the log is what its contract says.
 abbrev pub Replays : (t s log₀ log : List ℕ) → Replayed → Type 0
 Replays t s log₀ log r = (r ≡ replay_of t s (length log₀)) × (log ≡ log_after r (finished_in (played t s)) log₀)
+
+-- The table was read, and the script was played if the table was accepted: `out` is what came of it. After a refusal the log is still to be filled with zeros.
+abbrev pub CameTo : (t s log₀ log : List ℕ) → Result LateJobs RefusedAt → Type 0
+CameTo t s log₀ log out = (play_outcome out ≡ replay_of t s (length log₀)) × LeftIn (play_outcome out) (finished_in (played t s)) log₀ log
 
 module _ (t s log₀ : List ℕ) {x : TableRead} (reads : x ≡ table_read t) where
   -- The fresh run of a table that was read is sound.
@@ -395,22 +392,23 @@ module _ (t s log₀ : List ℕ) {x : TableRead} (reads : x ≡ table_read t) wh
   unfolding played
   by_start = ap (λ (y : TableRead). once_started s (fresh_run y.table) (start_answer y.answer)) (sym reads)
 
-  -- A table that is refused stops the play at once, and the log is zeros.
-  pub table_refused : {r : RefusedAt} {log : List ℕ} → x.answer ≡ table_answer.Refused r → log ≡ replicate (length log₀) 0
-      → Replays t s log₀ log (replayed.Refused r)
-  table_refused {r} e zeros = let so : played t s ≡ stopped r = by_start ∙ rw e in (rw so, zeros)
+  -- A table that is refused stops the play at once.
+  pub table_refused : {r : RefusedAt} → x.answer ≡ Err r → CameTo t s log₀ log₀ (Err r)
+  table_refused {r} e = let so : played t s ≡ stopped r = by_start ∙ rw e in (rw so, refl)
 
-  -- On an accepted table the script is played, and after a refusal the log is filled with zeros.
-  module _ {period : ℕ} (accepted : x.answer ≡ table_answer.Accepted period) (log : List ℕ) {out : Replayed} (ends : Ends s x.table log₀ log out) where
-    played_so : played t s ≡ played_on s (fresh_run x.table)
-    played_so = by_start ∙ rw accepted
+  -- On an accepted table the script is played.
+  pub table_accepted : {period : ℕ} → x.answer ≡ Ok period → (log : List ℕ) (out : Result LateJobs RefusedAt) → Ends s x.table log₀ log (play_outcome out)
+      → CameTo t s log₀ log out
+  table_accepted accepted log out ends = let played_so : played t s ≡ played_on s (fresh_run x.table) = by_start ∙ rw accepted in rw played_so ends
 
-    pub replay_in_time : {n : ℕ} → out ≡ replayed.InTime n → Replays t s log₀ log (replayed.InTime n)
-    replay_in_time e = rw played_so (rw e at ends)
+module _ (t s log₀ log : List ℕ) (out : Result LateJobs RefusedAt) (came : CameTo t s log₀ log out) where
+  -- With no job late the answer is 22, and with some jobs late it is 23.
+  pub replay_in_time : {l : LateJobs} → out ≡ Ok l → l.late ≡ 0 → Replays t s log₀ log (replayed.InTime l.length)
+  replay_in_time {l} e none = rw (e, eq-eqb l.late 0 none) at came
 
-    pub replay_late : {l : LateJobs} → out ≡ replayed.Late l → Replays t s log₀ log (replayed.Late l)
-    replay_late e = rw played_so (rw e at ends)
+  pub replay_late : {l : LateJobs} → out ≡ Ok l → (l.late ≡ 0 → ⊥) → Replays t s log₀ log (replayed.Late l)
+  replay_late {l} e some = rw (e, ne_eqb l.late 0 some) at came
 
-    pub replay_refused : {r : RefusedAt} {cleared : List ℕ} → out ≡ replayed.Refused r → cleared ≡ replicate (length log) 0
-        → Replays t s log₀ cleared (replayed.Refused r)
-    replay_refused e zeros = let stops_so = rw e at ends in (rw played_so stops_so.0, rw (← stops_so.1) zeros)
+  -- After a refusal the log is filled with zeros.
+  pub replay_refused : {r : RefusedAt} {cleared : List ℕ} → out ≡ Err r → cleared ≡ replicate (length log) 0 → Replays t s log₀ cleared (replayed.Refused r)
+  replay_refused e zeros = let stops_so = rw e at came in (stops_so.0, rw (← stops_so.1) zeros)

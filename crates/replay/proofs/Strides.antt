@@ -1,5 +1,6 @@
--- The ticks of a run are the ticks on its list of pending jobs, where these are counted by the free ticks. They go on until a job finishes or until a time. A taken
--- tick changes nothing but the clock. (docs/RULES.md, sections 6.5 and 6.10 to 6.17.)
+-- The ticks of a run are the ticks on its list of pending jobs, where these are counted by the free ticks. They go on until a job finishes or until a time. A
+-- taken tick changes nothing but the clock. (docs/RULES.md, sections 6.5 and 6.10 to 6.17.)
+use Rattle.std.specs.Prelude.{Option, Some, None}
 use Prim.Native.Nat.{ℕ, zero, suc, ◌+◌, ◌-◌, ◌≤◌, ◌<◌}
 use mathlib.Core.Path.{◌≡◌, refl, sym, ap, ap₂, subst, ◌∙◌}
 use mathlib.Core.Bool.{true, false}
@@ -17,8 +18,6 @@ use Rattle.jobs.specs.declared.Job.{Job}
 use Rattle.jobs.specs.Places.{jobs_of}
 use Rattle.jobs.specs.Units.{last_unit}
 use Rattle.jobs.specs.Turns.{first_job, finish_at}
-use Rattle.columns.specs.declared.WorkAnswer.{WorkAnswer}
-use Rattle.columns.specs.declared.WorkAnswer.TheVariants as work
 use Rattle.columns.specs.Ticks.{Reached, finished_at, first_of, after_tick, worked_for}
 use Rattle.columns.proofs.Strides.{tick_finishes, tick_goes_on}
 use Rattle.run.specs.declared.Run.{Run}
@@ -61,15 +60,15 @@ abbrev pub finished_at_time : (time : ℕ) → Finish → Finish
 finished_at_time time f = record { serial = f.serial; row = f.row; release = f.release; due = f.due; finish = record { 0 = time } }
 
 -- The job that finished in some ticks, if one did, as a list. It finished at this time.
-abbrev pub finishes_in : (time : ℕ) → WorkAnswer → List Finish
-finishes_in time (work.Finished f) = finished_at_time time f ∷ []
-finishes_in time work.Nobody = []
+abbrev pub finishes_in : (time : ℕ) → Option Finish → List Finish
+finishes_in time (Some f) = finished_at_time time f ∷ []
+finishes_in time None = []
 
 -- The time that some ticks have led to, where `free` is the number of free ticks before it. Where a job finished, that time comes right after the last of the
 -- free ticks. Otherwise it is `until`.
-abbrev pub time_of : (s p until free : ℕ) → WorkAnswer → ℕ
-time_of s p until free (work.Finished f) = free_tick_at s p (free - 1) + 1
-time_of s p until free work.Nobody = until
+abbrev pub time_of : (s p until free : ℕ) → Option Finish → ℕ
+time_of s p until free (Some f) = free_tick_at s p (free - 1) + 1
+time_of s p until free None = until
 
 -- The ticks of a run until a job finishes or a time is reached come to what the free ticks on its pending jobs come to: the same pending jobs, and the same
 -- finished job. With the ticks that are still to come until that time, the run comes to the same as before.

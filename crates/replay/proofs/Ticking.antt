@@ -1,5 +1,6 @@
--- Free ticks on pending jobs in arrays are the ticks of the run that the arrays hold, and each job that finishes is logged. (docs/RULES.md, sections 6.5, 6.10 to
--- 6.17, and 8.2 to 8.4.)
+-- Free ticks on pending jobs in arrays are the ticks of the run that the arrays hold, and each job that finishes is logged. (docs/RULES.md, sections 6.5,
+-- 6.10 to 6.17, and 8.2 to 8.4.)
+use Rattle.std.specs.Prelude.{Option, Some, None}
 use Prim.Native.Nat.{ℕ, ◌+◌, ◌-◌, ◌≤◌}
 use mathlib.Core.Path.{◌≡◌, refl, sym, ap, ap₂, subst, ◌∙◌}
 use mathlib.Core.Bool.{true}
@@ -14,9 +15,7 @@ use Rattle.table.specs.Timer.{GoodTimer}
 use Rattle.jobs.specs.declared.Job.{Job}
 use Rattle.jobs.specs.Places.{max_places, jobs_of}
 use Rattle.columns.specs.declared.Worked.{Worked}
-use Rattle.columns.specs.declared.WorkAnswer.{WorkAnswer}
-use Rattle.columns.specs.declared.WorkAnswer.TheVariants as work
-use Rattle.columns.specs.Columns.{Columns}
+use Rattle.columns.specs.declared.Columns.{Columns}
 use Rattle.columns.specs.Ticks.{Reached, worked_for, worked_first, work_on, work_answer}
 use Rattle.columns.specs.Ordered.{SameReached}
 use Rattle.columns.specs.Outcomes.{WorksAs}
@@ -66,12 +65,12 @@ no_ticks_due s p until h late x log₀ has w = let none : until - h.clock ≡ 0 
 module _ {s p until : ℕ} (good_timer : GoodTimer s p) {h₀ h : TickArrays} (t : TicksOn s p until h₀ h) (soon : until ≤ max_time) (some : 1 ≤ h.jobs.count)
     {n m : ℕ} (n_so : n ≡ free_before (timer s p) h.clock) (m_so : m ≡ free_before (timer s p) until) {after : Columns} {r : Worked}
     (says : r ≡ work_answer h.jobs n m) (leaves : after ≡ work_on h.jobs n m) where
-  module _ {f : Finish} (e : r.answer ≡ work.Finished f) where
-    one_finished : FinishedSo h.jobs n m r
-    one_finished = rw says (finished_so h.jobs n m f (rw says at e))
+  module _ {f : Finish} (e : r.finished ≡ Some f) where
+    one_finished : FinishedSo h.jobs n m r after
+    one_finished = rw (says, leaves) (finished_so h.jobs n m f (rw says at e))
 
     -- Where a job finished, one job fewer is pending.
-    pub one_less : r.count + 1 ≡ h.jobs.count
+    pub one_less : after.count + 1 ≡ h.jobs.count
     one_less = omega (arith, one_finished.one_less, t.in_bounds.few_pending)
 
     -- Where a job finished, at least one free tick has gone by, and at most those before the time.
@@ -100,8 +99,8 @@ module _ {s p until : ℕ} (good_timer : GoodTimer s p) {h₀ h : TickArrays} (t
     works : WorksAs h.jobs queue n m
     works = work_holds h.jobs queue n m stands.jobs_held.held
 
-    answer_so : there.answer ≡ r.answer
-    answer_so = sym same_there.answer ∙ sym works.answer_so ∙ sym (ap (λ (x : Worked). x.answer) says)
+    answer_so : there.answer ≡ r.finished
+    answer_so = sym same_there.answer ∙ sym works.answer_so ∙ sym (ap (λ (x : Worked). x.finished) says)
 
     free_reached : there.clock ≡ r.clock.0
     free_reached = sym same_there.clock ∙ sym works.clock_so ∙ sym (ap (λ (x : Worked). x.clock.0) says)
@@ -124,30 +123,30 @@ module _ {s p until : ℕ} (good_timer : GoodTimer s p) {h₀ h : TickArrays} (t
 
     -- `time` is the time that the ticks have come to.
     abbrev time : ℕ
-    time = time_of s p until r.clock.0 r.answer
+    time = time_of s p until r.clock.0 r.finished
 
     time_so : time_of s p until there.clock there.answer ≡ time
-    time_so = ap₂ (λ (k : ℕ). λ (a : WorkAnswer). time_of s p until k a) free_reached answer_so
+    time_so = ap₂ (λ (k : ℕ). λ (a : Option Finish). time_of s p until k a) free_reached answer_so
 
     clock_so : strode.by_now.run.clock.0 ≡ time
     clock_so = strode.clock ∙ time_so
 
-    finishes_so : strode.by_now.finishes ≡ b.finishes ++ finishes_in time r.answer
+    finishes_so : strode.by_now.finishes ≡ b.finishes ++ finishes_in time r.finished
     finishes_so =
         strode.finishes
-        ∙ ap₂ (λ (k : ℕ). λ (a : WorkAnswer). b.finishes ++ finishes_in (time_of s p until k a) a) free_reached answer_so
+        ∙ ap₂ (λ (k : ℕ). λ (a : Option Finish). b.finishes ++ finishes_in (time_of s p until k a) a) free_reached answer_so
 
     -- After the ticks the arrays hold the jobs that are still pending.
-    stands_after : {log : List ℕ} {l : Logged} → after.count ≡ r.count → Logs strode.by_now.finishes log₀ log l
+    stands_after : {log : List ℕ} {l : Logged} → Logs strode.by_now.finishes log₀ log l
         → ArraysHoldRun strode.by_now log₀ (tick_arrays after log time l)
-    stands_after same logs = record {
+    stands_after logs = record {
       on_its_way = on_its_way_ticked stands.on_its_way strode.keeps;
       counts =
           let many = held_are_counted after held_after.queue held_after.held in
-          let few : r.count ≤ max_places = rw says (few_after h.jobs n m) in
+          let few : after.count ≤ max_places = rw leaves (few_after h.jobs n m) in
           let all : length held_after.queue ≡ length there.jobs = same_are_as_many held_after.queue there.jobs held_after.same in
           let here : length (jobs_of strode.by_now.run.pending) ≡ length there.jobs = ap length strode.jobs in
-          omega (arith, many, few, all, here, same, counted strode.by_now.run strode.keeps.good);
+          omega (arith, many, few, all, here, counted strode.by_now.run strode.keeps.good);
       clocks = clock_so;
       jobs_held = rw strode.jobs held_after;
       logs = logs;
@@ -161,17 +160,17 @@ module _ {s p until : ℕ} (good_timer : GoodTimer s p) {h₀ h : TickArrays} (t
         ∙ ap (λ (c : ℕ). ticks_while_pending (until - c) b) stands.clocks
 
     -- The numbers of a job that finished have spellings.
-    its_numbers : {f : Finish} → r.answer ≡ work.Finished f → all_in_range (values_of (finished_at_time time f)) ≡ true
+    its_numbers : {f : Finish} → r.finished ≡ Some f → all_in_range (values_of (finished_at_time time f)) ≡ true
     its_numbers {f} e =
         let all = strode.keeps.in_range stands.on_its_way.in_range in
         let one : strode.by_now.finishes ≡ b.finishes ++ (finished_at_time time f ∷ []) = finishes_so ∙ ap (λ a. b.finishes ++ finishes_in time a) e in
         (rw one at all) (finished_at_time time f) (Memᴰ.append_right b.finishes (Memᴰ.head refl))
 
   -- Where a job finishes, it is logged with its finish, and the ticks go on.
-  pub finished_on : {f : Finish} → r.answer ≡ work.Finished f → after.count ≡ r.count → {log : List ℕ} {l : Logged}
+  pub finished_on : {f : Finish} → r.finished ≡ Some f → {log : List ℕ} {l : Logged}
       → OneLogged h.logged (finished_at_time (free_tick_at s p (r.clock.0 - 1) + 1) f) h.log log l
       → TicksOn s p until h₀ (tick_arrays after log (free_tick_at s p (r.clock.0 - 1) + 1) l)
-  finished_on {f} e same {log} {l} o =
+  finished_on {f} e {log} {l} o =
       let bounds = t.in_bounds in
       record {
         in_bounds = record {
@@ -193,15 +192,15 @@ module _ {s p until : ℕ} (good_timer : GoodTimer s p) {h₀ h : TickArrays} (t
             record {
               by_now = (strode ks st).by_now;
               has = same_timer (strode ks st).keeps ks;
-              stands = rw now at (stands_after ks st {log = log} {l = l} same logged);
+              stands = rw now at (stands_after ks st {log = log} {l = l} logged);
               leads_on = (rw now at (leads_after ks st)) ∙ k.leads_on;
             };
       }
 
   -- Where no job finishes, the time is reached, and all ticks have been given.
-  pub nobody_on : r.answer ≡ work.Nobody → after.count ≡ r.count → LeadsTo s p until h₀ (tick_arrays after h.log until h.logged)
+  pub nobody_on : r.finished ≡ None → LeadsTo s p until h₀ (tick_arrays after h.log until h.logged)
   unfolding ticks_while_pending
-  nobody_on e same x log₀ first_has first =
+  nobody_on e x log₀ first_has first =
       let k = t.came x log₀ first_has first in
       let st = k.stands in
       let ks = k.has in
@@ -211,7 +210,7 @@ module _ {s p until : ℕ} (good_timer : GoodTimer s p) {h₀ h : TickArrays} (t
       let no_finish : (strode ks st).by_now.finishes ≡ k.by_now.finishes =
       finishes_so ks st ∙ ap (λ a. k.by_now.finishes ++ finishes_in (time ks st) a) e ∙ append-nil k.by_now.finishes in
       let logged : Logs (strode ks st).by_now.finishes log₀ h.log h.logged = rw no_finish st.logs in
-      rw (← ended) (rw now at (stands_after ks st {log = h.log} {l = h.logged} same logged))
+      rw (← ended) (rw now at (stands_after ks st {log = h.log} {l = h.logged} logged))
 
 -- Where nothing is pending, all ticks have been given.
 pub nothing_pending : {s p until : ℕ} {h₀ h : TickArrays} → TicksOn s p until h₀ h → h.jobs.count ≡ 0 → LeadsTo s p until h₀ h

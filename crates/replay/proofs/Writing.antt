@@ -1,4 +1,5 @@
 -- The record of a job that finished is written into a log, or the log is full. (docs/RULES.md, sections 8.8 to 8.13.)
+use Rattle.std.specs.Prelude.{Result, Ok, Err}
 use Prim.Native.Nat.{ℕ, ◌+◌, ◌-◌, ◌≤◌, ◌<◌}
 use native.Mathlib.Omega.{arith}
 use mathlib.Core.Path.{◌≡◌, refl, sym, ap, ◌∙◌}
@@ -10,8 +11,6 @@ use borrow.Author.Tests.{lt-ltb, le-ltb}
 use Rattle.theory.proofs.Cases.{by_test}
 use Rattle.kinds.specs.declared.Finish.{Finish}
 use Rattle.kinds.specs.declared.Refusal.{Refusal}
-use Rattle.numbers.specs.declared.Written.{Written}
-use Rattle.numbers.specs.declared.Written.TheVariants as written
 use Rattle.logs.specs.Log.{written_record}
 use Rattle.logs.specs.SpelledLogs.{RecordBehind}
 use Rattle.logs.proofs.Logs.{record_written, log_kept}
@@ -35,7 +34,7 @@ module _ (l : Logged) (f : Finish) (log : List ℕ) (room : l.length ≤ length 
   pub one_dropped : l.full ≡ true → OneLogged l f log log (record { length = l.length; late = late; full = true })
   one_dropped full = record { says = simp (counted, full); holds = simp full; same_length = refl; within = room; few_late = omega (arith, late_at_most l f) }
 
-  module _ (room_left : l.full ≡ false) {answer : Written} {after : List ℕ} (b : RecordBehind log l.length f answer after) where
+  module _ (room_left : l.full ≡ false) {answer : Result ℕ Refusal} {after : List ℕ} (b : RecordBehind log l.length f answer after) where
     -- What the record writer answered and left is what the definition says.
     answers : written_record f (length log - l.length) ≡ answer
     answers = sym b.answered
@@ -44,7 +43,7 @@ module _ (l : Logged) (f : Finish) (log : List ℕ) (room : l.length ≤ length 
     leaves = b.whole ∙ rw (room_left, answers)
 
     -- Where the record fits, it is written.
-    pub one_written : {took : ℕ} → answer ≡ written.Length took
+    pub one_written : {took : ℕ} → answer ≡ Ok took
         → OneLogged l f log after (record { length = l.length + took; late = late; full = false })
     one_written {took} a =
         let w = record_written f (length log - l.length) took (answers ∙ a) in
@@ -59,7 +58,7 @@ module _ (l : Logged) (f : Finish) (log : List ℕ) (room : l.length ≤ length 
         }
 
     -- Where the record does not fit, the log is full from now on.
-    pub one_without_room : {r : Refusal} → answer ≡ written.Refused r
+    pub one_without_room : {r : Refusal} → answer ≡ Err r
         → OneLogged l f log after (record { length = l.length; late = late; full = true })
     one_without_room {r} a = record {
       says = simp (counted, room_left, answers ∙ a);

@@ -1,21 +1,19 @@
 -- What the private functions of this crate do, for their contracts alone: a log as it is written record by record, and a play that is held in arrays of
 -- numbers. (docs/RULES.md, section 8.)
-use Rattle.std.specs.Prelude.{ℕ, ◌+◌, ◌-◌, ◌^◌, ◌≤◌, ◌<◌, ◌≡◌, true, false, cond, List, ◌++◌, map, length, take, drop, set}
+use Rattle.kinds.specs.declared.RefusedAt.{RefusedAt}
+use Rattle.kinds.specs.declared.Tick.{Tick}
+use Rattle.kinds.specs.declared.Refusal.{Refusal}
+use Rattle.std.specs.Prelude.{ℕ, ◌+◌, ◌-◌, ◌^◌, ◌≤◌, ◌<◌, ◌≡◌, true, false, cond, eqb, List, ◌++◌, length, take, drop, set, Result, Ok, Err}
 use Rattle.kinds.specs.Numbering.{max_time}
 use Rattle.kinds.specs.declared.Finish.{Finish}
-use Rattle.numbers.specs.declared.Written.{Written}
-use Rattle.numbers.specs.declared.Written.TheVariants as written
 use Rattle.table.specs.declared.Table.{Table}
-use Rattle.table.specs.declared.CostAnswer.TheVariants as cost
 use Rattle.table.specs.Costs.{cost_limits, limit_of, cost_answer}
 use Rattle.table.specs.Limits.{max_servers}
-use Rattle.due.specs.declared.Due.{Due}
-use Rattle.due.specs.declared.Due.TheVariants as due
 use Rattle.jobs.specs.Places.{max_places, jobs_of}
-use Rattle.columns.specs.Columns.{Columns, columns, ColumnsHold}
+use Rattle.columns.specs.declared.Columns.{Columns}
+use Rattle.columns.specs.Columns.{ColumnsHold}
 use Rattle.columns.specs.Ordered.{InOrder, SameJobs}
 use Rattle.jobs.specs.declared.Job.{Job}
-use Rattle.rings.specs.Rings.{Rings, rings, as_tick}
 use Rattle.rings.specs.RingShapes.{RingsHold}
 use Rattle.run.specs.declared.Run.{Run}
 use Rattle.run.specs.Runs.{row_at, server_at}
@@ -26,15 +24,13 @@ use Rattle.records.specs.declared.Ready.{Ready}
 use Rattle.play.specs.Play.{Progress, Step, goes_on, stops, ticked_to, released_at}
 use Rattle.play.specs.Late.{finished_late, late_finishes}
 use Rattle.play.specs.LogRecords.{OnItsWay}
+use Rattle.replay.specs.declared.LateJobs.{LateJobs}
 use Rattle.replay.specs.declared.Replayed.{Replayed}
 use Rattle.replay.specs.declared.Replayed.TheVariants as replayed
 use Rattle.replay.specs.declared.Logged.{Logged}
-use Rattle.replay.specs.declared.Reached.{Reached}
 use Rattle.replay.specs.declared.Going.{Going}
 use Rattle.replay.specs.declared.Source.{Source}
 use Rattle.replay.specs.declared.Source.TheVariants as source
-use Rattle.replay.specs.declared.RecordStep.{RecordStep}
-use Rattle.replay.specs.declared.RecordStep.TheVariants as step
 use Rattle.replay.specs.Outcome.{log_after}
 
 -- ---- the log as it is written
@@ -44,9 +40,9 @@ abbrev pub late_or : Logged → Finish → ℕ
 late_or l f = l.late + cond (finished_late f) 1 0
 
 -- What is known about a log after one more record, given the record writer's answer. Where the record did not fit, the log is full from now on. (8.13)
-abbrev pub more_written : Logged → Finish → Written → Logged
-more_written l f (written.Length n) = record { length = l.length + n; late = late_or l f; full = false }
-more_written l f (written.Refused r) = record { length = l.length; late = late_or l f; full = true }
+abbrev pub more_written : Logged → Finish → Result ℕ Refusal → Logged
+more_written l f (Ok n) = record { length = l.length + n; late = late_or l f; full = false }
+more_written l f (Err r) = record { length = l.length; late = late_or l f; full = true }
 
 -- What is known about a log after one more job finished. A full log stays full, and only the jobs late are counted. `room` is the log buffer's length. (8.13)
 abbrev pub one_logged : (room : ℕ) → Logged → Finish → Logged
@@ -88,14 +84,6 @@ pub record TickArrays : Type 0 where
 abbrev pub tick_arrays : Columns → (log : List ℕ) (clock : ℕ) → Logged → TickArrays
 tick_arrays jobs log clock logged = record { jobs = jobs; log = log; clock = clock; logged = logged }
 
--- What is written of the log where ticks have come to.
-abbrev pub logged_by : Reached → Logged
-logged_by r = record { length = r.length; late = r.late; full = r.full }
-
--- What is written of the log where a play has come to.
-abbrev pub logged_in : Going → Logged
-logged_in g = record { length = g.length; late = g.late; full = g.full }
-
 -- There are no more pending jobs than places, the log is not longer than its buffer, and the jobs late are few enough to go on counting without overflow.
 pub record InBounds (h : TickArrays) : Type 0 where
   pub few_pending : h.jobs.count ≤ max_places
@@ -130,65 +118,28 @@ LeadsTo s p until h g = (x : SoFar) (log₀ : List ℕ) → HasTimer s p x.run �
 
 -- ---- a record on arrays
 
--- The ten arrays of a play, as lists: the pending jobs by their serials, rows, releases, due times and units left, the rings of the kept due times by their
--- times, counts and oldest places, the servers' last due times, and the log buffer.
-pub record Lists : Type 0 where
-  pub serials : List ℕ
-  pub rows : List ℕ
-  pub releases : List ℕ
-  pub dues : List ℕ
-  pub left : List ℕ
-  pub times : List ℕ
-  pub many : List ℕ
-  pub oldest : List ℕ
-  pub lasts : List ℕ
-  pub log : List ℕ
-
--- The ten lists as one value.
-abbrev pub lists : (serials rows releases dues left times many oldest lasts log : List ℕ) → Lists
-lists serials rows releases dues left times many oldest lasts log = record {
-  serials = serials;
-  rows = rows;
-  releases = releases;
-  dues = dues;
-  left = left;
-  times = times;
-  many = many;
-  oldest = oldest;
-  lasts = lasts;
-  log = log;
-}
-
 -- The servers' last due times after an answer. A due time that is given becomes the last due time of the server at this place. A refusal leaves them all alone.
 -- (4.4, 4.9)
-abbrev pub lasts_after_due : Due → (lasts : List ℕ) (place : ℕ) → List ℕ
-lasts_after_due (due.At t) lasts place = set lasts place t.0
-lasts_after_due (due.Refused r) lasts place = lasts
+abbrev pub lasts_after_due : Result Tick Refusal → (lasts : List Tick) (place : ℕ) → List Tick
+lasts_after_due (Ok t) lasts place = set lasts place t
+lasts_after_due (Err r) lasts place = lasts
 
--- The pending jobs that the arrays of a play hold, from the entry `first` on, as many as the count says.
-abbrev pub columns_in : Lists → (first count : ℕ) → Columns
-columns_in l first count = columns l.serials l.rows l.releases l.dues l.left first count
-
--- The kept due times of the rows that the arrays of a play hold. (4.6)
-abbrev pub rings_in : Lists → Rings
-rings_in l = rings l.times l.many l.oldest
-
--- The part of a play's arrays and numbers that ticks change.
-abbrev pub tick_arrays_in : Lists → Going → TickArrays
-tick_arrays_in l g = tick_arrays (columns_in l g.first g.count) l.log g.clock.0 (logged_in g)
+-- The part of a play's arrays and numbers that ticks change, with the log buffer.
+abbrev pub tick_arrays_in : (log : List ℕ) → Going → TickArrays
+tick_arrays_in log g = tick_arrays g.jobs log g.clock.0 g.logged
 
 -- One more record can be played without overflow: the arrays are in bounds, the record's script time is at most 2^40, and the next serial is at most 2^63.
-pub record CanGo (l : Lists) (g : Going) (ready : Ready) : Type 0 where
-  pub in_bounds : InBounds (tick_arrays_in l g)
+pub record CanGo (log : List ℕ) (g : Going) (ready : Ready) : Type 0 where
+  pub in_bounds : InBounds (tick_arrays_in log g)
   pub in_time : ready.time.0 ≤ max_time
   pub few_serials : g.next.0 ≤ 2 ^ 63
 
 -- The arrays hold a play that has come as far as `p`: its pending jobs, its clock, its log, its kept due times, its servers' last due times and its next
 -- serial.
-pub record ArraysHoldPlay (p : Progress) (log₀ : List ℕ) (l : Lists) (g : Going) : Type 0 where
-  pub stands : ArraysHoldRun p.so_far log₀ (tick_arrays_in l g)
-  pub kept : RingsHold (rings_in l) p.so_far.run.table.count p.so_far.run.table.rows p.so_far.run.kept
-  pub last_held : p.so_far.run.last ≡ map as_tick l.lasts
+pub record ArraysHoldPlay (p : Progress) (log₀ log : List ℕ) (g : Going) : Type 0 where
+  pub stands : ArraysHoldRun p.so_far log₀ (tick_arrays_in log g)
+  pub kept : RingsHold g.rings p.so_far.run.table.count p.so_far.run.table.rows p.so_far.run.kept
+  pub last_held : p.so_far.run.last ≡ g.lasts
   pub same_next : p.so_far.run.next ≡ g.next
 
 -- A server stands at a place that a table has room for. (3.18)
@@ -207,21 +158,26 @@ SourceOf t number (source.Server o) =
 pub record MayRelease (ts tp : ℕ) (p : Progress) (ready : Ready) (source : Source) : Type 0 where
   pub its_timer : HasTimer ts tp p.so_far.run
   pub its_source : SourceOf p.so_far.run.table ready.row.0 source
-  pub allowed : cost_answer (limit_of (cost_limits p.so_far.run.table) ready.row.0) ready.cost ≡ cost.Allowed
+  pub allowed : cost_answer (limit_of (cost_limits p.so_far.run.table) ready.row.0) ready.cost ≡ Ok tt
   pub ahead : p.so_far.run.clock.0 ≤ ready.time.0
 
 -- The answer of `play_record` fits what the record does to the play. Where the play goes on, the arrays hold it. Where it stops, the answer is its refusal.
-abbrev pub SteppedTo : Step → (next : ℕ) (log₀ : List ℕ) (after : Lists) → RecordStep → Type 0
-SteppedTo x next log₀ after (step.Next g) = (q : Progress) × (x ≡ goes_on q next) × ArraysHoldPlay q log₀ after g
-SteppedTo x next log₀ after (step.Refused r) = x ≡ stops r
+abbrev pub SteppedTo : Step → (next : ℕ) (log₀ log : List ℕ) → Going → Result (Unit {0}) RefusedAt → Type 0
+SteppedTo x next log₀ log g (Ok _) = (q : Progress) × (x ≡ goes_on q next) × ArraysHoldPlay q log₀ log g
+SteppedTo x next log₀ log g (Err r) = x ≡ stops r
 
 -- If the arrays hold a play before the call and the record passed its tests, they hold it afterwards with the ticks until the record's script time and the
 -- record's release, or the answer is the refusal that stops the play. (8.2)
-abbrev pub RecordPlayed : (ts tp place : ℕ) → Ready → Source → Lists → Going → Lists → RecordStep → Type 0
-RecordPlayed ts tp place ready source l g after r = (p : Progress) (log₀ : List ℕ) → ArraysHoldPlay p log₀ l g → MayRelease ts tp p ready source
-    → SteppedTo (released_at place ready (ticked_to ready.time.0 p)) ready.next log₀ after r
+abbrev pub RecordPlayed : (ts tp place : ℕ) → Ready → Source → (log after : List ℕ) (g h : Going) → Result (Unit {0}) RefusedAt → Type 0
+RecordPlayed ts tp place ready source log after g h r = (p : Progress) (log₀ : List ℕ) → ArraysHoldPlay p log₀ log g → MayRelease ts tp p ready source
+    → SteppedTo (released_at place ready (ticked_to ready.time.0 p)) ready.next log₀ after h r
 
 -- ---- the log that a play leaves
+
+-- The outcome that the function `play` answers with: the log's length and the number of jobs late, or a refusal. (8.15)
+abbrev pub play_outcome : Result LateJobs RefusedAt → Replayed
+play_outcome (Ok jobs) = cond (eqb jobs.late 0) (replayed.InTime jobs.length) (replayed.Late jobs)
+play_outcome (Err r) = replayed.Refused r
 
 -- What the function `play` leaves in the log buffer. Where nothing is refused, these are the records, and behind them the bytes that stood there. After a
 -- refusal only the buffer's length is known, and the caller fills it with zeros. (8.16, 8.17)

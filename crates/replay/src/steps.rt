@@ -2,121 +2,79 @@
 ghost use Rattle.std.specs.Prelude.{◌≡◌, ◌<◌, length, get_or};
 ghost use Rattle.table.specs.Limits.{max_servers};
 ghost use Rattle.due.specs.OddJobs.{odd_due_of};
-ghost use Rattle.table.specs.Timer.{GoodTimer};
-ghost use Rattle.replay.specs.Arrays.{lasts_after_due, lists, PlaceInRange, CanGo, RecordPlayed};
+ghost use Rattle.replay.specs.Arrays.{lasts_after_due, PlaceInRange, CanGo, RecordPlayed};
 
 use crate::ticks::run_until;
-use crate::{Going, Logged, RecordStep, ServerOf, Source};
-use columns::{PutAnswer, ROOM};
-use due::Due;
+use crate::{Going, ServerOf, Source, Timer};
 use jobs::{Job, Pending};
 use kinds::{Refusal, RefusedAt, Serial, Tick};
 use records::Ready;
-use rings::TIMES;
 use table::Table;
 
 // The due time of a server's next job, by the server's last due time. A due time that is given becomes the last due time, and a refusal changes nothing. (4.4,
 // 4.9)
-fn next_odd(lasts: &mut [u64; Table::MAX_SERVERS], odd: ServerOf, release: Tick, cost: u64) -> Due
+fn next_odd(
+    lasts: &mut [Tick; Table::MAX_SERVERS],
+    odd: ServerOf,
+    release: Tick,
+    cost: u64,
+) -> Result<Tick, Refusal>
     requires { odd.place < max_servers }
-    ensures { (result ≡ odd_due_of odd.server (get_or lasts.old odd.place 0) release.0 cost)
+    ensures { (result ≡ odd_due_of odd.server (get_or lasts.old odd.place (record { 0 = 0 })).0 release.0 cost)
         × (lasts.new ≡ lasts_after_due result lasts.old odd.place) }
 {
-    let place = odd.place;
-    let last = Tick(lasts[place]);
-    match due::odd_due(odd.server, last, release, cost) {
-        Due::Refused(r) => Due::Refused(r),
-        Due::At(due) => {
-            lasts[place] = due.0;
-            Due::At(due)
-        }
-    }
+    let due = due::odd_due(odd.server, lasts[odd.place], release, cost)?;
+    lasts[odd.place] = due;
+    Ok(due)
 }
 
 // Plays a record whose numbers passed their tests: it ticks until the record's script time, and then releases the record's job. Time in which nothing is
-// pending is crossed in one go. `source` is the record's row or server, s and p are the table's timer, and `place` is the record's start, at which 8 and 9 are
-// refused. (8.2, 8.4, 8.5)
+// pending is crossed in one go. `source` is the record's row or server, and `place` is the record's start, at which 8 and 9 are refused. (8.2, 8.4, 8.5)
 pub(crate) fn play_record(
-    serials: &mut [u64; ROOM],
-    rows: &mut [u64; ROOM],
-    releases: &mut [u64; ROOM],
-    dues: &mut [u64; ROOM],
-    left: &mut [u64; ROOM],
-    times: &mut [u64; TIMES],
-    many: &mut [usize; Table::MAX_ROWS],
-    oldest: &mut [usize; Table::MAX_ROWS],
-    lasts: &mut [u64; Table::MAX_SERVERS],
+    going: &mut Going,
     log: &mut [u8],
-    going: Going,
+    timer: Timer,
     ready: Ready,
     source: Source,
-    s: u64,
-    p: u64,
     place: usize,
-) -> RecordStep
-    requires { GoodTimer s p × PlaceInRange source
-        × CanGo (lists serials.old rows.old releases.old dues.old left.old times.old many.old oldest.old lasts.old log.old) going ready }
+) -> Result<(), RefusedAt>
+    requires { PlaceInRange source × CanGo log.old going.old ready }
     ensures { (length log.new ≡ length log.old)
-        × RecordPlayed s p place ready source
-        (lists serials.old rows.old releases.old dues.old left.old times.old
-        many.old oldest.old lasts.old log.old) going
-        (lists serials.new rows.new releases.new dues.new left.new times.new
-        many.new oldest.new lasts.new log.new) result }
+        × RecordPlayed timer.s timer.p place ready source log.old log.new going.old going.new result }
 {
-    let time = ready.time;
-    let first = going.first;
-    let count = going.count;
-    let clock = going.clock;
-    let logged = Logged {
-        length: going.length,
-        late: going.late,
-        full: going.full,
-    };
-    let reached = run_until(
-        serials, rows, releases, dues, left, log, first, count, clock, time, s, p, logged,
+    run_until(
+        &mut going.jobs,
+        log,
+        &mut going.logged,
+        timer,
+        going.clock,
+        ready.time,
     );
-    let start = reached.first;
-    let pending = reached.count;
-    if Pending::PLACES <= pending {
-        return RecordStep::Refused(RefusedAt {
-            refusal: Refusal::PlacesFull,
-            place,
-        });
+    if Pending::PLACES <= going.jobs.count {
+        return Err(Refusal::PlacesFull.at(place));
     }
-    let number = ready.row;
-    let cost = ready.cost;
     let given = match source {
-        Source::Row(row) => rings::next_due(times, many, oldest, number, row, time, cost),
-        Source::Server(odd) => next_odd(lasts, odd, time, cost),
+        Source::Row(row) => going.rings.next_due(ready.row, row, ready.time, ready.cost),
+        Source::Server(odd) => next_odd(&mut going.lasts, odd, ready.time, ready.cost),
     };
     let due = match given {
-        Due::At(due) => due,
-        Due::Refused(refusal) => return RecordStep::Refused(RefusedAt { refusal, place }),
+        Ok(due) => due,
+        Err(refusal) => return Err(refusal.at(place)),
     };
-    let serial = going.next;
     let job = Job {
-        serial,
-        row: number,
-        release: time,
+        serial: going.next,
+        row: ready.row,
+        release: ready.time,
         due,
-        cost,
-        left: cost,
+        cost: ready.cost,
+        left: ready.cost,
     };
-    let answer = columns::put(serials, rows, releases, dues, left, start, pending, job);
-    match answer {
-        PutAnswer::Refused(refusal) => RecordStep::Refused(RefusedAt { refusal, place }),
-        PutAnswer::Stand(span) => {
-            let after = serial.0 + 1;
-            let next = Serial(after);
-            RecordStep::Next(Going {
-                first: span.first,
-                count: span.count,
-                clock: time,
-                next,
-                length: reached.length,
-                late: reached.late,
-                full: reached.full,
-            })
+    match going.jobs.put(job) {
+        Ok(()) => {
+            going.clock = ready.time;
+            going.next = Serial(going.next.0 + 1);
+            Ok(())
         }
+        Err(refusal) => Err(refusal.at(place)),
     }
 }

@@ -5,12 +5,12 @@ use mathlib.Core.Bool.{true}
 use native.Mathlib.Omega.{arith}
 use lib.ListN.{get_or, replicate, length-replicate, get_or-replicate}
 use lib.Seq.{get_or-set_same, get_or-set_other}
+use Rattle.std.specs.Prelude.{Ok}
 use Rattle.theory.proofs.Cases.{by_eq}
 use Rattle.table.specs.declared.Row.{Row}
 use Rattle.table.specs.Limits.{max_rows}
 use Rattle.table.specs.Tables.{no_row}
 use Rattle.table.proofs.SpelledTables.{in_range_means}
-use Rattle.due.specs.declared.Due.TheVariants as due
 use Rattle.due.specs.Kept.{nothing_kept, no_kept, due_of, kept_with}
 use Rattle.rings.specs.Rings.{max_times, rings, kept_in, ring_fits, rings_after_due}
 use Rattle.rings.specs.RingLaws.{RingsEmpty, DueIsTheRows, HoldsOn}
@@ -54,19 +54,19 @@ due_is_the_rows g n rows kept held number t cost h =
 pub holds_on : HoldsOn
 holds_on g n rows kept held room number t h =
     let r = get_or rows number no_row in
-    let after = rings_after_due (due.At t) g number r in
+    let after = rings_after_due (Ok t) g number r in
     let its = held.ready number h in
     let newest = kept_with (get_or kept number no_kept) r t in
     record {
       all_places = places_stay g number r t.0 held.all_places;
       ready = λ row inside. by_eq row number
-          (λ same. rw same (stays_ready g number r (due.At t) held.all_places its))
+          (λ same. rw same (stays_ready g number r (Ok t) held.all_places its))
           (λ ne.
           let before = held.ready row inside in
           record {
             in_use = before.in_use;
             in_range = before.in_range;
-            fits = (others_stay g number r (due.At t) its row ne).1 (get_or rows row no_row) ∙ before.fits;
+            fits = (others_stay g number r (Ok t) its row ne).1 (get_or rows row no_row) ∙ before.fits;
           });
       holds = λ row inside. by_eq row number
           (λ same. rw same
@@ -76,5 +76,5 @@ holds_on g n rows kept held room number t h =
           (λ ne.
           get_or-set_other kept number row newest no_kept ne
           ∙ held.holds row inside
-          ∙ sym (others_stay g number r (due.At t) its row ne).0);
+          ∙ sym (others_stay g number r (Ok t) its row ne).0);
     }

@@ -1,18 +1,21 @@
 -- What a row's ring holds are the row's kept due times. The due time of job j − x is the oldest of them, and a new due time takes its place.
 -- (docs/RULES.md, section 4.)
 use Prim.Native.Nat.{ℕ, ◌+◌, ◌-◌, ◌*◌, ◌≤◌, ◌<◌, max}
-use mathlib.Core.Path.{◌≡◌, sym, ap, ◌∙◌}
+use mathlib.Core.Path.{◌≡◌, refl, sym, ap, ◌∙◌}
 use mathlib.Core.Bool.{true, false, ◌&&◌, ◌||◌}
 use mathlib.Core.List.{List, [], ◌∷◌, ◌++◌, map, map-append}
 use native.Mathlib.Nat.{add-zero}
 use native.Mathlib.Omega.{arith}
 use lib.Dec.{leb, ltb, eqb}
 use lib.ListN.{length, take, drop, get_or, length-append, length-drop, length-map, get_or-append, get_or-map}
-use lib.Seq.{length-take-le, drop-drop, get_or-take, get_or-drop}
+use lib.Seq.{length-take-le, get_or-take, get_or-drop}
 use borrow.Author.Tests.{leb-true, ltb-true, le-leb, lt-leb, lt-ltb, le-ltb, eq-eqb, ne_eqb}
+use Rattle.std.specs.Prelude.{Option}
+use Rattle.std.specs.Bool.{then_some}
+use Rattle.std.proofs.lemmas.Slice.{drop-append-drop}
 use Rattle.kinds.specs.declared.Tick.{Tick}
 use Rattle.kinds.proofs.Apart.{impossible}
-use Rattle.theory.proofs.Cases.{by_lt, by_eq, by_test}
+use Rattle.theory.proofs.Cases.{by_lt, by_eq}
 use Rattle.table.specs.declared.Row.{Row}
 use Rattle.table.specs.SpelledTables.{WithinLimits}
 use Rattle.table.proofs.SpelledTables.{in_range_means}
@@ -22,11 +25,12 @@ use Rattle.due.specs.Kept.{max_kept, nothing_kept, kept_times, last_ones, kept_a
 use Rattle.due.proofs.Lists.{map-last_ones}
 use Rattle.due.proofs.Keeping.{no_time, rule_due, newest_with, kept_at, due_alone, due_spaced, kept_with_lem}
 use Rattle.due.proofs.NewestKept.{kept_as_lem}
-use Rattle.rings.specs.Rings.{Rings, ring_of, many_of, oldest_of, oldest_first, as_tick, kept_in, can_be}
+use Rattle.rings.specs.declared.Rings.{Rings}
+use Rattle.rings.specs.Rings.{ring_of, many_of, oldest_of, oldest_first, as_tick, kept_in}
 use Rattle.rings.specs.OneRing.{place_in, due_after}
 use Rattle.rings.specs.RingShapes.{Ready, InShape}
 use Rattle.rings.specs.RingLaws.{CanBeMeans}
-use Rattle.rings.proofs.Lists.{length-entries_from, entries_at, drop_past, turned_length}
+use Rattle.rings.proofs.Lists.{length-entries_from, entries_at, turned_length}
 
 -- ---- the test of a ring
 
@@ -52,39 +56,20 @@ can_be_means many o x = (
       rw (le-leb many x s.few, lt-ltb o x s.inside, ne_eqb o 0 ne, eq-eqb many x full)),
 )
 
-module _ (many o x : ℕ) where
-  -- With fewer than x kept, the test is that the oldest stands at place 0.
-  pub can_be_growing : many < x → eqb o 0 ≡ can_be many o x
-  can_be_growing h = by_eq o 0
-      (λ start. rw (le-leb many x (omega arith), lt-ltb o x (omega arith), eq-eqb o 0 start))
-      (λ ne. by_test (ltb o x)
-      (λ e. rw (le-leb many x (omega arith), e, ne_eqb o 0 ne, ne_eqb many x (λ same. omega arith)))
-      (λ e. rw (le-leb many x (omega arith), e, ne_eqb o 0 ne)))
-
-  -- With no fewer than x kept, the test is that x are kept and the oldest stands at a place below x.
-  pub can_be_grown : x ≤ many → (eqb many x && ltb o x) ≡ can_be many o x
-  can_be_grown h = by_eq many x
-      (λ same. by_test (ltb o x)
-      (λ e. by_eq o 0
-      (λ start. rw (le-leb many x (omega arith), e, eq-eqb many x same, eq-eqb o 0 start))
-      (λ ne. rw (le-leb many x (omega arith), e, eq-eqb many x same, ne_eqb o 0 ne)))
-      (λ e. rw (le-leb many x (omega arith), e, eq-eqb many x same)))
-      (λ ne. rw (lt-leb many x (omega arith), ne_eqb many x ne))
-
 -- ---- a row's ring
 
 -- Keeping a longer list over a shorter one is the same as keeping it alone.
 kept_over : (k : Kept) (l m : List Tick) → length l ≤ length m → kept_as (kept_as k l) m ≡ kept_as k m
-kept_over k l m h =
-    let whole : length l + (length m - length l) ≡ length m = omega arith in
-    ap (λ rest. record { times = m ++ rest; count = length m })
-    (drop_past (length m) l (drop (length l) k.times) h
-    ∙ drop-drop (length m - length l) (length l) k.times
-    ∙ ap (λ n. drop n k.times) whole)
+kept_over k l m h = ap (λ rest. record { times = m ++ rest; count = length m }) (drop-append-drop (length l) k.times l (length m) h refl)
 
 -- The due times that a row's ring holds, oldest first.
 abbrev pub order_of : Rings → (row : ℕ) → List ℕ
 order_of g row = oldest_first (many_of g row) (oldest_of g row) (ring_of g row)
+
+-- The due time that a row's next one is spaced from, once x are kept: the one that stands at the place where the next one goes.
+abbrev pub spaced_from : Rings → (number x : ℕ) → Option ℕ
+spaced_from g number x =
+    then_some (leb x (many_of g number)) (get_or g.times (number * max_kept + place_in (many_of g number) (oldest_of g number) x) 0)
 
 -- The kept due times of a row are those that its ring holds, oldest first.
 kept_order : (g : Rings) (row : ℕ) → kept_times (kept_in g row) ≡ map as_tick (order_of g row)
@@ -144,19 +129,11 @@ module _ {g : Rings} {number : ℕ} {r : Row} (ready : Ready g number r) where
       ∙ ap (λ n. max (t + r.d) ((get_or (kept_in g number).times n no_time).0 + r.y)) none
       ∙ ap (λ n. max (t + r.d) (n + r.y)) (oldest_kept h)
 
-  -- The due time by the rule follows from the due time that stands at the place for the next one.
-  pub due_by_place : (t : ℕ) → rule_due (kept_in g number) r t
-      ≡ due_after t r.d r.y (leb r.x (many_of g number))
-      (get_or g.times (number * max_kept + place_in (many_of g number) (oldest_of g number) r.x) 0)
-  due_by_place t = by_lt (many_of g number) r.x
+  -- The due time by the rule follows from the due time that the next one is spaced from.
+  pub due_by_ring : (t : ℕ) → rule_due (kept_in g number) r t ≡ due_after t r.d r.y (spaced_from g number r.x)
+  due_by_ring t = by_lt (many_of g number) r.x
       (λ h. due_of_few t h ∙ rw (lt-leb r.x (many_of g number) h))
       (λ h. due_of_full t h ∙ rw (le-leb r.x (many_of g number) h, le-ltb (many_of g number) r.x h))
-
-  -- The next due time goes into one of the ring's places.
-  pub place_within : place_in (many_of g number) (oldest_of g number) r.x < max_kept
-  place_within = by_lt (many_of g number) r.x
-      (λ h. rw (lt-ltb (many_of g number) r.x h) (omega (arith, row_within.most_x)))
-      (λ h. rw (le-ltb (many_of g number) r.x h) (omega (arith, shape.inside, row_within.most_x)))
 
   -- ---- one due time more
 

@@ -7,7 +7,7 @@ use native.Mathlib.Nat.{add-zero}
 use native.Mathlib.Numerals.{add-one}
 use native.Mathlib.Omega.{arith}
 use lib.ListN.{length, take, drop, get_or, set, length-append, length-take, length-drop, length-set, drop_of_length-le}
-use lib.Seq.{take_all, take-set-lt, take-suc-set, drop-append-le, drop-append-add, drop-drop, drop-set-lt, get_or-set_same, get_or-set_other}
+use lib.Seq.{take_all, take-set-lt, take-suc-set, drop-append-le, drop-drop, drop-set-lt, get_or-set_same, get_or-set_other}
 use borrow.Author.Tests.{lt-ltb, le-ltb}
 use Rattle.theory.proofs.Cases.{by_lt}
 use Rattle.due.specs.Kept.{last_ones}
@@ -56,12 +56,6 @@ entries_inside (suc n) at (suc i) v l h room =
 
 -- ---- a list in turn
 
--- Dropping more than the first part of a list leaves nothing of that part.
-pub drop_past : {A : Type 0} (n : ℕ) (l m : List A) → length l ≤ n → drop n (l ++ m) ≡ drop (n - length l) m
-drop_past n l m h =
-    let parts : n ≡ length l + (n - length l) = omega arith in
-    ap (λ i. drop i (l ++ m)) parts ∙ drop-append-add l m (n - length l)
-
 -- A list in turn is as long as the list.
 pub turned_length : (o : ℕ) (l : List ℕ) → length (drop o l ++ take o l) ≡ length l
 turned_length o l = omega (arith, length-append (drop o l) (take o l), length-drop o l, length-take o l)
@@ -70,17 +64,9 @@ turned_length o l = omega (arith, length-append (drop o l) (take o l), length-dr
 pub not_turned : (o : ℕ) (l : List ℕ) → o ≡ 0 → drop o l ++ take o l ≡ l
 not_turned o l e = rw e (append-nil l)
 
--- The place after the oldest's is the next one, unless the oldest's is the last.
-pub place_behind : (o x : ℕ) → o + 1 < x → o + 1 ≡ place_after_oldest o x
-place_behind o x h = rw (lt-ltb (o + 1) x h)
-
--- The place after the last is place 0.
-pub place_at_start : (o x : ℕ) → x ≤ o + 1 → 0 ≡ place_after_oldest o x
-place_at_start o x h = rw (le-ltb (o + 1) x h)
-
 -- The place after the oldest's is below x.
 pub place_inside : (o x : ℕ) → o < x → place_after_oldest o x < x
-place_inside o x h = by_lt (o + 1) x (λ k. rw (lt-ltb (o + 1) x k) k) (λ k. rw (le-ltb (o + 1) x k) (omega arith))
+place_inside o x h = by_lt (o + 1) x (λ k. rw (lt-ltb (o + 1) x k) (omega arith)) (λ k. rw (le-ltb (o + 1) x k) (omega arith))
 
 module _ (o x : ℕ) (l : List ℕ) (v : ℕ) (all : length l ≡ x) (inside : o < x) where
   -- Of a list of x in turn with one value added, the newest x are all but the oldest, and the added value.

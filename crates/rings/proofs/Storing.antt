@@ -8,12 +8,13 @@ use native.Mathlib.Omega.{arith}
 use lib.ListN.{length, take, get_or, set, length-append, length-set}
 use lib.Seq.{get_or-set_same, get_or-set_other}
 use borrow.Author.Tests.{lt-ltb, le-ltb}
+use Rattle.std.specs.Prelude.{Ok, Err}
 use Rattle.theory.proofs.Cases.{by_lt}
 use Rattle.table.specs.declared.Row.{Row}
-use Rattle.due.specs.declared.Due.TheVariants as due
 use Rattle.due.specs.Kept.{max_kept, last_ones}
 use Rattle.due.proofs.Lists.{last_ones_all}
-use Rattle.rings.specs.Rings.{Rings, rings, entries_from, ring_of, many_of, oldest_of, oldest_first, kept_in, ring_fits, place_after_oldest, stored}
+use Rattle.rings.specs.declared.Rings.{Rings}
+use Rattle.rings.specs.Rings.{rings, entries_from, ring_of, many_of, oldest_of, oldest_first, kept_in, ring_fits, place_after_oldest, stored}
 use Rattle.rings.specs.OneRing.{place_in}
 use Rattle.rings.specs.RingShapes.{AllRingPlaces, Ready}
 use Rattle.rings.specs.RingLaws.{KeepsInTheRing, StaysReady, OthersStay}
@@ -116,8 +117,8 @@ keeps_in_the_ring g number r t whole ready = by_lt (many_of g number) r.x
     ∙ keeps_one_more ready t (instead g number r.x t.0) (order_instead whole ready t.0 h))
 
 pub stays_ready : StaysReady
-stays_ready g number r (due.Refused e) whole ready = ready
-stays_ready g number r (due.At t) whole ready = record {
+stays_ready g number r (Err e) whole ready = ready
+stays_ready g number r (Ok t) whole ready = record {
   in_use = ready.in_use;
   in_range = ready.in_range;
   fits = by_lt (many_of g number) r.x
@@ -156,8 +157,8 @@ module _ (g : Rings) (number i v : ℕ) (inside : i < max_kept) (many oldest : L
   other_stays same old = (rw (apart number other i v g.times ne inside, same, old), λ its. rw (same, old))
 
 pub others_stay : OthersStay
-others_stay g number r (due.Refused e) ready other ne = (refl, λ its. refl)
-others_stay g number r (due.At t) ready other ne = by_lt (many_of g number) r.x
+others_stay g number r (Err e) ready other ne = (refl, λ its. refl)
+others_stay g number r (Ok t) ready other ne = by_lt (many_of g number) r.x
     (λ h. rw (stored_behind g number r t.0 h)
     (other_stays g number (many_of g number) t.0 (omega (arith, (row_within ready).most_x)) (set g.many number (many_of g number + 1)) g.oldest other ne
     (get_or-set_other g.many number other (many_of g number + 1) 0 ne)

@@ -1,19 +1,19 @@
 -- The laws of rings: a due time is the row's, it is kept, and each answer is given exactly when it should be. (docs/RULES.md, section 4.)
-use Rattle.std.specs.Prelude.{ℕ, ◌≤◌, ◌<◌, ◌≡◌, ◌↔◌, ◌≢◌, true, false, List, [], ◌∷◌, length, get_or, set, replicate}
+use Rattle.std.specs.Prelude.{ℕ, ◌≤◌, ◌<◌, ◌≡◌, ◌↔◌, ◌≢◌, true, false, List, [], ◌∷◌, length, get_or, set, replicate, Result, Ok}
 use Rattle.kinds.specs.Numbering.{max_time, values, refused_with}
 use Rattle.kinds.specs.declared.Tick.{Tick}
+use Rattle.kinds.specs.declared.Refusal.{Refusal}
 use Rattle.theory.specs.DueTimes.{due_time}
 use Rattle.table.specs.declared.Row.{Row}
 use Rattle.table.specs.Limits.{max_rows}
 use Rattle.table.specs.Rows.{row_in_range}
 use Rattle.table.specs.Tables.{no_row}
 use Rattle.due.specs.declared.Kept.{Kept}
-use Rattle.due.specs.declared.Due.{Due}
-use Rattle.due.specs.declared.Due.TheVariants as due
 use Rattle.due.specs.Kept.{nothing_kept, no_kept, earlier, due_of, kept_with}
 use Rattle.due.specs.Answers.{due_says}
 use Rattle.due.specs.KeptTimes.{GivenDue}
-use Rattle.rings.specs.Rings.{Rings, empty_rings, kept_in, can_be, ring_fits, due_in, rings_after_due}
+use Rattle.rings.specs.declared.Rings.{Rings}
+use Rattle.rings.specs.Rings.{empty_rings, kept_in, can_be, ring_fits, due_in, rings_after_due}
 use Rattle.rings.specs.RingShapes.{AllRingPlaces, Ready, InShape, RingsHold}
 
 -- ---- a row's ring (proofs/Keeping.antt)
@@ -25,15 +25,16 @@ CanBeMeans = (many oldest x : ℕ) → (can_be many oldest x ≡ true) ↔ InSha
 -- A due time that is given to a row that is ready is kept. The row's ring then holds the newest x of what it held and the new one. (4.6)
 abbrev pub KeepsInTheRing : Type 0
 KeepsInTheRing = (g : Rings) (number : ℕ) (row : Row) (t : Tick) → AllRingPlaces g → Ready g number row
-    → kept_in (rings_after_due (due.At t) g number row) number ≡ kept_with (kept_in g number) row t
+    → kept_in (rings_after_due (Ok t) g number row) number ≡ kept_with (kept_in g number) row t
 
 -- A row that is ready for a due time is still ready after any answer.
 abbrev pub StaysReady : Type 0
-StaysReady = (g : Rings) (number : ℕ) (row : Row) (answer : Due) → AllRingPlaces g → Ready g number row → Ready (rings_after_due answer g number row) number row
+StaysReady = (g : Rings) (number : ℕ) (row : Row) (answer : Result Tick Refusal) → AllRingPlaces g → Ready g number row
+    → Ready (rings_after_due answer g number row) number row
 
 -- An answer for one row leaves the ring of every other row alone. That ring holds the same due times, and can be the ring of the same rows. (4.1)
 abbrev pub OthersStay : Type 0
-OthersStay = (g : Rings) (number : ℕ) (row : Row) (answer : Due) → Ready g number row → (other : ℕ) → other ≢ number
+OthersStay = (g : Rings) (number : ℕ) (row : Row) (answer : Result Tick Refusal) → Ready g number row → (other : ℕ) → other ≢ number
     → (kept_in (rings_after_due answer g number row) other ≡ kept_in g other)
     × ((its : Row) → ring_fits (rings_after_due answer g number row) other its ≡ ring_fits g other its)
 
@@ -82,5 +83,5 @@ DueIsTheRows = (g : Rings) (n : ℕ) (rows : List Row) (kept : List Kept) → Ri
 -- After a due time is given to a row, the rings hold the kept due times of every row, with the new one kept for that row. (4.6)
 abbrev pub HoldsOn : Type 0
 HoldsOn = (g : Rings) (n : ℕ) (rows : List Row) (kept : List Kept) → RingsHold g n rows kept → n ≤ length kept → (number : ℕ) (t : Tick) → number < n
-    → RingsHold (rings_after_due (due.At t) g number (get_or rows number no_row)) n rows
+    → RingsHold (rings_after_due (Ok t) g number (get_or rows number no_row)) n rows
     (set kept number (kept_with (get_or kept number no_kept) (get_or rows number no_row) t))

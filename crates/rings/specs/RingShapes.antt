@@ -6,7 +6,8 @@ use Rattle.table.specs.Rows.{row_in_range}
 use Rattle.table.specs.Tables.{no_row}
 use Rattle.due.specs.declared.Kept.{Kept}
 use Rattle.due.specs.Kept.{no_kept}
-use Rattle.rings.specs.Rings.{max_times, Rings, kept_in, ring_fits}
+use Rattle.rings.specs.declared.Rings.{Rings}
+use Rattle.rings.specs.Rings.{max_times, kept_in, ring_fits}
 
 -- Each of the three arrays has all its places. Every array that the call is lent has them, by its type.
 pub record AllRingPlaces (g : Rings) : Type 0 where

@@ -1,27 +1,22 @@
 -- The kept due times of all rows in three arrays. Each row has a ring of places of its own. This page says where a row's due times stand, what the next due
 -- time is, and how the arrays change when it is given. (docs/RULES.md, section 4.)
 use Rattle.std.specs.Prelude.{ℕ, zero, suc, ◌+◌, ◌*◌, Bool, cond, ◌&&◌, ◌||◌, List, [], ◌∷◌, ◌++◌, map, leb, ltb, eqb, take, drop, get_or, set, replicate}
+use Rattle.std.specs.Prelude.{Result, Ok, Err}
 use Rattle.kinds.specs.declared.Tick.{Tick}
+use Rattle.kinds.specs.declared.Refusal.{Refusal}
 use Rattle.kinds.specs.declared.Refusal.TheVariants.{ValueOutOfRange, NoSuchRow, RunNotSound}
 use Rattle.table.specs.declared.Row.{Row}
 use Rattle.table.specs.Limits.{max_rows}
 use Rattle.table.specs.Rows.{row_in_range}
 use Rattle.due.specs.declared.Kept.{Kept}
-use Rattle.due.specs.declared.Due.{Due}
-use Rattle.due.specs.declared.Due.TheVariants as due
 use Rattle.due.specs.Kept.{max_kept, nothing_kept, kept_as, due_of}
+use Rattle.rings.specs.declared.Rings.{Rings}
 
 -- ---- the arrays
 
 -- There is room for the kept due times of as many rows as a table may have, for each row as many as x may be. (3.1, 3.2, 4.6)
 abbrev pub max_times : ℕ
 max_times = max_rows * max_kept
-
--- The three arrays are the due times of all rows, how many due times each row keeps, and at which place in its ring each row's oldest stands.
-pub record Rings : Type 0 where
-  pub times : List ℕ
-  pub many : List ℕ
-  pub oldest : List ℕ
 
 -- The rings that three arrays make.
 abbrev pub rings : (times many oldest : List ℕ) → Rings
@@ -74,11 +69,11 @@ ring_fits g number row = can_be (many_of g number) (oldest_of g number) row.x
 
 -- The due time of the next job of the row with this number, released at t with a stated cost, by what the row's ring holds. A row number that no table can
 -- have is refusal 6, a row out of range is 3, a ring that can't be the row's is 11, and a due time above 2^40 is 9. (4.2, 4.3, 4.7, 10.7)
-unfoldable pub due_in : Rings → (number : ℕ) → Row → (t cost : ℕ) → Due
+unfoldable pub due_in : Rings → (number : ℕ) → Row → (t cost : ℕ) → Result Tick Refusal
 due_in g number row t cost =
     cond (ltb number max_rows)
-    (cond (row_in_range row) (cond (ring_fits g number row) (due_of (kept_in g number) row t cost) (due.Refused RunNotSound)) (due.Refused ValueOutOfRange))
-    (due.Refused NoSuchRow)
+    (cond (row_in_range row) (cond (ring_fits g number row) (due_of (kept_in g number) row t cost) (Err RunNotSound)) (Err ValueOutOfRange))
+    (Err NoSuchRow)
 
 -- The place after the oldest's in a ring of x places. After the last of them it is place 0.
 abbrev pub place_after_oldest : (oldest x : ℕ) → ℕ
@@ -93,6 +88,6 @@ stored g number row due =
     (rings (set g.times (number * max_kept + oldest_of g number) due) g.many (set g.oldest number (place_after_oldest (oldest_of g number) row.x)))
 
 -- The rings after an answer. A due time that is given is stored for its row. A refusal leaves every due time alone. (4.4, 4.6, 10.7)
-abbrev pub rings_after_due : Due → Rings → (number : ℕ) → Row → Rings
-rings_after_due (due.At t) g number row = stored g number row t.0
-rings_after_due (due.Refused r) g number row = g
+abbrev pub rings_after_due : Result Tick Refusal → Rings → (number : ℕ) → Row → Rings
+rings_after_due (Ok t) g number row = stored g number row t.0
+rings_after_due (Err r) g number row = g

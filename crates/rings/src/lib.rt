@@ -1,14 +1,14 @@
-// The kept due times of all rows in lent arrays. Each row has a ring of places of its own, so that its next due time is found and kept without moving any
+// The kept due times of all rows in a lent struct of arrays. Each row has a ring of places of its own, so that its next due time is found and kept without moving any
 // other. (docs/RULES.md, section 4.)
 #![tactic(auto)]
 
 ghost use Rattle.std.specs.Prelude.{◌≡◌, ◌≤◌, ◌<◌};
 ghost use Rattle.table.specs.Limits.{max_y, max_d};
 ghost use Rattle.due.specs.Kept.{not_too_late};
-ghost use Rattle.rings.specs.Rings.{max_times, rings, can_be, place_after_oldest, due_in, rings_after_due};
+ghost use Rattle.rings.specs.Rings.{max_times, empty_rings, can_be, place_after_oldest, due_in, rings_after_due};
 ghost use Rattle.rings.specs.OneRing.{place_in, due_after};
 
-use due::{Due, Kept};
+use due::{Kept, in_time};
 use kinds::{Refusal, RowNumber, Tick};
 use table::{Row, Table};
 
@@ -22,47 +22,63 @@ pub fn limit() -> usize
     TIMES
 }
 
-// The due time of a row's next job, released at a time with a stated cost, by what the row's ring holds. A due time that is given is kept there. A row
-// number that no table has room for is refusal 6, a row out of range is 3, a ring that can't be the row's is 11, and a due time above 2^40 is 9. A refusal
-// changes nothing.
-pub fn next_due(
-    times: &mut [u64; TIMES],
-    many: &mut [usize; Table::MAX_ROWS],
-    oldest: &mut [usize; Table::MAX_ROWS],
-    number: RowNumber,
-    row: Row,
-    release: Tick,
-    cost: u64,
-) -> Due
-    ensures { (result ≡ due_in (rings times.old many.old oldest.old) number.0 row release.0 cost)
-        × (rings times.new many.new oldest.new
-        ≡ rings_after_due result (rings times.old many.old oldest.old) number.0 row) }
-{
-    if Table::MAX_ROWS as u64 <= number.0 {
-        return Due::Refused(Refusal::NoSuchRow);
-    }
-    if !row.in_range() {
-        return Due::Refused(Refusal::ValueOutOfRange);
-    }
-    let its = number.0 as usize;
-    let x = row.x as usize;
-    let held = many[its];
-    let at = oldest[its];
-    if !can_be(held, at, x) {
-        return Due::Refused(Refusal::RunNotSound);
-    }
-    let place = its * Kept::MAX + place_in(held, at, x);
-    match due_by(release.0, row.d, row.y, x <= held, times[place]) {
-        Due::Refused(r) => Due::Refused(r),
-        Due::At(due) => {
-            times[place] = due.0;
-            if held < x {
-                many[its] = held + 1;
-                return Due::At(due);
-            }
-            oldest[its] = place_after(at, x);
-            Due::At(due)
+// The rings of all rows: the due times that they hold, how many each row keeps, and at which place in its ring each row's oldest stands. (4.6)
+// They are three arrays of numbers, because the theorems of the rings (`AllRingPlaces`, `RingsHold`) speak of three lists.
+#[derive(Drop)]
+pub struct Rings {
+    pub times: [u64; TIMES],
+    pub many: [usize; Table::MAX_ROWS],
+    pub oldest: [usize; Table::MAX_ROWS],
+}
+
+impl Rings {
+    // Before the first release no due time is kept. (6.3)
+    pub fn empty() -> Rings
+        ensures { result ≡ empty_rings }
+    {
+        Rings {
+            times: [0; TIMES],
+            many: [0; Table::MAX_ROWS],
+            oldest: [0; Table::MAX_ROWS],
         }
+    }
+
+    // The due time of a row's next job, released at a time with a stated cost, by what the row's ring holds. A due time that is given is kept there. A row
+    // number that no table has room for is refusal 6, a row out of range is 3, a ring that can't be the row's is 11, and a due time above 2^40 is 9. A refusal
+    // changes nothing. The cost plays no part. (4.4, 4.6, 4.7, 4.8, 10.7)
+    pub fn next_due(
+        &mut self,
+        number: RowNumber,
+        row: Row,
+        release: Tick,
+        cost: u64,
+    ) -> Result<Tick, Refusal>
+        ensures answer { result ≡ due_in self.old number.0 row release.0 cost }
+        ensures rings { self.new ≡ rings_after_due result self.old number.0 row }
+    {
+        if Table::MAX_ROWS as u64 <= number.0 {
+            return Err(Refusal::NoSuchRow);
+        }
+        if !row.in_range() {
+            return Err(Refusal::ValueOutOfRange);
+        }
+        let its = number.0 as usize;
+        let x = row.x as usize;
+        let held = self.many[its];
+        let at = self.oldest[its];
+        if !can_be(held, at, x) {
+            return Err(Refusal::RunNotSound);
+        }
+        let place = its * Kept::MAX + place_in(held, at, x);
+        let before = (x <= held).then_some(self.times[place]);
+        let due = due_by(release, row.d, row.y, before)?;
+        self.times[place] = due.0;
+        if held < x {
+            self.many[its] = held + 1;
+        } else {
+            self.oldest[its] = place_after(at, x);
+        }
+        Ok(due)
     }
 }
 
@@ -72,9 +88,10 @@ fn can_be(many: usize, oldest: usize, x: usize) -> bool
     ensures { result ≡ can_be many oldest x }
 {
     if many < x {
-        return oldest == 0;
+        oldest == 0
+    } else {
+        many == x && oldest < x
     }
-    (many == x) & (oldest < x)
 }
 
 // The place in a row's ring where its next due time goes. It is the first unused place while fewer than x are kept, and the oldest's place after that. (4.6)
@@ -92,35 +109,16 @@ fn place_after(oldest: usize, x: usize) -> usize
     if oldest + 1 < x { oldest + 1 } else { 0 }
 }
 
-// The due time of a job released at t, or refusal 9. It is t + d; once x due times are kept (`full`), it is the later of t + d and the oldest + y. A t or an
-// oldest above 2^40 is refused before it is added to, so that no sum overflows. (4.2, 4.3, 4.7)
-fn due_by(t: u64, d: u64, y: u64, full: bool, oldest: u64) -> Due
+// The due time of a job released at a time, or refusal 9. It is t + d; if it is spaced from an earlier due time, it is the later of t + d and that one + y. A
+// release or an earlier due time above 2^40 is refused before it is added to, so that no sum overflows. (4.2, 4.3, 4.7)
+fn due_by(release: Tick, d: u64, y: u64, before: Option<u64>) -> Result<Tick, Refusal>
     requires { (d ≤ max_d) × (y ≤ max_y) }
-    ensures { result ≡ not_too_late (due_after t d y full oldest) }
+    ensures { result ≡ not_too_late (due_after release.0 d y before) }
 {
-    if Tick::MAX < t {
-        return Due::Refused(Refusal::DueTooLate);
+    let plain = in_time(release)?.0 + d;
+    if let Some(before) = before {
+        let spaced = in_time(Tick(before))?.0 + y;
+        return in_time(Tick(plain.max(spaced)));
     }
-    let plain = t + d;
-    if !full {
-        return in_time(plain);
-    }
-    if Tick::MAX < oldest {
-        return Due::Refused(Refusal::DueTooLate);
-    }
-    let spaced = oldest + y;
-    if plain < spaced {
-        return in_time(spaced);
-    }
-    in_time(plain)
-}
-
-// A due time of at most 2^40 stands, and one above it is refusal 9. (4.7)
-fn in_time(due: u64) -> Due
-    ensures { result ≡ not_too_late due }
-{
-    if Tick::MAX < due {
-        return Due::Refused(Refusal::DueTooLate);
-    }
-    Due::At(Tick(due))
+    in_time(Tick(plain))
 }

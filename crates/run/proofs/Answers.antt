@@ -1,4 +1,7 @@
 -- No answer of start, release, tick or end is numbered 0, different answers say different things, and each answer says what the laws state.
+use Rattle.std.specs.Prelude.{Result, Ok, Err}
+use Rattle.kinds.specs.declared.Refusal.{Refusal}
+use Rattle.run.specs.declared.Accepted.{Accepted}
 use Prim.Native.Nat.{ℕ, ◌≤◌}
 use mathlib.Core.Path.{◌≡◌, refl, sym, ap, ap₂}
 use Rattle.kinds.specs.Numbering.{refusal_number, NeverNumberedZero, SaysApart}
@@ -6,23 +9,18 @@ use Rattle.kinds.proofs.Apart.{impossible}
 use Rattle.kinds.proofs.Numbering.{numbers_differ, never_zero, refusals_apart}
 use Rattle.jobs.specs.declared.Finished.{Finished}
 use Rattle.jobs.proofs.Answers.{finished_apart}
-use Rattle.run.specs.declared.StartAnswer.TheVariants as start
-use Rattle.run.specs.declared.Released.{Released}
-use Rattle.run.specs.declared.Released.TheVariants as release
 use Rattle.run.specs.declared.Ticked.{Ticked}
 use Rattle.run.specs.declared.Ticked.TheVariants as tick
-use Rattle.run.specs.declared.Ended.{Ended}
-use Rattle.run.specs.declared.Ended.TheVariants as end
 use Rattle.run.specs.Answers.{start_says, ReleaseSays, release_says, TickSays, tick_says, EndingSays, end_says, RunsNeverZero, RunsSaidApart}
 use Rattle.run.specs.Answers as says
 
 start_never_zero : NeverNumberedZero start_says
-start_never_zero start.Ready = tt
-start_never_zero (start.Refused r) = never_zero r.refusal
+start_never_zero (Ok done) = tt
+start_never_zero (Err r) = never_zero r.refusal
 
-release_never_zero : (a : Released) (number place : ℕ) → release_says a ≡ ReleaseSays.refused number place → 1 ≤ number
-release_never_zero (release.Accepted a) number place e = impossible cc
-release_never_zero (release.Refused r) number place e = let its : refusal_number r ≡ number = cc in rw (sym its) (never_zero r)
+release_never_zero : (a : Result Accepted Refusal) (number place : ℕ) → release_says a ≡ ReleaseSays.refused number place → 1 ≤ number
+release_never_zero (Ok a) number place e = impossible cc
+release_never_zero (Err r) number place e = let its : refusal_number r ≡ number = cc in rw (sym its) (never_zero r)
 
 tick_never_zero : (a : Ticked) (number place : ℕ) → tick_says a ≡ TickSays.refused number place → 1 ≤ number
 tick_never_zero tick.Idle number place e = impossible cc
@@ -30,27 +28,27 @@ tick_never_zero (tick.Ran r) number place e = impossible cc
 tick_never_zero tick.Taken number place e = impossible cc
 tick_never_zero (tick.Refused r) number place e = let its : refusal_number r ≡ number = cc in rw (sym its) (never_zero r)
 
-end_never_zero : (a : Ended) (number place : ℕ) → end_says a ≡ EndingSays.refused number place → 1 ≤ number
-end_never_zero (end.Units n) number place e = impossible cc
-end_never_zero (end.Refused r) number place e = let its : refusal_number r ≡ number = cc in rw (sym its) (never_zero r)
+end_never_zero : (a : Result ℕ Refusal) (number place : ℕ) → end_says a ≡ EndingSays.refused number place → 1 ≤ number
+end_never_zero (Ok n) number place e = impossible cc
+end_never_zero (Err r) number place e = let its : refusal_number r ≡ number = cc in rw (sym its) (never_zero r)
 
 pub runs_never_zero : RunsNeverZero
 runs_never_zero = (start_never_zero, release_never_zero, tick_never_zero, end_never_zero)
 
 start_apart : SaysApart start_says
-start_apart start.Ready start.Ready e = refl
-start_apart start.Ready (start.Refused r) e = impossible cc
-start_apart (start.Refused q) start.Ready e = impossible cc
-start_apart (start.Refused q) (start.Refused r) e = ap start.Refused (refusals_apart q r e)
+start_apart (Ok done) (Ok again) e = refl
+start_apart (Ok done) (Err r) e = impossible cc
+start_apart (Err q) (Ok done) e = impossible cc
+start_apart (Err q) (Err r) e = ap Err (refusals_apart q r e)
 
-release_apart : (a b : Released) → release_says a ≡ release_says b → a ≡ b
-release_apart (release.Accepted a) (release.Accepted b) e =
+release_apart : (a b : Result Accepted Refusal) → release_says a ≡ release_says b → a ≡ b
+release_apart (Ok a) (Ok b) e =
     let serial : a.serial.0 ≡ b.serial.0 = cc in
     let due : a.due.0 ≡ b.due.0 = cc in
-    ap₂ (λ (s d : ℕ). release.Accepted (record { serial = record { 0 = s }; due = record { 0 = d } })) serial due
-release_apart (release.Accepted a) (release.Refused r) e = impossible cc
-release_apart (release.Refused q) (release.Accepted b) e = impossible cc
-release_apart (release.Refused q) (release.Refused r) e = ap release.Refused (numbers_differ q r cc)
+    ap₂ (λ (s d : ℕ). Ok (record { serial = record { 0 = s }; due = record { 0 = d } })) serial due
+release_apart (Ok a) (Err r) e = impossible cc
+release_apart (Err q) (Ok b) e = impossible cc
+release_apart (Err q) (Err r) e = ap Err (numbers_differ q r cc)
 
 tick_apart : (a b : Ticked) → tick_says a ≡ tick_says b → a ≡ b
 tick_apart tick.Idle tick.Idle e = refl
@@ -72,11 +70,11 @@ tick_apart tick.Taken (tick.Ran r) e = impossible cc
 tick_apart tick.Taken (tick.Refused r) e = impossible cc
 tick_apart tick.Taken tick.Taken e = refl
 
-end_apart : (a b : Ended) → end_says a ≡ end_says b → a ≡ b
-end_apart (end.Units m) (end.Units n) e = let units : m ≡ n = cc in ap end.Units units
-end_apart (end.Units m) (end.Refused r) e = impossible cc
-end_apart (end.Refused q) (end.Units n) e = impossible cc
-end_apart (end.Refused q) (end.Refused r) e = ap end.Refused (numbers_differ q r cc)
+end_apart : (a b : Result ℕ Refusal) → end_says a ≡ end_says b → a ≡ b
+end_apart (Ok m) (Ok n) e = let units : m ≡ n = cc in ap Ok units
+end_apart (Ok m) (Err r) e = impossible cc
+end_apart (Err q) (Ok n) e = impossible cc
+end_apart (Err q) (Err r) e = ap Err (numbers_differ q r cc)
 
 pub runs_said_apart : RunsSaidApart
 runs_said_apart = (start_apart, release_apart, tick_apart, end_apart)

@@ -1,5 +1,6 @@
 -- Each answer of an end follows from the tests that lead to it. A refused end changes nothing. One that is done takes out the job with the serial, and a sound
 -- run stays sound. Ticks and ends leave every history of due times as it was. (docs/RULES.md, sections 6.17, 6.18, 6.25 and 6.27 to 6.30.)
+use Rattle.std.specs.Prelude.{Option, Some, None, Ok}
 use Prim.Native.Nat.{ℕ, ◌+◌, ◌≤◌, ◌<◌}
 use mathlib.Core.Path.{◌≡◌, refl, sym, subst}
 use mathlib.Core.Bool.{true, false}
@@ -11,16 +12,13 @@ use Rattle.kinds.specs.declared.Refusal.TheVariants.{RunNotSound, NotPending, To
 use Rattle.kinds.proofs.Apart.{impossible}
 use Rattle.theory.proofs.Cases.{by_lt, by_test}
 use Rattle.jobs.specs.declared.Job.{Job}
-use Rattle.jobs.specs.declared.Choice.{Choice}
-use Rattle.jobs.specs.declared.Choice.TheVariants as choice
-use Rattle.jobs.specs.Places.{no_job, jobs_of, used, without}
+use Rattle.jobs.specs.Places.{max_places, no_job, jobs_of, used, without}
 use Rattle.jobs.specs.Serials.{place_of}
 use Rattle.jobs.specs.JobChanges.{WellFormed}
 use Rattle.jobs.proofs.Changes.{found_means, nobody_found_means, taken_out_is_without, taken_out_keeps_form, taken_out_keeps_serials}
 use Rattle.jobs.proofs.Changes.{without_is_one_less, distinct_means}
 use Rattle.run.specs.declared.Run.{Run}
 use Rattle.run.specs.declared.EndStep.{EndStep}
-use Rattle.run.specs.declared.Ended.TheVariants as answer
 use Rattle.run.specs.Sound.{max_ended, sound_of, SoundJob, Whole}
 use Rattle.run.specs.Ending.{refused_end, units_given, with_ended, ended}
 use Rattle.run.specs.Answers.{EndingSays, ended_with, end_says}
@@ -35,11 +33,11 @@ use Rattle.run.proofs.Ticking.{Good, facts, counted, formed, each_without, by_an
 
 -- The end of the job at a place, where it is done: the units that the job was given are answered.
 abbrev pub done_at : Run → (at : ℕ) → EndStep
-done_at run at = record { run = with_ended run at; answer = answer.Units (units_given (get_or (jobs_of run.pending) at no_job)) }
+done_at run at = record { run = with_ended run at; answer = Ok (units_given (get_or (jobs_of run.pending) at no_job)) }
 
 module _ (run : Run) (serial : ℕ) where
   -- The place that is found for the serial.
-  abbrev pub found : Choice
+  abbrev pub found : Option ℕ
   found = place_of serial (jobs_of run.pending)
 
   -- An end on a run that is not sound is refused with 11.
@@ -49,11 +47,11 @@ module _ (run : Run) (serial : ℕ) where
 
   module _ (sound : sound_of run ≡ true) where
     -- An end for a serial that no pending job has is refused with 17.
-    pub end_nobody : found ≡ choice.Nobody → refused_end run NotPending ≡ ended run serial
+    pub end_nobody : found ≡ None → refused_end run NotPending ≡ ended run serial
     unfolding ended
     end_nobody e = simp (sound, e)
 
-    module _ (at : ℕ) (there : found ≡ choice.Place at) where
+    module _ (at : ℕ) (there : found ≡ Some at) where
       -- An end after 2^40 ended jobs is refused with 18.
       pub end_too_many : max_ended ≤ run.ended → refused_end run TooManyEnded ≡ ended run serial
       unfolding ended
@@ -67,25 +65,29 @@ module _ (run : Run) (serial : ℕ) where
   -- A property of the four cases of an end is a property of every end.
   module _ (P : EndStep → Type 0)
       (unsound : sound_of run ≡ false → P (refused_end run RunNotSound))
-      (nobody : sound_of run ≡ true → found ≡ choice.Nobody → P (refused_end run NotPending))
-      (too_many : sound_of run ≡ true → (at : ℕ) → found ≡ choice.Place at → max_ended ≤ run.ended → P (refused_end run TooManyEnded))
-      (done : sound_of run ≡ true → (at : ℕ) → found ≡ choice.Place at → run.ended < max_ended → P (done_at run at)) where
+      (nobody : sound_of run ≡ true → found ≡ None → P (refused_end run NotPending))
+      (too_many : sound_of run ≡ true → (at : ℕ) → found ≡ Some at → max_ended ≤ run.ended → P (refused_end run TooManyEnded))
+      (done : sound_of run ≡ true → (at : ℕ) → found ≡ Some at → run.ended < max_ended → P (done_at run at)) where
     -- An end on a sound run is refused with 17 or 18, or it is done.
-    by_place : sound_of run ≡ true → (c : Choice) → found ≡ c → P (ended run serial)
-    by_place sound (choice.Place at) e =
+    by_place : sound_of run ≡ true → (c : Option ℕ) → found ≡ c → P (ended run serial)
+    by_place sound (Some at) e =
         by_lt run.ended max_ended
         (λ few. subst P (end_done sound at e few) (done sound at e few))
         (λ many. subst P (end_too_many sound at e many) (too_many sound at e many))
-    by_place sound choice.Nobody e = subst P (end_nobody sound e) (nobody sound e)
+    by_place sound None e = subst P (end_nobody sound e) (nobody sound e)
 
     -- Any end is refused with 11, or is an end on a sound run.
     pub each_end : P (ended run serial)
     each_end = by_test (sound_of run) (λ sound. by_place sound _ refl) (λ e. subst P (end_unsound e) (unsound e))
 
   -- The place that is found is in use, and its job has the serial.
-  pub found_there : (at : ℕ) → found ≡ choice.Place at
+  pub found_there : (at : ℕ) → found ≡ Some at
       → (at < used run.pending) × ((get_or (jobs_of run.pending) at no_job).serial.0 ≡ serial)
   found_there at e = let means = (found_means serial at (jobs_of run.pending)).0 e in (means.0, means.1)
+
+  -- The place that is found is one of the run's places.
+  pub found_in_places : Good run → (at : ℕ) → found ≡ Some at → at < max_places
+  found_in_places good at e = omega (arith, (found_there at e).0, counted run good, (facts run good).few_pending)
 
 -- ---- an end that is done keeps a run sound
 
@@ -183,9 +185,9 @@ not_pending_means run serial = (
 
 -- Where a pending job has the serial, a place is found for it.
 is_found : (run : Run) (serial at : ℕ) → at < length (jobs_of run.pending) → (get_or (jobs_of run.pending) at no_job).serial.0 ≡ serial
-    → (c : Choice) → found run serial ≡ c → (p : ℕ) × (found run serial ≡ choice.Place p)
-is_found run serial at inside its (choice.Place p) e = (p, e)
-is_found run serial at inside its choice.Nobody e = absurd ((nobody_found_means serial (jobs_of run.pending)).0 e at inside its)
+    → (c : Option ℕ) → found run serial ≡ c → (p : ℕ) × (found run serial ≡ Some p)
+is_found run serial at inside its (Some p) e = (p, e)
+is_found run serial at inside its None e = absurd ((nobody_found_means serial (jobs_of run.pending)).0 e at inside its)
 
 pub too_many_ended_means : TooManyEndedMeans
 too_many_ended_means run serial = (

@@ -1,5 +1,7 @@
 -- A fresh run of a table in range is sound. Every run that is started is sound, since the table read from any bytes is in range.
 -- (docs/RULES.md, sections 6.3, 6.4 and 6.25.)
+use Rattle.std.specs.Prelude.{Result}
+use Rattle.kinds.specs.declared.RefusedAt.{RefusedAt}
 use Prim.Native.Nat.{ℕ}
 use mathlib.Core.Path.{◌≡◌, refl}
 use mathlib.Core.List.{List}
@@ -8,7 +10,6 @@ use native.Mathlib.Omega.{arith}
 use lib.ListN.{get_or-replicate}
 use Rattle.table.specs.declared.Table.{Table}
 use Rattle.table.specs.declared.TableRead.{TableRead}
-use Rattle.table.specs.declared.TableAnswer.{TableAnswer}
 use Rattle.table.specs.Limits.{max_rows, max_servers}
 use Rattle.table.specs.Tables.{InRange, table_read}
 use Rattle.table.proofs.SpelledTables.{in_range_means}
@@ -60,6 +61,6 @@ started_is_sound s b = fresh_is_sound (table_read s).table (read_in_range s b)
 -- ---- how a run is started
 
 -- The table that was read, its fresh run and its answer make up `started`.
-pub starts : (s : List ℕ) {r : TableRead} {run : Run} {a : TableAnswer} → r ≡ table_read s → run ≡ fresh_run r.table → r.answer ≡ a
+pub starts : (s : List ℕ) {r : TableRead} {run : Run} {a : Result ℕ RefusedAt} → r ≡ table_read s → run ≡ fresh_run r.table → r.answer ≡ a
     → record { run = run; answer = start_answer a } ≡ started s
 starts s e f g = rw (f, ← g, e)

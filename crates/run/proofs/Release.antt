@@ -1,5 +1,6 @@
 -- Each answer of a release follows from the tests that lead to it. A refused release changes nothing. An accepted one adds a sound job with a serial above all
 -- others, and keeps a due time of at most 2^40. (docs/RULES.md, sections 6.6 to 6.9 and 6.25.)
+use Rattle.std.specs.Prelude.{Option, Result, Ok, Err}
 use Prim.Native.Nat.{ℕ, ◌+◌, ◌-◌, ◌≤◌, ◌<◌}
 use mathlib.Core.Path.{◌≡◌, refl, sym, ap, subst, ◌∙◌}
 use mathlib.Core.Logic.{◌≢◌}
@@ -20,14 +21,9 @@ use Rattle.table.specs.declared.Row.{Row}
 use Rattle.table.specs.Limits.{max_rows, max_servers}
 use Rattle.table.specs.Rows.{row_in_range}
 use Rattle.table.specs.Timer.{timer_in_range}
-use Rattle.table.specs.declared.CostAnswer.{CostAnswer}
-use Rattle.table.specs.declared.CostAnswer.TheVariants as cost_case
-use Rattle.table.specs.declared.CostLimit.{CostLimit}
 use Rattle.table.specs.Costs.{cost_limits, held_limits, limit_of, cost_answer}
 use Rattle.table.proofs.CostLimits.{one_limit_for_each}
 use Rattle.table.proofs.Ranges.{both_true}
-use Rattle.due.specs.declared.Due.{Due}
-use Rattle.due.specs.declared.Due.TheVariants as due
 use Rattle.due.specs.declared.Kept.{Kept}
 use Rattle.due.specs.Kept.{nothing_kept, due_of, kept_with}
 use Rattle.due.specs.OddJobs.{odd_due_of, GivenOddDue}
@@ -83,7 +79,7 @@ bounded run e =
 
 module _ (run : Run) (row cost : ℕ) where
   -- What the test of the row number and the cost answers.
-  abbrev pub tested : CostAnswer
+  abbrev pub tested : Result (Unit {0}) Refusal
   tested = cost_answer (limit_of (cost_limits run.table) row) cost
 
   -- A release of a run that is not sound is refused with 11.
@@ -93,26 +89,26 @@ module _ (run : Run) (row cost : ℕ) where
 
   module _ (sound : sound_of run ≡ true) where
     -- A release whose row number is not in use is refused with 6, and one whose cost is 0 or above its limit with 7.
-    pub not_allowed : (r : Refusal) → tested ≡ cost_case.Refused r → refused_release run r ≡ released run row cost
+    pub not_allowed : (r : Refusal) → tested ≡ Err r → refused_release run r ≡ released run row cost
     unfolding released
     not_allowed r e = simp (sound, e)
 
     -- A release with every place in use is refused with 8.
-    pub places_full : tested ≡ cost_case.Allowed → max_places ≤ run.pending.count → refused_release run PlacesFull ≡ released run row cost
+    pub places_full : tested ≡ (Ok tt) → max_places ≤ run.pending.count → refused_release run PlacesFull ≡ released run row cost
     unfolding released
     places_full e h = simp (sound, e, le-ltb run.pending.count max_places h)
 
 -- The facts about a release that none of the tests before 9 refused. That the cost is within its limit is a fact of a run that has all its places.
 pub record Passed (run : Run) (row cost : ℕ) : Type 0 where
   pub sound : sound_of run ≡ true
-  pub is_allowed : tested run row cost ≡ cost_case.Allowed
+  pub is_allowed : tested run row cost ≡ Ok tt
   pub in_use : row < run.table.count + run.table.serving
   pub some_cost : 1 ≤ cost
   pub allowed : Whole run → cost ≤ cost_limit run.table row
   pub room : run.pending.count < max_places
 
 -- A release of a sound run passes the tests before 9, where its row number and cost are allowed and a place is unused.
-pub passes : (run : Run) (row cost : ℕ) → sound_of run ≡ true → tested run row cost ≡ cost_case.Allowed → run.pending.count < max_places
+pub passes : (run : Run) (row cost : ℕ) → sound_of run ≡ true → tested run row cost ≡ (Ok tt) → run.pending.count < max_places
     → Passed run row cost
 passes run row cost sound e room =
     let ok = allowed_means (cost_limits run.table) row cost (ap allows e) in
@@ -127,12 +123,12 @@ passes run row cost sound e room =
     }
 
 -- A row number that is allowed is in use.
-pub inside : (run : Run) (row cost : ℕ) → tested run row cost ≡ cost_case.Allowed → row < run.table.count + run.table.serving
+pub inside : (run : Run) (row cost : ℕ) → tested run row cost ≡ (Ok tt) → row < run.table.count + run.table.serving
 inside run row cost e = in_use_where run.table row (allowed_means (cost_limits run.table) row cost (ap allows e)).0
 
 -- The test of the row number and the cost as the code makes it, with a lent list of limits, answers the same.
 pub tested_as : (run : Run) (row cost : ℕ) → Whole run → sound_of run ≡ true → (all : List ℕ) → all ≡ held_limits run.table
-    → (l : CostLimit) → l ≡ limit_of (take (run.table.count + run.table.serving) all) row → (a : CostAnswer) → a ≡ cost_answer l cost
+    → (l : Option ℕ) → l ≡ limit_of (take (run.table.count + run.table.serving) all) row → (a : Result (Unit {0}) Refusal) → a ≡ cost_answer l cost
     → tested run row cost ≡ a
 tested_as run row cost whole sound all e l h a k =
     let few = bounded run sound in
@@ -150,30 +146,31 @@ pub due_of_server : (run : Run) (row cost : ℕ) → run.table.count ≤ row
 due_of_server run row cost h = rw (le-ltb row run.table.count h)
 
 -- A release that passed the tests before 9 is settled by its due time: it is accepted with it, or refused with 9.
-pub due_settles : (run : Run) (row cost : ℕ) → Passed run row cost → (d : Due) → due_next run row cost ≡ d → at_due run row cost d ≡ released run row cost
+pub due_settles : (run : Run) (row cost : ℕ) → Passed run row cost → (d : Result Tick Refusal) → due_next run row cost ≡ d
+    → at_due run row cost d ≡ released run row cost
 unfolding released
 due_settles run row cost p d e = simp (p.sound, p.is_allowed, lt-ltb run.pending.count max_places p.room, e)
 
 -- A property of all refused and of all accepted releases is a property of every release.
 module _ (run : Run) (row cost : ℕ) (P : ReleaseStep → Type 0)
     (refused : (r : Refusal) → P (refused_release run r))
-    (accepted : (t : Tick) → Passed run row cost → due_next run row cost ≡ due.At t → P (at_due run row cost (due.At t))) where
+    (accepted : (t : Tick) → Passed run row cost → due_next run row cost ≡ Ok t → P (at_due run row cost (Ok t))) where
   -- The due time decides whether the release is accepted or refused with 9.
-  by_due : Passed run row cost → (d : Due) → due_next run row cost ≡ d → P (at_due run row cost d)
-  by_due p (due.At t) e = accepted t p e
-  by_due p (due.Refused r) e = refused r
+  by_due : Passed run row cost → (d : Result Tick Refusal) → due_next run row cost ≡ d → P (at_due run row cost d)
+  by_due p (Ok t) e = accepted t p e
+  by_due p (Err r) e = refused r
 
   -- A release that passed the tests before 9 is accepted or refused with 9.
   tests_passed : Passed run row cost → P (released run row cost)
   tests_passed p = subst P (due_settles run row cost p _ refl) (by_due p _ refl)
 
   -- A release of a sound run is refused with 6, 7 or 8, or it has passed the tests before 9.
-  by_cost : sound_of run ≡ true → (a : CostAnswer) → tested run row cost ≡ a → P (released run row cost)
-  by_cost sound cost_case.Allowed e =
+  by_cost : sound_of run ≡ true → (a : Result (Unit {0}) Refusal) → tested run row cost ≡ a → P (released run row cost)
+  by_cost sound (Ok done) e =
       by_lt run.pending.count max_places
       (λ room. tests_passed (passes run row cost sound e room))
       (λ full. subst P (places_full run row cost sound e full) (refused PlacesFull))
-  by_cost sound (cost_case.Refused r) e = subst P (not_allowed run row cost sound r e) (refused r)
+  by_cost sound (Err r) e = subst P (not_allowed run row cost sound r e) (refused r)
 
   -- Any release is refused with 11, or is a release of a sound run.
   pub each_release : P (released run row cost)
@@ -190,7 +187,7 @@ kept_stays_sound k r t fine in_time sound =
     (kept_means (kept_with k r t) r).0 (stays_sound k r t fine in_time ((kept_means k r).1 sound))
 
 -- In this part, a job of the row number is given the due time t.
-module _ (run : Run) (row cost : ℕ) (t : Tick) (given : due_next run row cost ≡ due.At t) where
+module _ (run : Run) (row cost : ℕ) (t : Tick) (given : due_next run row cost ≡ Ok t) where
   -- A row's due time is the one that the rule gives.
   row_given : row < run.table.count → GivenDue (kept_of run row) (row_at run.table row) run.clock.0 t.0
   row_given h = (due_given (kept_of run row) (row_at run.table row) run.clock.0 cost t).0 (sym (due_of_row run row cost h) ∙ given)
@@ -223,7 +220,7 @@ module _ (run : Run) (row : ℕ) (t : Tick) where
   last_by_server h = rw (le-ltb row run.table.count h)
 
 -- In this part, a release is accepted with the due time t.
-module _ {run : Run} {row cost : ℕ} (t : Tick) (whole : Whole run) (p : Passed run row cost) (given : due_next run row cost ≡ due.At t) where
+module _ {run : Run} {row cost : ℕ} (t : Tick) (whole : Whole run) (p : Passed run row cost) (given : due_next run row cost ≡ Ok t) where
   -- The row of the new job.
   abbrev its : Row
   its = row_at run.table row

@@ -1,8 +1,10 @@
--- The test of a run means the facts of `Sound`, and nothing more. The second half of the page follows the code, which tests one place after another.
--- (docs/RULES.md, sections 6.20 to 6.24.)
+-- The test of a run means the facts of `Sound`, and nothing more. The second half of the page follows the code, which tests the jobs, the
+-- rows and the servers one after another. (docs/RULES.md, sections 6.20 to 6.24.)
+use Rattle.std.specs.Prelude.{Result, Ok, Err}
+use Rattle.std.specs.List.{list_all, zip}
 use Prim.Native.Nat.{ℕ, zero, suc, ◌+◌, ◌-◌, ◌≤◌, ◌<◌, suc-le-suc}
 use mathlib.Core.Path.{◌≡◌, refl, sym, ap, ◌∙◌}
-use mathlib.Core.Bool.{Bool, true, false, ◌&&◌, and-false}
+use mathlib.Core.Bool.{Bool, true, false, ◌&&◌}
 use mathlib.Core.List.{List, [], ◌∷◌}
 use native.Mathlib.Nat.{not-suc-le-zero, le_of_suc-le-suc}
 use native.Mathlib.Numerals.{add-one}
@@ -19,13 +21,10 @@ use Rattle.kinds.proofs.Apart.{impossible}
 use Rattle.theory.proofs.Cases.{by_lt}
 use Rattle.table.specs.declared.Row.{Row}
 use Rattle.table.specs.declared.Server.{Server}
-use Rattle.table.specs.declared.CostAnswer.{CostAnswer}
-use Rattle.table.specs.declared.CostAnswer.TheVariants as answer
 use Rattle.table.specs.Costs.{cs_of, cost_limits, held_limits, limit_of, cost_answer}
 use Rattle.table.specs.declared.Table.{Table}
 use Rattle.table.specs.Limits.{max_rows, max_servers, max_sources, max_c}
 use Rattle.table.specs.Rows.{from_one_to, row_acceptable}
-use Rattle.table.specs.Timer.{timer_in_range}
 use Rattle.table.specs.Servers.{server_in_range, no_server, GoodServer}
 use Rattle.table.specs.Tables.{no_row, rows_of, servers_of}
 use Rattle.table.proofs.CostLimits.{CostTested, not_in_use, out_of_range, allowed, cost_tested}
@@ -37,10 +36,8 @@ use Rattle.due.specs.declared.Kept.{Kept}
 use Rattle.due.specs.Kept.{no_kept, kept_sound}
 use Rattle.due.proofs.NewestKept.{kept_sound_means as kept_means}
 use Rattle.jobs.specs.declared.Job.{Job}
-use Rattle.jobs.specs.declared.Pending.{Pending}
 use Rattle.jobs.specs.Places.{max_places, no_job, jobs_of}
-use Rattle.jobs.specs.Serials.{distinct_serials, rising_above, rising_serials}
-use Rattle.jobs.proofs.Places.{rest_cons}
+use Rattle.jobs.specs.Serials.{rising_above, rising_serials}
 use Rattle.jobs.proofs.Changes.{distinct_means}
 use Rattle.run.specs.declared.Run.{Run}
 use Rattle.run.specs.Runs.{row_at, cost_limit, kept_of}
@@ -58,7 +55,8 @@ pub allowed_means : (limits : List ℕ) (number cost : ℕ) → allows (cost_ans
     → (number < length limits) × (1 ≤ cost) × (cost ≤ get_or limits number 0)
 allowed_means limits number cost = to _ (cost_tested limits number cost)
   where
-    to : (a : CostAnswer) → CostTested limits number cost a → allows a ≡ true → (number < length limits) × (1 ≤ cost) × (cost ≤ get_or limits number 0)
+    to : (a : Result (Unit {0}) Refusal) → CostTested limits number cost a → allows a ≡ true
+        → (number < length limits) × (1 ≤ cost) × (cost ≤ get_or limits number 0)
     to a (not_in_use h) e = impossible cc
     to a (out_of_range h o) e = impossible cc
     to a (allowed h l m) e = (h, l, m)
@@ -189,104 +187,6 @@ all_servers [] ls f = refl
 all_servers (v ∷ vs) [] f = refl
 all_servers (v ∷ vs) (d ∷ ls) f = let p = f 0 (omega arith) in rw (p.0, p.1) (all_servers vs ls (λ k h. f (suc k) (suc-le-suc h)))
 
--- ---- the tests of a run, one after another
-
--- Every pending job is sound, and no two have the same serial. (6.22)
-abbrev pub jobs_passed : Run → Bool
-jobs_passed run =
-    jobs_sound (cost_limits run.table) run.clock.0 run.next.0 (jobs_of run.pending) && distinct_serials (jobs_of run.pending)
-
--- Where one of two tests in the middle fails, all tests together fail.
-one_of_two_fails : (before one two after : Bool) → (one && two) ≡ false → false ≡ (before && one && two && after)
-one_of_two_fails true true two after e = rw e
-one_of_two_fails true false two after e = refl
-one_of_two_fails false one two after e = refl
-
--- A run that fails one of the tests is not sound.
-module _ (run : Run) where
-  pub timer_out_of_range : timer_in_range run.table.s run.table.p ≡ false → false ≡ sound_of run
-  unfolding sound_of
-  timer_out_of_range h = simp h
-
-  pub too_many_rows : max_rows < run.table.count → false ≡ sound_of run
-  unfolding sound_of
-  too_many_rows h = simp (lt-leb run.table.count max_rows h, and-false)
-
-  pub too_many_servers : max_servers < run.table.serving → false ≡ sound_of run
-  unfolding sound_of
-  too_many_servers h = simp (lt-leb run.table.serving max_servers h, and-false)
-
-  pub clock_too_late : max_time < run.clock.0 → false ≡ sound_of run
-  unfolding sound_of
-  clock_too_late h = simp (lt-leb run.clock.0 max_time h, and-false)
-
-  pub too_many_pending : max_places < run.pending.count → false ≡ sound_of run
-  unfolding sound_of
-  too_many_pending h = simp (lt-leb run.pending.count max_places h, and-false)
-
-  pub too_many_ended : max_ended < run.ended → false ≡ sound_of run
-  unfolding sound_of
-  too_many_ended h = simp (lt-leb run.ended max_ended h, and-false)
-
-  pub rows_unsound : rows_sound (rows_of run.table) run.kept ≡ false → false ≡ sound_of run
-  unfolding sound_of
-  rows_unsound h = simp (h, and-false)
-
-  pub servers_unsound : servers_sound (servers_of run.table) run.last ≡ false → false ≡ sound_of run
-  unfolding sound_of
-  servers_unsound h = simp (h, and-false)
-
-  pub jobs_unsound : jobs_passed run ≡ false → false ≡ sound_of run
-  unfolding sound_of
-  jobs_unsound h =
-      let js = jobs_of run.pending in
-      let rows = timer_in_range run.table.s run.table.p && leb run.table.count max_rows && leb run.table.serving max_servers in
-      let counts = rows && leb run.clock.0 max_time && leb run.pending.count max_places && leb run.ended max_ended in
-      one_of_two_fails (counts && rows_sound (rows_of run.table) run.kept && servers_sound (servers_of run.table) run.last)
-      (jobs_sound (cost_limits run.table) run.clock.0 run.next.0 js) (distinct_serials js) (leb run.next.0 (serial_bound run)) h
-
--- The test of the jobs with the lent limits answers what the definition says about the run's jobs.
-pub jobs_tested : (run : Run) → run.table.count ≤ max_rows → length run.table.rows ≡ max_rows → run.table.serving ≤ max_servers
-    → (all : List ℕ) → all ≡ held_limits run.table → (r : Bool)
-    → r ≡ (jobs_sound (take (run.table.count + run.table.serving) all) run.clock.0 run.next.0 (jobs_of run.pending)
-    && distinct_serials (jobs_of run.pending))
-    → jobs_passed run ≡ r
-jobs_tested run few places serving all e r h =
-    ap (λ l. jobs_sound l run.clock.0 run.next.0 (jobs_of run.pending) && distinct_serials (jobs_of run.pending))
-    (sym (limits_lent run.table few places serving all e))
-    ∙ sym h
-
--- The run passes all tests but the last, which is the bound of the next serial.
-pub record AllBefore (run : Run) : Type 0 where
-  pub timer : timer_in_range run.table.s run.table.p ≡ true
-  pub few_rows : run.table.count ≤ max_rows
-  pub few_servers : run.table.serving ≤ max_servers
-  pub clock_in_time : run.clock.0 ≤ max_time
-  pub few_pending : run.pending.count ≤ max_places
-  pub few_ended : run.ended ≤ max_ended
-  pub rows : rows_sound (rows_of run.table) run.kept ≡ true
-  pub servers : servers_sound (servers_of run.table) run.last ≡ true
-  pub jobs : jobs_passed run ≡ true
-
--- A run that passes all other tests is sound exactly when its next serial is within its bound.
-pub bound_settles : (run : Run) → AllBefore run → leb run.next.0 (serial_bound run) ≡ sound_of run
-unfolding sound_of
-bound_settles run a =
-    let js = jobs_of run.pending in
-    let jobs = both_true (jobs_sound (cost_limits run.table) run.clock.0 run.next.0 js) (distinct_serials js) a.jobs in
-    simp (
-      a.timer,
-      le-leb run.table.count max_rows a.few_rows,
-      le-leb run.table.serving max_servers a.few_servers,
-      le-leb run.clock.0 max_time a.clock_in_time,
-      le-leb run.pending.count max_places a.few_pending,
-      le-leb run.ended max_ended a.few_ended,
-      a.rows,
-      a.servers,
-      jobs.0,
-      jobs.1,
-    )
-
 -- ---- what the test of a run means
 
 module _ (run : Run) (whole : Whole run) where
@@ -377,78 +277,66 @@ module _ (run : Run) (whole : Whole run) where
 
   -- A run with the facts of a sound run passes the test.
   sound_tested : Sound run → sound_of run ≡ true
+  unfolding sound_of
   sound_tested s =
       let row : (i : ℕ) → i < table.count → RowSound (row_at table i) (kept_of run i) =
       λ i h. (
         (acceptable_means (row_at table i)).1 (record { within_limits = s.rows i h; c_within_d = s.c_within_d i h }),
         (kept_means (kept_of run i) (row_at table i)).1 (s.kept i h),
       ) in
-      let before : AllBefore run = record {
-        timer = (timer_in_range_means table.s table.p).1 s.good_timer;
-        few_rows = s.few_rows;
-        few_servers = s.few_servers;
-        clock_in_time = s.clock_in_time;
-        few_pending = s.few_pending;
-        few_ended = s.few_ended;
-        rows = all_numbered s.few_rows row;
-        servers = all_serving s.few_servers s.servers s.last;
-        jobs =
-            rw
-            (all_jobs _ _ _ pending (λ i h. job_tested table s.few_rows whole.all_rows _ _ (get_or pending i no_job) (s.jobs i h)))
-            ((distinct_means pending).1 s.apart);
-      } in
-      sym (bound_settles run before) ∙ le-leb run.next.0 (serial_bound run) s.serials
+      simp (
+        (timer_in_range_means table.s table.p).1 s.good_timer,
+        le-leb table.count max_rows s.few_rows,
+        le-leb table.serving max_servers s.few_servers,
+        le-leb run.clock.0 max_time s.clock_in_time,
+        le-leb run.pending.count max_places s.few_pending,
+        le-leb run.ended max_ended s.few_ended,
+        all_numbered s.few_rows row,
+        all_serving s.few_servers s.servers s.last,
+        all_jobs _ _ _ pending (λ i h. job_tested table s.few_rows whole.all_rows _ _ (get_or pending i no_job) (s.jobs i h)),
+        (distinct_means pending).1 s.apart,
+        le-leb run.next.0 (serial_bound run) s.serials,
+      )
 
 pub sound_means : SoundMeans
 sound_means run whole = (sound_facts run whole, sound_tested run whole)
 
--- ---- the pending jobs, one place after another
+-- ---- the pending jobs, one after another
 
 -- The job at a place.
-abbrev job_at : Pending → (i : ℕ) → Job
-job_at p i = get_or p.places i no_job
+abbrev job_at : List Job → (i : ℕ) → Job
+job_at js i = get_or js i no_job
 
--- All pending jobs are sound exactly when the jobs from the place i on are.
-pub record JobsFrom (limits : List ℕ) (clock next : ℕ) (p : Pending) (i : ℕ) : Type 0 where
-  pub all_places : length p.places ≡ max_places
-  pub few_pending : p.count ≤ max_places
-  pub settled : jobs_sound limits clock next (drop i (jobs_of p)) ≡ jobs_sound limits clock next (jobs_of p)
+-- All jobs are sound exactly when the jobs from the place i on are.
+pub record JobsFrom (limits : List ℕ) (clock next : ℕ) (js : List Job) (i : ℕ) : Type 0 where
+  pub settled : jobs_sound limits clock next (drop i js) ≡ jobs_sound limits clock next js
 
-module _ {limits : List ℕ} {clock next : ℕ} {p : Pending} {i : ℕ} (from : JobsFrom limits clock next p i) where
-  -- Where no job is left to test, all pending jobs are sound.
-  pub no_job_left : p.count ≤ i → true ≡ jobs_sound limits clock next (jobs_of p)
-  no_job_left h =
-      let past : length (jobs_of p) ≤ i = omega (arith, length-take p.count p.places) in
-      (rw (drop_of_length-le (jobs_of p) past) at from.settled)
+module _ {limits : List ℕ} {clock next : ℕ} {js : List Job} {i : ℕ} (from : JobsFrom limits clock next js i) where
+  -- Where no job is left to test, all jobs are sound.
+  pub no_job_left : length js ≤ i → true ≡ jobs_sound limits clock next js
+  no_job_left h = rw (drop_of_length-le js h) at from.settled
 
-  module _ (here : i < p.count) where
-    -- Where a job is left, all pending jobs are sound exactly when the job at i and the jobs after it are.
-    job_and_later : (job_sound limits clock next (job_at p i) && jobs_sound limits clock next (drop (i + 1) (jobs_of p)))
-        ≡ jobs_sound limits clock next (jobs_of p)
-    job_and_later =
-        let inside : i < length (jobs_of p) = omega (arith, length-take p.count p.places) in
-        (rw (rest_cons p.count p.places i no_job inside) at from.settled)
+  module _ (here : i < length js) where
+    -- Where a job is left, all jobs are sound exactly when the job at i and the jobs after it are.
+    job_and_later : (job_sound limits clock next (job_at js i) && jobs_sound limits clock next (drop (i + 1) js)) ≡ jobs_sound limits clock next js
+    job_and_later = rw add-one (rw (drop-cons js i no_job here) at from.settled)
 
-    -- Where the row number or the cost of the job at i is refused, not all pending jobs are sound.
-    pub job_not_allowed : (r : Refusal) → cost_answer (limit_of limits (job_at p i).row.0) (job_at p i).cost ≡ answer.Refused r
-        → false ≡ jobs_sound limits clock next (jobs_of p)
+    -- Where the row number or the cost of the job at i is refused, not all jobs are sound.
+    pub job_not_allowed : (r : Refusal) → cost_answer (limit_of limits (job_at js i).row.0) (job_at js i).cost ≡ Err r
+        → false ≡ jobs_sound limits clock next js
     unfolding job_sound
     job_not_allowed r h = rw h at job_and_later
 
-    module _ (ok : cost_answer (limit_of limits (job_at p i).row.0) (job_at p i).cost ≡ answer.Allowed) where
-      -- Where the job at i does not fit, not all pending jobs are sound.
-      pub job_does_not_fit : job_fits clock next (job_at p i) ≡ false → false ≡ jobs_sound limits clock next (jobs_of p)
+    module _ (ok : cost_answer (limit_of limits (job_at js i).row.0) (job_at js i).cost ≡ Ok tt) where
+      -- Where the job at i does not fit, not all jobs are sound.
+      pub job_does_not_fit : job_fits clock next (job_at js i) ≡ false → false ≡ jobs_sound limits clock next js
       unfolding job_sound
       job_does_not_fit h = rw (ok, h) at job_and_later
 
-      -- Where the job at i fits, all pending jobs are sound exactly when the jobs after it are.
-      pub job_does_fit : job_fits clock next (job_at p i) ≡ true → JobsFrom limits clock next p (i + 1)
+      -- Where the job at i fits, all jobs are sound exactly when the jobs after it are.
+      pub job_does_fit : job_fits clock next (job_at js i) ≡ true → JobsFrom limits clock next js (i + 1)
       unfolding job_sound
-      job_does_fit h = record {
-        all_places = from.all_places;
-        few_pending = from.few_pending;
-        settled = rw (ok, h) at job_and_later;
-      }
+      job_does_fit h = record { settled = rw (ok, h) at job_and_later }
 
 -- A job that fits has a serial below the next serial.
 pub serial_below : (clock next : ℕ) (j : Job) → job_fits clock next j ≡ true → j.serial.0 < next
@@ -463,13 +351,8 @@ rises_from lowest [] = true
 rises_from lowest (j ∷ js) = leb lowest j.serial.0 && rising_above j.serial.0 js
 
 -- The serials before the place i rise, as far as `rising` says so: if those from i on rise too, and the first of them is at least `lowest`, all serials rise.
-abbrev pub RisenTo : Pending → (rising : Bool) (lowest i : ℕ) → Type 0
-RisenTo p rising lowest i = rising ≡ true → rises_from lowest (drop i (jobs_of p)) ≡ true → rising_serials (jobs_of p) ≡ true
-
--- Serials that rise from 0 on rise.
-pub risen_to_none : (js : List Job) → rises_from 0 js ≡ true → rising_serials js ≡ true
-risen_to_none [] e = refl
-risen_to_none (j ∷ js) e = (both_true (leb 0 j.serial.0) _ e).1
+abbrev pub RisenTo : List Job → (rising : Bool) (lowest i : ℕ) → Type 0
+RisenTo js rising lowest i = rising ≡ true → rises_from lowest (drop i js) ≡ true → rising_serials js ≡ true
 
 -- Serials that rise above s are those that rise from s + 1 on.
 above_is_from : (s : ℕ) (js : List Job) → rising_above s js ≡ rises_from (s + 1) js
@@ -479,97 +362,29 @@ above_is_from s (j ∷ js) = elim (dec_lt s j.serial.0) [
   | no h ↦ rw (le-ltb s j.serial.0 (omega arith), lt-leb (s + 1) j.serial.0 (omega arith))
 ]
 
-module _ (p : Pending) (rising : Bool) (lowest i : ℕ) (risen : RisenTo p rising lowest i) where
+module _ (js : List Job) (rising : Bool) (lowest i : ℕ) (risen : RisenTo js rising lowest i) where
   -- Where no job is left, all serials rise.
-  pub all_risen : length (jobs_of p) ≤ i → rising ≡ true → rising_serials (jobs_of p) ≡ true
-  all_risen h r = risen r (rw (drop_of_length-le (jobs_of p) h))
+  pub all_risen : length js ≤ i → rising ≡ true → rising_serials js ≡ true
+  all_risen h r = risen r (rw (drop_of_length-le js h))
 
   -- Where the serial at i is at least `lowest`, the serials up to and with it rise.
-  pub rises_on : i < length (jobs_of p) → lowest ≤ (job_at p i).serial.0 → RisenTo p rising ((job_at p i).serial.0 + 1) (i + 1)
+  pub rises_on : i < length js → lowest ≤ (job_at js i).serial.0 → RisenTo js rising ((job_at js i).serial.0 + 1) (i + 1)
   rises_on h l r e =
-      let here = (job_at p i).serial.0 in
-      risen r (rw (rest_cons p.count p.places i no_job h, le-leb lowest here l, above_is_from here (drop (i + 1) (jobs_of p))) e)
+      let here = (job_at js i).serial.0 in
+      risen r (rw (drop-cons js i no_job h, le-leb lowest here l, above_is_from here (drop (suc i) js)) (rw (add-one i) at e))
 
--- ---- the rows with their kept due times, one after another
+-- ---- the rows and the servers, each beside what is kept for it
 
--- All rows and their kept due times are sound exactly when those from the place i on are.
-pub record RowsFrom (t : Table) (ks : List Kept) (i : ℕ) : Type 0 where
-  pub all_rows : length t.rows ≡ max_rows
-  pub all_kept : length ks ≡ max_rows
-  pub few_rows : t.count ≤ max_rows
-  pub settled : rows_sound (drop i (rows_of t)) (drop i ks) ≡ rows_sound (rows_of t) ks
+-- The rows are tested one by one, each with its kept due times.
+pub rows_tested : (rs : List Row) (ks : List Kept)
+    → list_all (λ (p : Row × Kept). row_acceptable p.0 && kept_sound p.1 p.0) (zip rs ks) ≡ rows_sound rs ks
+rows_tested [] ks = refl
+rows_tested (r ∷ rs) [] = refl
+rows_tested (r ∷ rs) (k ∷ ks) = ap (◌&&◌ (row_acceptable r && kept_sound k r)) (rows_tested rs ks)
 
-module _ {t : Table} {ks : List Kept} {i : ℕ} (from : RowsFrom t ks i) where
-  -- Where no row is left to test, all rows are sound.
-  pub no_row_left : t.count ≤ i → true ≡ rows_sound (rows_of t) ks
-  no_row_left h =
-      let past : length (rows_of t) ≤ i = omega (arith, length-take t.count t.rows) in
-      (rw (drop_of_length-le (rows_of t) past) at from.settled)
-
-  module _ (here : i < t.count) where
-    -- Where a row is left, all rows are sound exactly when the row at i, its kept due times and the rows after it are.
-    row_and_later : (row_acceptable (row_at t i) && kept_sound (get_or ks i no_kept) (row_at t i) && rows_sound (drop (i + 1) (rows_of t)) (drop (i + 1) ks))
-        ≡ rows_sound (rows_of t) ks
-    row_and_later =
-        let inside : i < length (rows_of t) = omega (arith, length-take t.count t.rows) in
-        (rw (rest_cons t.count t.rows i no_row inside, drop-cons ks i no_kept (omega arith), ← add-one i) at from.settled)
-
-    -- Where the row at i is not one that a table may have, not all rows are sound.
-    pub row_unacceptable : row_acceptable (row_at t i) ≡ false → false ≡ rows_sound (rows_of t) ks
-    row_unacceptable r = simp r at row_and_later
-
-    module _ (r : row_acceptable (row_at t i) ≡ true) where
-      -- Where the kept due times of the row at i are not sound, not all rows are sound.
-      pub kept_unsound : kept_sound (get_or ks i no_kept) (row_at t i) ≡ false → false ≡ rows_sound (rows_of t) ks
-      kept_unsound k = simp (r, k) at row_and_later
-
-      -- Where the row at i and its kept due times are sound, all rows are sound exactly when the rows after it are.
-      pub row_sound : kept_sound (get_or ks i no_kept) (row_at t i) ≡ true → RowsFrom t ks (i + 1)
-      row_sound k = record {
-        all_rows = from.all_rows;
-        all_kept = from.all_kept;
-        few_rows = from.few_rows;
-        settled = simp (r, k) at row_and_later;
-      }
-
--- ---- the servers with their last due times, one after another
-
--- All servers and their last due times are sound exactly when those from the place k on are.
-pub record ServersFrom (vs : List Server) (serving : ℕ) (ls : List Tick) (k : ℕ) : Type 0 where
-  pub all_servers : length vs ≡ max_servers
-  pub all_last : length ls ≡ max_servers
-  pub few_servers : serving ≤ max_servers
-  pub settled : servers_sound (drop k (take serving vs)) (drop k ls) ≡ servers_sound (take serving vs) ls
-
-module _ {vs : List Server} {serving : ℕ} {ls : List Tick} {k : ℕ} (from : ServersFrom vs serving ls k) where
-  -- Where no server is left to test, all servers are sound.
-  pub no_server_left : serving ≤ k → true ≡ servers_sound (take serving vs) ls
-  no_server_left h =
-      let past : length (take serving vs) ≤ k = omega (arith, length-take serving vs) in
-      (rw (drop_of_length-le (take serving vs) past) at from.settled)
-
-  module _ (here : k < serving) where
-    -- Where a server is left, all servers are sound exactly when the server at k, its last due time and the servers after it are.
-    server_and_later : (server_in_range (get_or vs k no_server) && leb (get_or ls k no_time).0 max_time
-        && servers_sound (drop (k + 1) (take serving vs)) (drop (k + 1) ls)) ≡ servers_sound (take serving vs) ls
-    server_and_later =
-        let inside : k < length (take serving vs) = omega (arith, length-take serving vs) in
-        (rw (rest_cons serving vs k no_server inside, drop-cons ls k no_time (omega arith), ← add-one k) at from.settled)
-
-    -- Where the server at k is not one that a table may have, not all servers are sound.
-    pub server_out_of_range : server_in_range (get_or vs k no_server) ≡ false → false ≡ servers_sound (take serving vs) ls
-    server_out_of_range v = simp v at server_and_later
-
-    module _ (v : server_in_range (get_or vs k no_server) ≡ true) where
-      -- Where the last due time of the server at k is above 2^40, not all servers are sound.
-      pub last_too_late : max_time < (get_or ls k no_time).0 → false ≡ servers_sound (take serving vs) ls
-      last_too_late l = simp (v, lt-leb (get_or ls k no_time).0 max_time l) at server_and_later
-
-      -- Where the server at k and its last due time are sound, all servers are sound exactly when the servers after it are.
-      pub server_sound : (get_or ls k no_time).0 ≤ max_time → ServersFrom vs serving ls (k + 1)
-      server_sound l = record {
-        all_servers = from.all_servers;
-        all_last = from.all_last;
-        few_servers = from.few_servers;
-        settled = simp (v, le-leb (get_or ls k no_time).0 max_time l) at server_and_later;
-      }
+-- The servers are tested one by one, each with its last due time.
+pub servers_tested : (vs : List Server) (ls : List Tick)
+    → list_all (λ (p : Server × Tick). server_in_range p.0 && leb p.1.0 max_time) (zip vs ls) ≡ servers_sound vs ls
+servers_tested [] ls = refl
+servers_tested (v ∷ vs) [] = refl
+servers_tested (v ∷ vs) (l ∷ ls) = ap (◌&&◌ (server_in_range v && leb l.0 max_time)) (servers_tested vs ls)

@@ -1,5 +1,7 @@
 -- One tick: what each of its cases answers, that it is one turn of the pending jobs, and that a sound run stays sound. (docs/RULES.md, sections 6.5 and 6.10 to
 -- 6.17.)
+use Rattle.std.specs.Prelude.{Option, Some, None}
+use Rattle.jobs.specs.declared.Ran.{Ran}
 use Prim.Native.Nat.{ℕ, zero, suc, ◌+◌, ◌-◌, ◌%◌, ◌≤◌, ◌<◌, suc-le-suc}
 use mathlib.Core.Path.{◌≡◌, refl}
 use mathlib.Core.Logic.{◌↔◌}
@@ -16,8 +18,6 @@ use Rattle.kinds.specs.declared.Refusal.TheVariants.{RunNotSound, TimeTooLate}
 use Rattle.kinds.proofs.Apart.{impossible}
 use Rattle.jobs.specs.declared.Job.{Job}
 use Rattle.jobs.specs.declared.Pending.{Pending}
-use Rattle.jobs.specs.declared.Turn.{Turn}
-use Rattle.jobs.specs.declared.Turn.TheVariants as turn
 use Rattle.jobs.specs.declared.Turned.{Turned}
 use Rattle.jobs.specs.Places.{no_job, jobs_of, used, without}
 use Rattle.jobs.specs.Choice.{first_place}
@@ -307,9 +307,9 @@ tick_without_timer run none =
 -- ---- a free tick is one turn
 
 -- What a tick answers where the pending jobs had this turn.
-abbrev pub answer_of : Turn → Ticked
-answer_of turn.Idle = answer.Idle
-answer_of (turn.Ran r) = answer.Ran r
+abbrev pub answer_of : Option Ran → Ticked
+answer_of None = answer.Idle
+answer_of (Some r) = answer.Ran r
 
 -- The tick of a run whose pending jobs had this turn.
 abbrev pub step_of : Run → Turned → TickStep

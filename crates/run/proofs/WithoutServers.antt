@@ -1,4 +1,7 @@
 -- Where its table has no servers, a run is sound by its rows, and a release is that by the rows alone. (docs/RULES.md, 5.18.)
+use Rattle.std.specs.Prelude.{Result, Ok, Err}
+use Rattle.kinds.specs.declared.Refusal.{Refusal}
+use Rattle.kinds.specs.declared.Tick.{Tick}
 use Prim.Native.Nat.{ℕ, ◌+◌, ◌<◌}
 use mathlib.Core.Path.{◌≡◌, refl, sym, ap, ◌∙◌}
 use mathlib.Core.Bool.{true, false, and-true}
@@ -10,8 +13,6 @@ use Rattle.table.specs.declared.Table.{Table}
 use Rattle.table.specs.Costs.{cs_of, cost_limits}
 use Rattle.table.specs.Rows.{from_one_to}
 use Rattle.table.specs.Tables.{rows_of}
-use Rattle.due.specs.declared.Due.{Due}
-use Rattle.due.specs.declared.Due.TheVariants as due
 use Rattle.due.specs.Kept.{due_of}
 use Rattle.run.specs.declared.Run.{Run}
 use Rattle.run.specs.Runs.{row_at, kept_of}
@@ -29,9 +30,9 @@ unfolding sound_of sound_by_rows
 sound_without_servers run none = rw (limits_of_rows run.table none, none) (simp and-true)
 
 -- What the last test of a row's release answers does not look at servers.
-same_at_due : (run : Run) (row cost : ℕ) → row < run.table.count → (d : Due) → at_due run row cost d ≡ at_due_of_row run row cost d
-same_at_due run row cost h (due.At t) = rw (lt-ltb row run.table.count h)
-same_at_due run row cost h (due.Refused r) = refl
+same_at_due : (run : Run) (row cost : ℕ) → row < run.table.count → (d : Result Tick Refusal) → at_due run row cost d ≡ at_due_of_row run row cost d
+same_at_due run row cost h (Ok t) = rw (lt-ltb row run.table.count h)
+same_at_due run row cost h (Err r) = refl
 
 -- The last test of a row's release is that by the kept due times of its row.
 last_test : (run : Run) (row cost : ℕ) → row < run.table.count

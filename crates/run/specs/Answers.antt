@@ -1,22 +1,18 @@
 -- What the answers of start, release, tick and end say: each case with its number and values. (docs/RULES.md, sections 6 and 10.)
-use Rattle.std.specs.Prelude.{ℕ, ◌≤◌, ◌≡◌, Bool, true, false, []}
+use Rattle.run.specs.declared.Accepted.{Accepted}
+use Rattle.kinds.specs.declared.RefusedAt.{RefusedAt}
+use Rattle.std.specs.Prelude.{ℕ, ◌≤◌, ◌≡◌, Bool, true, false, [], Result, Ok, Err}
 use Rattle.kinds.specs.Numbering.{Says, numbered, values, refusal_number, refused_says, NeverNumberedZero, SaysApart, refused_with}
 use Rattle.kinds.specs.declared.Refusal.{Refusal}
 use Rattle.jobs.specs.declared.Finished.TheVariants as finished
 use Rattle.jobs.specs.Answers.{has_finished, ran_as}
-use Rattle.run.specs.declared.StartAnswer.{StartAnswer}
-use Rattle.run.specs.declared.StartAnswer.TheVariants as start
-use Rattle.run.specs.declared.Released.{Released}
-use Rattle.run.specs.declared.Released.TheVariants as release
 use Rattle.run.specs.declared.Ticked.{Ticked}
 use Rattle.run.specs.declared.Ticked.TheVariants as tick
-use Rattle.run.specs.declared.Ended.{Ended}
-use Rattle.run.specs.declared.Ended.TheVariants as end
 
 -- What the answer of a start says: no value where the run is ready, and otherwise the table's refusal with its place. (1.17, 6.4)
-abbrev pub start_says : StartAnswer → Says
-start_says start.Ready = values []
-start_says (start.Refused r) = numbered (refused_says r)
+abbrev pub start_says : Result (Unit {0}) RefusedAt → Says
+start_says (Ok done) = values []
+start_says (Err r) = numbered (refused_says r)
 
 -- What a release can say: the job's serial and due time, or a refusal's number and place. (1.17, 6.6, 6.8)
 pub data ReleaseSays : Type 0 where
@@ -24,9 +20,9 @@ pub data ReleaseSays : Type 0 where
   refused : (number place : ℕ) → ReleaseSays
 
 -- What each answer of a release says. Its refusals name no place, so the place is 0. (1.17, 10.2)
-abbrev pub release_says : Released → ReleaseSays
-release_says (release.Accepted a) = accepted a.serial.0 a.due.0
-release_says (release.Refused r) = refused (refusal_number r) 0
+abbrev pub release_says : Result Accepted Refusal → ReleaseSays
+release_says (Ok a) = accepted a.serial.0 a.due.0
+release_says (Err r) = refused (refusal_number r) 0
 
 -- What a tick can say: that it was idle, the serial of the job that had the unit and whether it finished, that it was taken, or a refusal's number and place.
 -- (1.17, 6.12, 6.16)
@@ -49,9 +45,9 @@ pub data EndingSays : Type 0 where
   refused : (number place : ℕ) → EndingSays
 
 -- What each answer of an end says. Its refusals name no place, so the place is 0. (1.17, 10.2)
-abbrev pub end_says : Ended → EndingSays
-end_says (end.Units n) = ended_with n
-end_says (end.Refused r) = refused (refusal_number r) 0
+abbrev pub end_says : Result ℕ Refusal → EndingSays
+end_says (Ok n) = ended_with n
+end_says (Err r) = refused (refusal_number r) 0
 
 -- ---- what is proved (proofs/Answers.antt)
 
@@ -59,35 +55,35 @@ end_says (end.Refused r) = refused (refusal_number r) 0
 abbrev pub RunsNeverZero : Type 0
 RunsNeverZero =
     NeverNumberedZero start_says
-    × ((a : Released) (number place : ℕ) → release_says a ≡ ReleaseSays.refused number place → 1 ≤ number)
+    × ((a : Result Accepted Refusal) (number place : ℕ) → release_says a ≡ ReleaseSays.refused number place → 1 ≤ number)
     × ((a : Ticked) (number place : ℕ) → tick_says a ≡ TickSays.refused number place → 1 ≤ number)
-    × ((a : Ended) (number place : ℕ) → end_says a ≡ EndingSays.refused number place → 1 ≤ number)
+    × ((a : Result ℕ Refusal) (number place : ℕ) → end_says a ≡ EndingSays.refused number place → 1 ≤ number)
 
 -- Different answers of a start say different things, and so do different answers of a release, of a tick and of an end.
 abbrev pub RunsSaidApart : Type 0
 RunsSaidApart =
     SaysApart start_says
-    × ((a b : Released) → release_says a ≡ release_says b → a ≡ b)
+    × ((a b : Result Accepted Refusal) → release_says a ≡ release_says b → a ≡ b)
     × ((a b : Ticked) → tick_says a ≡ tick_says b → a ≡ b)
-    × ((a b : Ended) → end_says a ≡ end_says b → a ≡ b)
+    × ((a b : Result ℕ Refusal) → end_says a ≡ end_says b → a ≡ b)
 
 -- A start that is ready has no value to say. (6.4)
 abbrev pub StartReadySays : Type 0
-StartReadySays = start_says start.Ready ≡ values []
+StartReadySays = start_says (Ok tt) ≡ values []
 
 -- A start that is refused says the table's refusal: its number, its place and 0. (6.4)
 abbrev pub StartRefusedSays : Type 0
 StartRefusedSays = (r : Refusal) (place : ℕ)
-    → start_says (start.Refused (record { refusal = r; place = place })) ≡ refused_with (refusal_number r) place
+    → start_says (Err (record { refusal = r; place = place })) ≡ refused_with (refusal_number r) place
 
 -- An accepted release says the job's serial and its due time. (6.6)
 abbrev pub ReleaseAcceptedSays : Type 0
 ReleaseAcceptedSays = (serial due : ℕ)
-    → release_says (release.Accepted (record { serial = record { 0 = serial }; due = record { 0 = due } })) ≡ accepted serial due
+    → release_says (Ok (record { serial = record { 0 = serial }; due = record { 0 = due } })) ≡ accepted serial due
 
 -- A refused release says the refusal's number, at place 0. (6.8, 10.2)
 abbrev pub ReleaseRefusedSays : Type 0
-ReleaseRefusedSays = (r : Refusal) → release_says (release.Refused r) ≡ ReleaseSays.refused (refusal_number r) 0
+ReleaseRefusedSays = (r : Refusal) → release_says (Err r) ≡ ReleaseSays.refused (refusal_number r) 0
 
 -- An idle tick says that it was idle. (6.12)
 abbrev pub IdleTickSays : Type 0
@@ -111,8 +107,8 @@ TickRefusedSays = (r : Refusal) → tick_says (tick.Refused r) ≡ TickSays.refu
 
 -- An end that is done says the units that the job was given. (6.27)
 abbrev pub EndingDoneSays : Type 0
-EndingDoneSays = (units : ℕ) → end_says (end.Units units) ≡ ended_with units
+EndingDoneSays = (units : ℕ) → end_says (Ok units) ≡ ended_with units
 
 -- A refused end says the refusal's number and place 0. (10.2)
 abbrev pub EndingRefusedSays : Type 0
-EndingRefusedSays = (r : Refusal) → end_says (end.Refused r) ≡ EndingSays.refused (refusal_number r) 0
+EndingRefusedSays = (r : Refusal) → end_says (Err r) ≡ EndingSays.refused (refusal_number r) 0

@@ -1,10 +1,9 @@
 -- The laws of runs: they stay sound, ticks and releases change what the rules say, and due times go by the whole history. (docs/RULES.md, sections 4 and 6.)
-use Rattle.std.specs.Prelude.{ℕ, ◌+◌, ◌%◌, ◌≤◌, ◌<◌, ◌≡◌, ◌↔◌, true, false, cond, List, [], ltb, length, get_or}
+use Rattle.std.specs.Prelude.{ℕ, ◌+◌, ◌%◌, ◌≤◌, ◌<◌, ◌≡◌, ◌↔◌, true, false, cond, List, [], ltb, length, get_or, Ok, Err}
 use Rattle.kinds.specs.Numbering.{max_time}
 use Rattle.kinds.specs.declared.Refusal.TheVariants.{NoSuchRow, CostOutOfRange, TimeTooLate, RunNotSound}
 use Rattle.numbers.specs.SpelledNumbers.{Bytes}
 use Rattle.table.specs.declared.Table.{Table}
-use Rattle.table.specs.declared.CostAnswer.TheVariants as cost_case
 use Rattle.table.specs.Costs.{cost_limits, limit_of, cost_answer}
 use Rattle.table.specs.Limits.{max_rows, max_servers}
 use Rattle.table.specs.Rows.{from_one_to}
@@ -86,8 +85,8 @@ abbrev pub OneTestMeans : Type 0
 OneTestMeans = (t : Table) → t.count ≤ max_rows → length t.rows ≡ max_rows → (row cost : ℕ)
     → cost_answer (limit_of (cost_limits t) row) cost
     ≡ cond (row_in_use t row)
-    (cond (from_one_to (cost_limit t row) cost) cost_case.Allowed (cost_case.Refused CostOutOfRange))
-    (cost_case.Refused NoSuchRow)
+    (cond (from_one_to (cost_limit t row) cost) (Ok tt) (Err CostOutOfRange))
+    (Err NoSuchRow)
 
 -- A refused release leaves the run unchanged. It takes no serial, and leaves every due time alone. (4.4, 6.18)
 abbrev pub RefusedReleaseChangesNothing : Type 0

@@ -1,11 +1,10 @@
 -- Fresh runs, and how a run is started on a table's bytes. (docs/RULES.md, sections 6.1 to 6.4.)
-use Rattle.std.specs.Prelude.{ℕ, ◌+◌, ◌-◌, Bool, cond, List, ltb, get_or, replicate}
+use Rattle.kinds.specs.declared.RefusedAt.{RefusedAt}
+use Rattle.std.specs.Prelude.{ℕ, ◌+◌, ◌-◌, Bool, cond, List, ltb, get_or, replicate, Result, Ok, Err}
 use Rattle.table.specs.declared.Row.{Row}
 use Rattle.kinds.specs.declared.Tick.{Tick}
 use Rattle.table.specs.declared.Server.{Server}
 use Rattle.table.specs.declared.Table.{Table}
-use Rattle.table.specs.declared.TableAnswer.{TableAnswer}
-use Rattle.table.specs.declared.TableAnswer.TheVariants as answer
 use Rattle.table.specs.Limits.{max_rows, max_servers, max_c}
 use Rattle.table.specs.Servers.{no_server}
 use Rattle.table.specs.Tables.{no_row, table_read}
@@ -14,8 +13,6 @@ use Rattle.due.specs.declared.Kept.{Kept}
 use Rattle.jobs.specs.Places.{empty_pending}
 use Rattle.run.specs.declared.Run.{Run}
 use Rattle.run.specs.declared.Started.{Started}
-use Rattle.run.specs.declared.StartAnswer.{StartAnswer}
-use Rattle.run.specs.declared.StartAnswer.TheVariants as start
 
 -- The fresh run of a table has the table's timer, rows and servers, the clock at 0, no pending job, the next serial 0, no due time kept, 0 for every server's
 -- last due time, and no job ended early. (6.3)
@@ -31,9 +28,9 @@ fresh_run t = record {
 }
 
 -- A start is ready where the table is accepted, and otherwise gives the table's refusal. (6.4)
-abbrev pub start_answer : TableAnswer → StartAnswer
-start_answer (answer.Accepted period) = start.Ready
-start_answer (answer.Refused r) = start.Refused r
+abbrev pub start_answer : Result ℕ RefusedAt → Result (Unit {0}) RefusedAt
+start_answer (Ok period) = Ok tt
+start_answer (Err r) = Err r
 
 -- A run started on a table's bytes. An accepted table, an overloaded one too, gives its fresh run. Other bytes give the table's refusal, with the fresh run of
 -- the empty table: `table_read` gives the empty table beside every refusal. (6.4)

@@ -1,13 +1,12 @@
 -- The conditions on which a run is sound, as a test and as facts. (docs/RULES.md, sections 6.20 to 6.24.)
-use Rattle.std.specs.Prelude.{ℕ, ◌+◌, ◌≤◌, ◌<◌, ◌≡◌, ◌↔◌, Bool, true, false, ◌&&◌, List, [], ◌∷◌, leb, ltb, length, get_or}
+use Rattle.kinds.specs.declared.Refusal.{Refusal}
+use Rattle.std.specs.Prelude.{ℕ, ◌+◌, ◌≤◌, ◌<◌, ◌≡◌, ◌↔◌, Bool, true, false, ◌&&◌, List, [], ◌∷◌, leb, ltb, length, get_or, Result, Ok, Err}
 use Rattle.kinds.specs.Numbering.{max_time}
 use Rattle.table.specs.declared.Row.{Row}
 use Rattle.kinds.specs.declared.Tick.{Tick}
 use Rattle.table.specs.declared.Server.{Server}
 use Rattle.table.specs.declared.Table.{Table}
 use Rattle.table.specs.Limits.{max_rows, max_servers}
-use Rattle.table.specs.declared.CostAnswer.{CostAnswer}
-use Rattle.table.specs.declared.CostAnswer.TheVariants as answer
 use Rattle.table.specs.Costs.{cost_limits, limit_of, cost_answer}
 use Rattle.table.specs.Rows.{from_one_to, row_acceptable}
 use Rattle.table.specs.Timer.{timer_in_range, GoodTimer}
@@ -33,9 +32,9 @@ job_fits clock next j =
     && ltb j.serial.0 next
 
 -- The test of a row number and a cost allows them.
-abbrev pub allows : CostAnswer → Bool
-allows answer.Allowed = true
-allows (answer.Refused r) = false
+abbrev pub allows : Result (Unit {0}) Refusal → Bool
+allows (Ok done) = true
+allows (Err r) = false
 
 -- A pending job is sound when its row number and cost pass the test that a release makes, and the rest of the job fits. (6.22)
 unfoldable pub job_sound : (limits : List ℕ) (clock next : ℕ) → Job → Bool

@@ -1,6 +1,7 @@
 -- A run whose table has no servers is as it was before there were servers. This page says what soundness and a release are by the rows alone, and that they are so still.
 -- (docs/RULES.md, 5.18.)
-use Rattle.std.specs.Prelude.{ℕ, ◌+◌, ◌≡◌, Bool, cond, ◌&&◌, leb, ltb, set}
+use Rattle.kinds.specs.declared.Refusal.{Refusal}
+use Rattle.std.specs.Prelude.{ℕ, ◌+◌, ◌≡◌, Bool, cond, ◌&&◌, leb, ltb, set, Result, Ok, Err}
 use Rattle.kinds.specs.Numbering.{max_time}
 use Rattle.kinds.specs.declared.Refusal.TheVariants.{NoSuchRow, CostOutOfRange, PlacesFull, RunNotSound}
 use Rattle.kinds.specs.declared.Tick.{Tick}
@@ -9,14 +10,11 @@ use Rattle.table.specs.Rows.{from_one_to}
 use Rattle.table.specs.Timer.{timer_in_range}
 use Rattle.table.specs.Costs.{cs_of}
 use Rattle.table.specs.Tables.{rows_of}
-use Rattle.due.specs.declared.Due.{Due}
-use Rattle.due.specs.declared.Due.TheVariants as due
 use Rattle.due.specs.Kept.{due_of, kept_with}
 use Rattle.jobs.specs.Places.{max_places, jobs_of, put}
 use Rattle.jobs.specs.Serials.{distinct_serials}
 use Rattle.run.specs.declared.Run.{Run}
 use Rattle.run.specs.declared.ReleaseStep.{ReleaseStep}
-use Rattle.run.specs.declared.Released.TheVariants as answer
 use Rattle.run.specs.Runs.{row_at, kept_of}
 use Rattle.run.specs.Sound.{jobs_sound, rows_sound, max_ended, serial_bound, sound_of, Whole}
 use Rattle.run.specs.Release.{refused_release, new_job, released}
@@ -47,9 +45,9 @@ with_job_of_row run row cost due = record {
 }
 
 -- The last test of a release of a row. (6.6, 6.8)
-abbrev pub at_due_of_row : Run → (row cost : ℕ) → Due → ReleaseStep
-at_due_of_row run row cost (due.At t) = record { run = with_job_of_row run row cost t; answer = answer.Accepted (record { serial = run.next; due = t }) }
-at_due_of_row run row cost (due.Refused r) = refused_release run r
+abbrev pub at_due_of_row : Run → (row cost : ℕ) → Result Tick Refusal → ReleaseStep
+at_due_of_row run row cost (Ok t) = record { run = with_job_of_row run row cost t; answer = Ok (record { serial = run.next; due = t }) }
+at_due_of_row run row cost (Err r) = refused_release run r
 
 -- What a release by the rows alone answers, and the run after it: 11, then 6 from the row count on, then 7 by the row's c, 8 and 9. (6.6 to 6.8)
 unfoldable pub released_by_rows : Run → (row cost : ℕ) → ReleaseStep

@@ -12,10 +12,10 @@ ghost use Rattle.run.specs.Ticking.{ticked};
 ghost use Rattle.run.specs.Ending.{refused_end, ended};
 
 use crate::soundness::{jobs_sound, rows_sound, servers_sound};
-use due::{Due, Kept};
-use jobs::{Choice, Job, Pending, Ran, Turn};
+use due::Kept;
+use jobs::{Job, Pending, Ran};
 use kinds::{Refusal, RefusedAt, RowNumber, Serial, Tick};
-use table::{CostAnswer, Table, TableAnswer};
+use table::Table;
 
 // A run holds its table, which is the timer, the rows and the servers, the clock, the pending jobs, the next serial, the kept due times of each row, the last
 // due time of each server, and how many jobs were ended early. In memory it is a list of numbers of eight bytes, in this order. (6.1, 9.16)
@@ -31,18 +31,11 @@ pub struct Run {
     pub ended: u64,
 }
 
-// The answer of a start: the run is ready, or the table was refused. (6.4)
-#[derive(Clone, Copy)]
-pub enum StartAnswer {
-    Ready,
-    Refused(RefusedAt),
-}
-
 // The run that was started, beside the answer. After a refusal it is the fresh run of the empty table. (6.4)
 #[derive(Clone, Copy)]
 pub struct Started {
     pub run: Run,
-    pub answer: StartAnswer,
+    pub answer: Result<(), RefusedAt>,
 }
 
 // What an accepted release answers: the job's serial and its due time. (6.6)
@@ -52,21 +45,15 @@ pub struct Accepted {
     pub due: Tick,
 }
 
-// The answer of a release: the job was accepted or refused. (6.6, 6.8)
-#[derive(Clone, Copy)]
-pub enum Released {
-    Accepted(Accepted),
-    Refused(Refusal),
-}
-
-// The next run after a release, beside the answer. (6.19)
+// The next run after a release, beside the answer. Beside a refusal it is the run as it was. (6.18, 6.19)
 #[derive(Clone, Copy)]
 pub struct ReleaseStep {
     pub run: Run,
-    pub answer: Released,
+    pub answer: Result<Accepted, Refusal>,
 }
 
-// The answer of a tick: it was idle, a job had the unit, the timer took it, or it was refused. (6.12, 6.16)
+// The answer of a tick: it was idle, a job had the unit, the timer took it, or it was refused. The rules name these four answers side by side, and one match
+// tells them apart. (6.12, 6.16)
 #[derive(Clone, Copy)]
 pub enum Ticked {
     Idle,
@@ -83,18 +70,11 @@ pub struct TickStep {
     pub late: u64,
 }
 
-// The answer of an end: the units that the job was given so far, or a refusal. (6.27, 6.30)
-#[derive(Clone, Copy)]
-pub enum Ended {
-    Units(u64),
-    Refused(Refusal),
-}
-
-// The next run after an end, beside the answer. (6.19)
+// The next run after an end, beside the answer. Beside a refusal it is the run as it was. (6.18, 6.19)
 #[derive(Clone, Copy)]
 pub struct EndStep {
     pub run: Run,
-    pub answer: Ended,
+    pub answer: Result<u64, Refusal>,
 }
 
 // Starts a run on a table's bytes. An accepted table, an overloaded one too, gives its fresh run. Other bytes give the table's refusal, with the fresh run of
@@ -103,18 +83,9 @@ pub fn start(bytes: &[u8]) -> Started
     ensures { result ≡ started bytes.now }
 {
     let read = table::read_table(bytes);
-    let table = read.table;
-    let answer = read.answer;
-    let run = Run::fresh(table);
-    match answer {
-        TableAnswer::Accepted(_) => Started {
-            run,
-            answer: StartAnswer::Ready,
-        },
-        TableAnswer::Refused(r) => Started {
-            run,
-            answer: StartAnswer::Refused(r),
-        },
+    Started {
+        run: Run::fresh(read.table),
+        answer: read.answer.map(|_| ()),
     }
 }
 
@@ -132,133 +103,95 @@ impl Run {
     pub fn fresh(table: Table) -> Run
         ensures { result ≡ fresh_run table }
     {
-        let pending = Pending::empty();
-        let nothing = Kept::empty();
         Run {
             table,
             clock: Tick(0),
-            pending,
+            pending: Pending::empty(),
             next: Serial(0),
-            kept: [nothing; Table::MAX_ROWS],
+            kept: [Kept::empty(); Table::MAX_ROWS],
             last: [Tick(0); Table::MAX_SERVERS],
             ended: 0,
         }
     }
 
     // Whether the run is sound. The second clause holds whatever the answer is: the run's arrays have all their places. (6.20)
+    #[tactic(auto, unfolding(crate::specs::Sound::sound_of))]
     pub fn sound(self) -> bool
         ensures value { result ≡ sound_of self }
         ensures whole { Whole self }
     {
-        let table = self.table;
-        let pending = self.pending;
-        let kept = self.kept;
-        let servers = table.servers;
-        let last = self.last;
-        let clock = self.clock;
-        let next = self.next;
-        if !table::timer_in_range(table.s, table.p) {
-            return false;
-        }
-        if Table::MAX_ROWS < table.count {
-            return false;
-        }
-        if Table::MAX_SERVERS < table.serving {
-            return false;
-        }
-        if Run::MAX_CLOCK < clock.0 {
-            return false;
-        }
-        if Run::MAX_PENDING < pending.count {
-            return false;
-        }
-        if Run::MAX_ENDED < self.ended {
-            return false;
-        }
-        if !rows_sound(table, kept) {
-            return false;
-        }
-        if !servers_sound(servers, table.serving, last) {
-            return false;
-        }
-        let limits = table.cost_limits();
-        let used = table.count + table.serving;
-        if !jobs_sound(&limits[..used], clock, next, pending) {
-            return false;
-        }
-        next.0 <= clock.0 + pending.count as u64 + self.ended
+        table::timer_in_range(self.table.s, self.table.p)
+            && self.table.count <= Table::MAX_ROWS
+            && self.table.serving <= Table::MAX_SERVERS
+            && self.clock.0 <= Run::MAX_CLOCK
+            && self.pending.count <= Run::MAX_PENDING
+            && self.ended <= Run::MAX_ENDED
+            && rows_sound(&self.table.rows[..self.table.count], &self.kept)
+            && servers_sound(&self.table.servers[..self.table.serving], &self.last)
+            && jobs_sound(&self.table, self.clock, self.next, &self.pending)
+            && self.next.0 <= self.clock.0 + self.pending.count as u64 + self.ended
     }
 
     // Releases a job of a row or of a server at the clock. It answers the job's serial and due time, or refuses with 11, 6, 7, 8 or 9, in this order. A
     // refused release leaves the run unchanged. (6.6 to 6.8, 6.18)
-    pub fn release(self, row: RowNumber, cost: u64) -> ReleaseStep
+    pub fn release(mut self, row: RowNumber, cost: u64) -> ReleaseStep
         ensures { result ≡ released self row.0 cost }
     {
         if !self.sound() {
             return refused_release(self, Refusal::RunNotSound);
         }
-        let mut run = self;
-        let table = run.table;
-        let limits = table.cost_limits();
-        let used = table.count + table.serving;
+        let limits = self.table.cost_limits();
+        let used = self.table.count + self.table.serving;
         let limit = table::limit_of(&limits[..used], row);
-        match limit.answer(cost) {
-            CostAnswer::Refused(r) => return refused_release(run, r),
-            CostAnswer::Allowed => {}
+        if let Err(r) = table::cost_answer(limit, cost) {
+            return refused_release(self, r);
         }
-        let pending = run.pending;
-        if Run::MAX_PENDING <= pending.count {
-            return refused_release(run, Refusal::PlacesFull);
+        if Run::MAX_PENDING <= self.pending.count {
+            return refused_release(self, Refusal::PlacesFull);
         }
         let at = row.0 as usize;
-        let count = table.count;
-        let clock = run.clock;
-        let serial = run.next;
+        let count = self.table.count;
         let given = if at < count {
-            let kept = run.kept[at];
-            let its = table.rows[at];
-            kept.due(its, clock, cost)
+            self.kept[at].due(self.table.rows[at], self.clock, cost)
         } else {
-            let server = table.servers[at - count];
-            let last = run.last[at - count];
-            due::odd_due(server, last, clock, cost)
+            due::odd_due(
+                self.table.servers[at - count],
+                self.last[at - count],
+                self.clock,
+                cost,
+            )
         };
-        match given {
-            Due::Refused(r) => refused_release(run, r),
-            // A place is unused and the row or server is in range, so the job is put in and its due time is kept.
-            Due::At(due) => {
-                let put = pending.put(Job {
-                    serial,
-                    row,
-                    release: clock,
-                    due,
-                    cost,
-                    left: cost,
-                });
-                let more = put.pending;
-                run.pending = more;
-                if at < count {
-                    let kept = run.kept[at];
-                    let its = table.rows[at];
-                    let keep = kept.keep(its, due);
-                    let newest = keep.kept;
-                    run.kept[at] = newest;
-                } else {
-                    run.last[at - count] = due;
-                }
-                let following = Serial(serial.0 + 1);
-                run.next = following;
-                ReleaseStep {
-                    run,
-                    answer: Released::Accepted(Accepted { serial, due }),
-                }
-            }
+        let due = match given {
+            Ok(due) => due,
+            Err(r) => return refused_release(self, r),
+        };
+        // A place is unused and the row or server is in range, so the job is put in and its due time is kept.
+        let serial = self.next;
+        let put = self.pending.put(Job {
+            serial,
+            row,
+            release: self.clock,
+            due,
+            cost,
+            left: cost,
+        });
+        self.pending = put.pending;
+        if at < count {
+            let keep = self.kept[at].keep(self.table.rows[at], due);
+            self.kept[at] = keep.kept;
+        } else {
+            self.last[at - count] = due;
+        }
+        self.next = Serial(serial.0 + 1);
+        ReleaseStep {
+            run: self,
+            answer: Ok(Accepted { serial, due }),
         }
     }
 
     // Lets one tick go by. It refuses with 11 or 10, in this order, and a refused tick leaves the run unchanged. A tick that the timer takes gives no unit, and
     // any other gives one unit to the chosen job, if one is pending. (6.5, 6.10 to 6.14, 6.16, 6.18)
-    pub fn tick(self) -> TickStep
+    pub fn tick(mut self) -> TickStep
         ensures { result ≡ ticked self }
     {
         if !self.sound() {
@@ -268,73 +201,57 @@ impl Run {
                 late: 0,
             };
         }
-        let mut run = self;
-        let clock = run.clock;
+        let clock = self.clock;
         if Run::MAX_CLOCK <= clock.0 {
             return TickStep {
-                run,
+                run: self,
                 answer: Ticked::Refused(Refusal::TimeTooLate),
                 late: 0,
             };
         }
         let later = Tick(clock.0 + 1);
-        let pending = run.pending;
-        let s = run.table.s;
-        let p = run.table.p;
-        if clock.0 % p < s {
-            let late = pending.late(later);
-            run.clock = later;
+        self.clock = later;
+        if clock.0 % self.table.p < self.table.s {
+            let late = self.pending.late(later);
             return TickStep {
-                run,
+                run: self,
                 answer: Ticked::Taken,
                 late,
             };
         }
-        let turned = pending.tick(later);
-        let left = turned.pending;
-        let turn = turned.turn;
-        let late = turned.late;
-        run.pending = left;
-        run.clock = later;
-        match turn {
-            Turn::Idle => TickStep {
-                run,
-                answer: Ticked::Idle,
-                late,
+        let turned = self.pending.tick(later);
+        self.pending = turned.pending;
+        TickStep {
+            run: self,
+            answer: match turned.turn {
+                None => Ticked::Idle,
+                Some(ran) => Ticked::Ran(ran),
             },
-            Turn::Ran(ran) => TickStep {
-                run,
-                answer: Ticked::Ran(ran),
-                late,
-            },
+            late: turned.late,
         }
     }
 
     // Ends the pending job that has a serial before it has had its cost. It answers the units that the job was given so far, or refuses with 11, 17 or 18, in
     // this order. A refused end leaves the run unchanged. (6.18, 6.27 to 6.30)
-    pub fn end(self, serial: Serial) -> EndStep
+    pub fn end(mut self, serial: Serial) -> EndStep
         ensures { result ≡ ended self serial.0 }
     {
         if !self.sound() {
             return refused_end(self, Refusal::RunNotSound);
         }
-        let mut run = self;
-        let pending = run.pending;
-        let at = match pending.place_of(serial) {
-            Choice::Place(at) => at,
-            Choice::Nobody => return refused_end(run, Refusal::NotPending),
+        let Some(at) = self.pending.place_of(serial) else {
+            return refused_end(self, Refusal::NotPending);
         };
-        if Run::MAX_ENDED <= run.ended {
-            return refused_end(run, Refusal::TooManyEnded);
+        if Run::MAX_ENDED <= self.ended {
+            return refused_end(self, Refusal::TooManyEnded);
         }
-        let job = pending.places[at];
-        let step = pending.take_out(at);
-        let rest = step.pending;
-        run.pending = rest;
-        run.ended += 1;
+        let job = self.pending.places[at];
+        let step = self.pending.take_out(at);
+        self.pending = step.pending;
+        self.ended += 1;
         EndStep {
-            run,
-            answer: Ended::Units(job.cost - job.left),
+            run: self,
+            answer: Ok(job.cost - job.left),
         }
     }
 }
@@ -345,7 +262,7 @@ fn refused_end(run: Run, refusal: Refusal) -> EndStep
 {
     EndStep {
         run,
-        answer: Ended::Refused(refusal),
+        answer: Err(refusal),
     }
 }
 
@@ -355,6 +272,6 @@ fn refused_release(run: Run, refusal: Refusal) -> ReleaseStep
 {
     ReleaseStep {
         run,
-        answer: Released::Refused(refusal),
+        answer: Err(refusal),
     }
 }

@@ -1,5 +1,6 @@
 -- What the number reader and the record reader of a script say, and what the chooser says. No answer is numbered 0, different answers say different things, and
 -- what is said tells what stands there. (docs/RULES.md, section 7.)
+use Rattle.std.specs.Prelude.{Option, Some, None, Result, Ok, Err}
 use Prim.Native.Nat.{ℕ}
 use mathlib.Core.Path.{◌≡◌, refl, sym, ap, ap₂, ◌∙◌}
 use native.Mathlib.Omega.{arith}
@@ -8,20 +9,15 @@ use Rattle.kinds.specs.declared.RefusedAt.{RefusedAt}
 use Rattle.kinds.proofs.Apart.{impossible}
 use Rattle.kinds.proofs.Numbering.{never_zero, numbers_differ, said_in, refusals_apart}
 use Rattle.numbers.specs.declared.Number.{Number}
-use Rattle.numbers.specs.declared.NumberRead.{NumberRead}
-use Rattle.numbers.specs.declared.NumberRead.TheVariants as number
 use Rattle.numbers.specs.Reading.{read_at, misspelled_at}
 use Rattle.numbers.specs.Answers.{number_says}
 use Rattle.numbers.proofs.Spellings.{spelled_read}
 use Rattle.numbers.proofs.BadByte.{bad_read, refused_at_the_bad_byte}
 use Rattle.numbers.proofs.Answers.{numbers_said_apart}
 use Rattle.script.specs.declared.RecordAt.{RecordAt}
-use Rattle.script.specs.declared.RecordRead.{RecordRead}
-use Rattle.script.specs.declared.RecordRead.TheVariants as read
 use Rattle.script.specs.declared.Which.{Which}
 use Rattle.script.specs.declared.Which.TheVariants as which
 use Rattle.script.specs.declared.RefusedIn.{RefusedIn}
-use Rattle.script.specs.declared.Chosen.TheVariants as answer
 use Rattle.script.specs.Records.{script_number, record_at}
 use Rattle.script.specs.Answers.{record_says, which_number, chosen_says, ScriptsNeverZero, ScriptsSaidApart}
 use Rattle.script.specs.Answers.{RecordReadSays, EndSays, RefusedRecordSays, FirstNextSays, SecondNextSays, EndedSays, RefusedInFirstSays, RefusedInSecondSays}
@@ -60,14 +56,14 @@ refused_in_second_says r place = refl
 -- ---- no answer is numbered 0, and different answers say different things
 
 record_never_zero : NeverNumberedZero record_says
-record_never_zero (read.Record r) = tt
-record_never_zero read.End = tt
-record_never_zero (read.Refused r) = never_zero r.refusal
+record_never_zero (Ok (Some r)) = tt
+record_never_zero (Ok None) = tt
+record_never_zero (Err r) = never_zero r.refusal
 
 chosen_never_zero : NeverNumberedZero chosen_says
-chosen_never_zero (answer.Next n) = tt
-chosen_never_zero answer.Ended = tt
-chosen_never_zero (answer.Refused r) = never_zero r.at.refusal
+chosen_never_zero (Ok (Some n)) = tt
+chosen_never_zero (Ok None) = tt
+chosen_never_zero (Err r) = never_zero r.at.refusal
 
 pub scripts_never_zero : ScriptsNeverZero
 scripts_never_zero = (record_never_zero, chosen_never_zero)
@@ -81,15 +77,15 @@ same_record a b gap row cost next =
     ap₂ (λ r n. record { release = r; next = n }) release next
 
 record_apart : SaysApart record_says
-record_apart (read.Record a) (read.Record b) e = ap read.Record (same_record a b (cc) (cc) (cc) (cc))
-record_apart (read.Record a) read.End e = impossible cc
-record_apart (read.Record a) (read.Refused r) e = impossible cc
-record_apart read.End (read.Record b) e = impossible cc
-record_apart read.End read.End e = refl
-record_apart read.End (read.Refused r) e = impossible cc
-record_apart (read.Refused q) (read.Record b) e = impossible cc
-record_apart (read.Refused q) read.End e = impossible cc
-record_apart (read.Refused q) (read.Refused r) e = ap read.Refused (refusals_apart q r e)
+record_apart (Ok (Some a)) (Ok (Some b)) e = ap (λ r. Ok (Some r)) (same_record a b (cc) (cc) (cc) (cc))
+record_apart (Ok (Some a)) (Ok None) e = impossible cc
+record_apart (Ok (Some a)) (Err r) e = impossible cc
+record_apart (Ok None) (Ok (Some b)) e = impossible cc
+record_apart (Ok None) (Ok None) e = refl
+record_apart (Ok None) (Err r) e = impossible cc
+record_apart (Err q) (Ok (Some b)) e = impossible cc
+record_apart (Err q) (Ok None) e = impossible cc
+record_apart (Err q) (Err r) e = ap Err (refusals_apart q r e)
 
 -- Different scripts of the two have different numbers.
 which_apart : (a b : Which) → which_number a ≡ which_number b → a ≡ b
@@ -99,7 +95,7 @@ which_apart which.Second which.First e = absurd (omega arith)
 which_apart which.Second which.Second e = refl
 
 -- Refusals in scripts that say the same are equal.
-refused_apart : (q r : RefusedIn) → chosen_says (answer.Refused q) ≡ chosen_says (answer.Refused r) → q ≡ r
+refused_apart : (q r : RefusedIn) → chosen_says (Err q) ≡ chosen_says (Err r) → q ≡ r
 refused_apart q r e =
     ap₂ (λ script at. record { script = script; at = at }) (which_apart q.script r.script (ap (λ a. (said_in a).second) e))
     (ap₂ (λ kind place. record { refusal = kind; place = place })
@@ -107,18 +103,18 @@ refused_apart q r e =
     (ap (λ a. (said_in a).first) e))
 
 chosen_apart : SaysApart chosen_says
-chosen_apart (answer.Next n) (answer.Next m) e =
+chosen_apart (Ok (Some n)) (Ok (Some m)) e =
     let script : which_number n.script ≡ which_number m.script = cc in
     let long : n.length ≡ m.length = cc in
-    ap₂ (λ s k. answer.Next (record { script = s; length = k })) (which_apart n.script m.script script) long
-chosen_apart (answer.Next n) answer.Ended e = impossible cc
-chosen_apart (answer.Next n) (answer.Refused r) e = impossible cc
-chosen_apart answer.Ended (answer.Next m) e = impossible cc
-chosen_apart answer.Ended answer.Ended e = refl
-chosen_apart answer.Ended (answer.Refused r) e = impossible cc
-chosen_apart (answer.Refused q) (answer.Next m) e = impossible cc
-chosen_apart (answer.Refused q) answer.Ended e = impossible cc
-chosen_apart (answer.Refused q) (answer.Refused r) e = ap answer.Refused (refused_apart q r e)
+    ap₂ (λ s k. Ok (Some (record { script = s; length = k }))) (which_apart n.script m.script script) long
+chosen_apart (Ok (Some n)) (Ok None) e = impossible cc
+chosen_apart (Ok (Some n)) (Err r) e = impossible cc
+chosen_apart (Ok None) (Ok (Some m)) e = impossible cc
+chosen_apart (Ok None) (Ok None) e = refl
+chosen_apart (Ok None) (Err r) e = impossible cc
+chosen_apart (Err q) (Ok (Some m)) e = impossible cc
+chosen_apart (Err q) (Ok None) e = impossible cc
+chosen_apart (Err q) (Err r) e = ap Err (refused_apart q r e)
 
 pub scripts_said_apart : ScriptsSaidApart
 scripts_said_apart = (record_apart, chosen_apart)
@@ -126,14 +122,14 @@ scripts_said_apart = (record_apart, chosen_apart)
 -- ---- what is known about a place, by what was said
 
 -- An answer of the record reader that is numbered is a refusal, with that number.
-pub refused_record : {G : Type 0} (v : RecordRead) (said : Said) → record_says v ≡ numbered said
-    → ((r : RefusedAt) → v ≡ read.Refused r → said ≡ refused_says r → G) → G
-refused_record (read.Record a) said e then = impossible cc
-refused_record read.End said e then = impossible cc
-refused_record (read.Refused r) said e then = then r refl (sym (ap said_in e))
+pub refused_record : {G : Type 0} (v : Result (Option RecordAt) RefusedAt) (said : Said) → record_says v ≡ numbered said
+    → ((r : RefusedAt) → v ≡ Err r → said ≡ refused_says r → G) → G
+refused_record (Ok (Some a)) said e then = impossible cc
+refused_record (Ok None) said e then = impossible cc
+refused_record (Err r) said e then = then r refl (sym (ap said_in e))
 
 pub end_is_the_length : EndIsTheLength
-end_is_the_length s at = (λ e. end_is_length s at (record_apart (record_at s at) read.End e), λ e. ap record_says (record_end s at e))
+end_is_the_length s at = (λ e. end_is_length s at (record_apart (record_at s at) (Ok None) e), λ e. ap record_says (record_end s at e))
 
 pub past_the_end : PastTheEnd
 past_the_end s at h = ap record_says (record_past_end s at h)
@@ -158,17 +154,17 @@ pub number_is_read : NumberIsRead
 number_is_read s at n next =
     let k : Number = record { value = n; next = next } in
     let apart = numbers_said_apart.0 in (
-      λ e. ap number_says (number_read s at k (apart (script_number s at) (number.Number k) e)),
-      λ e. ap number_says (number_stands s at (apart (read_at s at) (number.Number k) e)),
+      λ e. ap number_says (number_read s at k (apart (script_number s at) (Ok k) e)),
+      λ e. ap number_says (number_stands s at (apart (read_at s at) (Ok k) e)),
     )
 
 pub number_refused : NumberRefused
 number_refused s at said = (λ e. by_answer (script_number s at) refl e, λ p. there p.0 p.1)
   where
-    by_answer : (v : NumberRead) → script_number s at ≡ v → number_says v ≡ numbered said
+    by_answer : (v : Result Number RefusedAt) → script_number s at ≡ v → number_says v ≡ numbered said
         → (said ≡ refusal_at 14 said.first) × (number_says (read_at s at) ≡ refused_with 1 said.first)
-    by_answer (number.Number n) p q = impossible cc
-    by_answer (number.Refused r) p q =
+    by_answer (Ok n) p q = impossible cc
+    by_answer (Err r) p q =
         let w = number_refused_there s at p in
         let same : said ≡ refusal_at 14 r.place = sym (ap said_in q) ∙ ap (λ kind. refused_says (record { refusal = kind; place = r.place })) w.0 in
         rw same (refl, ap number_says w.1)

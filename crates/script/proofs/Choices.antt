@@ -1,4 +1,5 @@
 -- What the chooser says about two scripts, by what each begins with and the time that each has reached. (docs/RULES.md, section 7.)
+use Rattle.std.specs.Prelude.{Option, Some, None, Result, Ok, Err}
 use Prim.Native.Nat.{ℕ}
 use native.Mathlib.Omega.{arith}
 use mathlib.Core.Path.{◌≡◌, refl, ap, ◌∙◌}
@@ -6,8 +7,6 @@ use mathlib.Core.List.{List}
 use Rattle.kinds.specs.Numbering.{refused_says}
 use Rattle.kinds.specs.declared.RefusedAt.{RefusedAt}
 use Rattle.script.specs.declared.RecordAt.{RecordAt}
-use Rattle.script.specs.declared.RecordRead.{RecordRead}
-use Rattle.script.specs.declared.RecordRead.TheVariants as read
 use Rattle.script.specs.declared.Which.TheVariants as which
 use Rattle.script.specs.Records.{record_at}
 use Rattle.script.specs.Chooser.{refused_in, earlier_of, comes_next, chosen}
@@ -19,12 +18,12 @@ use Rattle.script.proofs.Chooser.{first_earlier, second_earlier, first_too_late,
 use Rattle.script.proofs.Answers.{scripts_said_apart, refused_record}
 
 -- What the record reader says about the first record tells which record it is.
-begins : (s : List ℕ) (a : RecordAt) → BeginsWith s a → record_at s 0 ≡ read.Record a
-begins s a e = scripts_said_apart.0 (record_at s 0) (read.Record a) e
+begins : (s : List ℕ) (a : RecordAt) → BeginsWith s a → record_at s 0 ≡ Ok (Some a)
+begins s a e = scripts_said_apart.0 (record_at s 0) (Ok (Some a)) e
 
 -- Where the record reader says no value at the start, the script has ended.
-ends : (s : List ℕ) → HasEnded s → record_at s 0 ≡ read.End
-ends s e = scripts_said_apart.0 (record_at s 0) read.End e
+ends : (s : List ℕ) → HasEnded s → record_at s 0 ≡ Ok None
+ends s e = scripts_said_apart.0 (record_at s 0) (Ok None) e
 
 -- Where each script begins with a record, the choice is the earlier of the two.
 earlier_of_two : (s₁ s₂ : List ℕ) (time₁ time₂ : ℕ) (a b : RecordAt) → TwoRecords s₁ s₂ time₁ time₂ a b → chosen s₁ s₂ time₁ time₂ ≡ earlier_of a b time₁ time₂
@@ -60,14 +59,13 @@ refused_in_first s₁ s₂ time₁ time₂ said h k p =
     ap chosen_says (by_records s₁ s₂ time₁ time₂ h k is refl) ∙ rw says
 
 -- Where the first script's record is not refused, the refusal of the second script's is the answer.
-second_refusal : (one : RecordRead) (r : RefusedAt) (time₁ time₂ : ℕ) → ((q : RefusedAt) → one ≡ read.Refused q → ⊥)
-    → comes_next one (read.Refused r) time₁ time₂ ≡ refused_in which.Second r
-second_refusal (read.Record a) r time₁ time₂ n = refl
-second_refusal read.End r time₁ time₂ n = refl
-second_refusal (read.Refused q) r time₁ time₂ n = absurd (n q refl)
+second_refusal : (one : Result (Option RecordAt) RefusedAt) (r : RefusedAt) (time₁ time₂ : ℕ) → ((q : RefusedAt) → one ≡ Err q → ⊥)
+    → comes_next one (Err r) time₁ time₂ ≡ refused_in which.Second r
+second_refusal (Ok found) r time₁ time₂ n = refl
+second_refusal (Err q) r time₁ time₂ n = absurd (n q refl)
 
 pub refused_in_second : RefusedInSecond
 refused_in_second s₁ s₂ time₁ time₂ said h k none p =
     refused_record (record_at s₂ 0) said p λ r is says.
-    let not_first : (q : RefusedAt) → record_at s₁ 0 ≡ read.Refused q → ⊥ = λ q e. none (refused_says q) (rw e) in
+    let not_first : (q : RefusedAt) → record_at s₁ 0 ≡ Err q → ⊥ = λ q e. none (refused_says q) (rw e) in
     ap chosen_says (by_records s₁ s₂ time₁ time₂ h k refl is ∙ second_refusal (record_at s₁ 0) r time₁ time₂ not_first) ∙ rw says

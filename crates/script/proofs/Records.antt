@@ -1,5 +1,6 @@
 -- A record of a script is read as its three numbers, and where a record is read its spelling stands. Each answer of the record reader is stated as a law.
 -- (docs/RULES.md, section 7.)
+use Rattle.std.specs.Prelude.{Option, Some, None, Result, Ok, Err, MatchResult, IsErrAnd}
 use Prim.Native.Nat.{ℕ, ◌+◌, ◌≤◌, ◌<◌}
 use native.Mathlib.Omega.{arith}
 use mathlib.Core.Path.{◌≡◌, refl, sym, ap, ap₂, ◌∙◌}
@@ -13,8 +14,6 @@ use Rattle.kinds.specs.declared.RefusedAt.{RefusedAt}
 use Rattle.kinds.specs.declared.Refusal.TheVariants.{ScriptMisspelled}
 use Rattle.kinds.proofs.Apart.{impossible}
 use Rattle.numbers.specs.declared.Number.{Number}
-use Rattle.numbers.specs.declared.NumberRead.{NumberRead}
-use Rattle.numbers.specs.declared.NumberRead.TheVariants as number
 use Rattle.numbers.specs.Spelling.{max_number, spelling}
 use Rattle.numbers.specs.Reading.{read_at, misspelled_at}
 use Rattle.numbers.specs.SpelledNumbers.{Bytes, Spelled}
@@ -23,103 +22,112 @@ use Rattle.numbers.proofs.Spellings.{read_here, number_has_one_spelling, spellin
 use Rattle.numbers.proofs.BadByte.{refused_between, refused_bad}
 use Rattle.script.specs.declared.Record.{Record}
 use Rattle.script.specs.declared.RecordAt.{RecordAt}
-use Rattle.script.specs.declared.RecordRead.{RecordRead}
-use Rattle.script.specs.declared.RecordRead.TheVariants as read
 use Rattle.script.specs.Records.{as_scripts, script_number, after_number, record_at}
 use Rattle.script.specs.SpelledScripts.{spelled_record, CanBeSpelled, SpelledHere, NoNumberOf, no_gap, no_row, no_cost}
+
+-- ---- a number, as a script's
+
+-- A reading whose number stays and whose refusal becomes 14 at the same place is the script's reading.
+pub told_as_scripts : (v told : Result Number RefusedAt) (post : RefusedAt → RefusedAt → Type 0)
+    → ((r q : RefusedAt) → post r q → q ≡ record { refusal = ScriptMisspelled; place = r.place })
+    → MatchResult v (λ n. told ≡ Ok n) (λ r. IsErrAnd told (post r)) → told ≡ as_scripts v
+told_as_scripts (Ok n) told post says m = m
+told_as_scripts (Err r) (Ok n) post says m = absurd m
+told_as_scripts (Err r) (Err q) post says m = ap Err (says r q m)
 
 -- ---- the answers of the number reader and the record reader
 
 -- A number that the number reader reads is the script's number at that place.
-pub number_stands : (s : List ℕ) (at : ℕ) {n : Number} → read_at s at ≡ number.Number n → script_number s at ≡ number.Number n
+pub number_stands : (s : List ℕ) (at : ℕ) {n : Number} → read_at s at ≡ Ok n → script_number s at ≡ Ok n
 unfolding script_number
 number_stands s at e = rw e
 
 -- A number that can't be read is refused with 14, at the place where the number reader refuses it.
-pub number_misspelled : (s : List ℕ) (at : ℕ) {r : RefusedAt} → read_at s at ≡ number.Refused r
-    → script_number s at ≡ number.Refused (record { refusal = ScriptMisspelled; place = r.place })
+pub number_misspelled : (s : List ℕ) (at : ℕ) {r : RefusedAt} → read_at s at ≡ Err r
+    → script_number s at ≡ Err (record { refusal = ScriptMisspelled; place = r.place })
 unfolding script_number
 number_misspelled s at e = rw e
 
 -- A number at a place past the end is refused at the script's length.
-pub number_past_end : (s : List ℕ) (at : ℕ) → length s < at → script_number s at ≡ number.Refused (record { refusal = ScriptMisspelled; place = length s })
+pub number_past_end : (s : List ℕ) (at : ℕ) → length s < at → script_number s at ≡ Err (record { refusal = ScriptMisspelled; place = length s })
 number_past_end s at h = number_misspelled s at (nothing_past_the_end s at (omega arith))
 
 -- A property of every number and of every refusal with 14 is a property of what is read as a script's number.
-pub number_or_14 : (P : NumberRead → Type 0) (s : List ℕ) (at : ℕ) → ((n : Number) → P (number.Number n))
-    → ((place : ℕ) → P (number.Refused (record { refusal = ScriptMisspelled; place = place }))) → P (script_number s at)
+pub number_or_14 : (P : Result Number RefusedAt → Type 0) (s : List ℕ) (at : ℕ) → ((n : Number) → P (Ok n))
+    → ((place : ℕ) → P (Err (record { refusal = ScriptMisspelled; place = place }))) → P (script_number s at)
 unfolding script_number
 number_or_14 P s at reads refuses = by_answer (read_at s at)
   where
-    by_answer : (v : NumberRead) → P (as_scripts v)
-    by_answer (number.Number n) = reads n
-    by_answer (number.Refused r) = refuses r.place
+    by_answer : (v : Result Number RefusedAt) → P (as_scripts v)
+    by_answer (Ok n) = reads n
+    by_answer (Err r) = refuses r.place
 
 -- A script's number that is refused is refused with 14, where the number reader refuses it with 1.
-pub number_refused_there : (s : List ℕ) (at : ℕ) {r : RefusedAt} → script_number s at ≡ number.Refused r
+pub number_refused_there : (s : List ℕ) (at : ℕ) {r : RefusedAt} → script_number s at ≡ Err r
     → (r.refusal ≡ ScriptMisspelled) × (read_at s at ≡ misspelled_at r.place)
 unfolding script_number
 number_refused_there s at {r} e = by_answer (read_at s at) refl e
   where
-    by_answer : (v : NumberRead) → read_at s at ≡ v → as_scripts v ≡ number.Refused r → (r.refusal ≡ ScriptMisspelled) × (read_at s at ≡ misspelled_at r.place)
-    by_answer (number.Number n) f g = impossible cc
-    by_answer (number.Refused q) f g =
+    by_answer : (v : Result Number RefusedAt) → read_at s at ≡ v → as_scripts v ≡ Err r
+        → (r.refusal ≡ ScriptMisspelled) × (read_at s at ≡ misspelled_at r.place)
+    by_answer (Ok n) f g = impossible cc
+    by_answer (Err q) f g =
         let one = (refused_between s at q f).0 in
         let same : q.place ≡ r.place = cc in
-        (cc, f ∙ ap₂ (λ kind place. number.Refused (record { refusal = kind; place = place })) one same)
+        (cc, f ∙ ap₂ (λ kind place. Err (record { refusal = kind; place = place })) one same)
 
 -- At its length a script has ended.
-pub record_end : (s : List ℕ) (at : ℕ) → at ≡ length s → record_at s at ≡ read.End
+pub record_end : (s : List ℕ) (at : ℕ) → at ≡ length s → record_at s at ≡ Ok None
 record_end s at e = rw (eq-eqb at (length s) e)
 
 module _ (s : List ℕ) (at : ℕ) (elsewhere : at ≡ length s → ⊥) where
   -- Elsewhere than at its end the script has not ended.
-  before_end : (then : RecordRead) → cond (eqb at (length s)) read.End then ≡ then
+  before_end : (then : Result (Option RecordAt) RefusedAt) → cond (eqb at (length s)) (Ok None) then ≡ then
   before_end then = rw (ne_eqb at (length s) elsewhere)
 
   -- Where the gap is refused, the record is refused with it.
-  pub gap_refused : (r : RefusedAt) → script_number s at ≡ number.Refused r → record_at s at ≡ read.Refused r
+  pub gap_refused : (r : RefusedAt) → script_number s at ≡ Err r → record_at s at ≡ Err r
   gap_refused r e = before_end _ ∙ rw e
 
-  module _ (gap : Number) (g : script_number s at ≡ number.Number gap) where
+  module _ (gap : Number) (g : script_number s at ≡ Ok gap) where
     -- Where the row number after the gap is refused, the record is refused with it.
-    pub row_refused : (r : RefusedAt) → script_number s gap.next ≡ number.Refused r → record_at s at ≡ read.Refused r
+    pub row_refused : (r : RefusedAt) → script_number s gap.next ≡ Err r → record_at s at ≡ Err r
     row_refused r e = before_end _ ∙ rw (g, e)
 
-    module _ (row : Number) (n : script_number s gap.next ≡ number.Number row) where
+    module _ (row : Number) (n : script_number s gap.next ≡ Ok row) where
       -- Where the cost after the row number is refused, the record is refused with it.
-      pub cost_refused : (r : RefusedAt) → script_number s row.next ≡ number.Refused r → record_at s at ≡ read.Refused r
+      pub cost_refused : (r : RefusedAt) → script_number s row.next ≡ Err r → record_at s at ≡ Err r
       cost_refused r e = before_end _ ∙ rw (g, n, e)
 
       -- Where three numbers are read, they are the record.
-      pub record_read : (cost : Number) → script_number s row.next ≡ number.Number cost
+      pub record_read : (cost : Number) → script_number s row.next ≡ Ok cost
           → record_at s at
-          ≡ read.Record (record { release = record { gap = gap.value; row = record { 0 = row.value }; cost = cost.value }; next = cost.next })
+          ≡ Ok (Some (record { release = record { gap = gap.value; row = record { 0 = row.value }; cost = cost.value }; next = cost.next }))
       record_read cost e = before_end _ ∙ rw (g, n, e)
 
 -- A record at a place past the end is refused at the script's length.
-pub record_past_end : (s : List ℕ) (at : ℕ) → length s < at → record_at s at ≡ read.Refused (record { refusal = ScriptMisspelled; place = length s })
+pub record_past_end : (s : List ℕ) (at : ℕ) → length s < at → record_at s at ≡ Err (record { refusal = ScriptMisspelled; place = length s })
 record_past_end s at h = gap_refused s at (λ z. omega arith) _ (number_past_end s at h)
 
 -- ---- where a record was read
 
 -- A number that was read as a script's is what the number reader reads there.
-pub number_read : (s : List ℕ) (at : ℕ) (n : Number) → script_number s at ≡ number.Number n → read_at s at ≡ number.Number n
+pub number_read : (s : List ℕ) (at : ℕ) (n : Number) → script_number s at ≡ Ok n → read_at s at ≡ Ok n
 unfolding script_number
 number_read s at n e = by_answer (read_at s at) e
   where
-    by_answer : (v : NumberRead) → as_scripts v ≡ number.Number n → v ≡ number.Number n
-    by_answer (number.Number m) q = q
-    by_answer (number.Refused r) q = impossible cc
+    by_answer : (v : Result Number RefusedAt) → as_scripts v ≡ Ok n → v ≡ Ok n
+    by_answer (Ok m) q = q
+    by_answer (Err r) q = impossible cc
 
 -- Where a record was read, the number that it was to begin with was read.
-number_before : (v : NumberRead) (k : Number → RecordRead) (found : RecordAt) → after_number v k ≡ read.Record found
-    → (n : Number) × (v ≡ number.Number n) × (k n ≡ read.Record found)
-number_before (number.Number n) k found e = (n, refl, e)
-number_before (number.Refused r) k found e = impossible cc
+number_before : (v : Result Number RefusedAt) (k : Number → Result (Option RecordAt) RefusedAt) (found : RecordAt) → after_number v k ≡ Ok (Some found)
+    → (n : Number) × (v ≡ Ok n) × (k n ≡ Ok (Some found))
+number_before (Ok n) k found e = (n, refl, e)
+number_before (Err r) k found e = impossible cc
 
 -- Where a record was read, the script had not ended.
-not_ended : (t : Bool) (then : RecordRead) (found : RecordAt) → cond t read.End then ≡ read.Record found → then ≡ read.Record found
+not_ended : (t : Bool) (then : Result (Option RecordAt) RefusedAt) (found : RecordAt) → cond t (Ok None) then ≡ Ok (Some found) → then ≡ Ok (Some found)
 not_ended true then found e = impossible cc
 not_ended false then found e = e
 
@@ -128,13 +136,13 @@ record ThreeNumbers (s : List ℕ) (at : ℕ) (found : RecordAt) : Type 0 where
   gap : Number
   row : Number
   cost : Number
-  gap_read : read_at s at ≡ number.Number gap
-  row_read : read_at s gap.next ≡ number.Number row
-  cost_read : read_at s row.next ≡ number.Number cost
+  gap_read : read_at s at ≡ Ok gap
+  row_read : read_at s gap.next ≡ Ok row
+  cost_read : read_at s row.next ≡ Ok cost
   make_record : found ≡ record { release = record { gap = gap.value; row = record { 0 = row.value }; cost = cost.value }; next = cost.next }
 
 -- A record that was read consists of three numbers that were read.
-three_numbers : (s : List ℕ) (at : ℕ) (found : RecordAt) → record_at s at ≡ read.Record found → ThreeNumbers s at found
+three_numbers : (s : List ℕ) (at : ℕ) (found : RecordAt) → record_at s at ≡ Ok (Some found) → ThreeNumbers s at found
 three_numbers s at found e =
     let gap = number_before _ _ found (not_ended (eqb at (length s)) _ found e) in
     let row = number_before _ _ found gap.2 in
@@ -150,7 +158,7 @@ three_numbers s at found e =
     }
 
 -- Where a record was read, its spelling stands from the place on.
-pub record_stands : (s : List ℕ) (at : ℕ) (found : RecordAt) → Bytes s → record_at s at ≡ read.Record found → SpelledHere s at found
+pub record_stands : (s : List ℕ) (at : ℕ) (found : RecordAt) → Bytes s → record_at s at ≡ Ok (Some found) → SpelledHere s at found
 record_stands s at found b e =
     let t = three_numbers s at found e in
     let gap = number_has_one_spelling s at t.gap b t.gap_read in
@@ -167,18 +175,18 @@ record_stands s at found b e =
 -- ---- where a record was refused
 
 -- Where what begins with a number was refused, the number was read and what comes after it refused, or its bad byte was refused with 14.
-refused_there : {G : Type 0} (s : List ℕ) (at : ℕ) (k : Number → RecordRead) (r : RefusedAt) → Bytes s → at ≤ length s
-    → after_number (script_number s at) k ≡ read.Refused r
-    → (r.refusal ≡ ScriptMisspelled → BadByteAt s at r.place → G) → ((n : Number) → Spelled s at n → k n ≡ read.Refused r → G) → G
+refused_there : {G : Type 0} (s : List ℕ) (at : ℕ) (k : Number → Result (Option RecordAt) RefusedAt) (r : RefusedAt) → Bytes s → at ≤ length s
+    → after_number (script_number s at) k ≡ Err r
+    → (r.refusal ≡ ScriptMisspelled → BadByteAt s at r.place → G) → ((n : Number) → Spelled s at n → k n ≡ Err r → G) → G
 unfolding script_number
 refused_there {G} s at k r b inside e none later = go (read_at s at) refl e
   where
-    go : (v : NumberRead) → read_at s at ≡ v → after_number (as_scripts v) k ≡ read.Refused r → G
-    go (number.Number n) f g = later n (number_has_one_spelling s at n b f) g
-    go (number.Refused q) f g = let same : q.place ≡ r.place = cc in none (cc) (rw same at (refused_bad b inside f).1)
+    go : (v : Result Number RefusedAt) → read_at s at ≡ v → after_number (as_scripts v) k ≡ Err r → G
+    go (Ok n) f g = later n (number_has_one_spelling s at n b f) g
+    go (Err q) f g = let same : q.place ≡ r.place = cc in none (cc) (rw same at (refused_bad b inside f).1)
 
 -- Where a record is refused, the place is that of the first of its three numbers that can't be read.
-pub no_number_of : (s : List ℕ) (at : ℕ) (r : RefusedAt) → Bytes s → at < length s → record_at s at ≡ read.Refused r
+pub no_number_of : (s : List ℕ) (at : ℕ) (r : RefusedAt) → Bytes s → at < length s → record_at s at ≡ Err r
     → (r.refusal ≡ ScriptMisspelled) × NoNumberOf s at r.place
 no_number_of s at r b inside e =
     refused_there s at _ r b (omega arith) (sym (before_end s at (λ z. omega arith) _) ∙ e) (λ is bad. (is, no_gap bad)) λ gap g f.
@@ -188,21 +196,22 @@ no_number_of s at r b inside e =
 -- ---- where a script has ended
 
 -- A record is not the end of a script.
-no_end : (found : RecordAt) → read.Record found ≡ read.End → ⊥
+no_end : (found : RecordAt) → ◌≡◌ {A = Result (Option RecordAt) RefusedAt} (Ok (Some found)) (Ok None) → ⊥
 no_end found e = impossible cc
 
 -- What begins with a number is not the end of a script.
-no_end_after : (v : NumberRead) (k : Number → RecordRead) → ((n : Number) → k n ≡ read.End → ⊥) → after_number v k ≡ read.End → ⊥
-no_end_after (number.Number n) k h e = h n e
-no_end_after (number.Refused r) k h e = impossible cc
+no_end_after : (v : Result Number RefusedAt) (k : Number → Result (Option RecordAt) RefusedAt)
+    → ((n : Number) → k n ≡ Ok None → ⊥) → after_number v k ≡ Ok None → ⊥
+no_end_after (Ok n) k h e = h n e
+no_end_after (Err r) k h e = impossible cc
 
 -- Where the end is answered, the test for the script's length has passed.
-length_passed : (t : Bool) (then : RecordRead) → (then ≡ read.End → ⊥) → cond t read.End then ≡ read.End → t ≡ true
+length_passed : (t : Bool) (then : Result (Option RecordAt) RefusedAt) → (then ≡ Ok None → ⊥) → cond t (Ok None) then ≡ Ok None → t ≡ true
 length_passed true then h e = refl
 length_passed false then h e = absurd (h e)
 
 -- Where the end is answered, the place is the script's length.
-pub end_is_length : (s : List ℕ) (at : ℕ) → record_at s at ≡ read.End → at ≡ length s
+pub end_is_length : (s : List ℕ) (at : ℕ) → record_at s at ≡ Ok None → at ≡ length s
 end_is_length s at e =
     let three_numbers_are_none =
     no_end_after (script_number s at) _ λ gap.
@@ -232,12 +241,12 @@ module _ {s : List ℕ} {at : ℕ} (part rest : List ℕ) (p : From s at (part +
 
 -- A number is read where its spelling stands.
 number_here : {s : List ℕ} {at : ℕ} (v : ℕ) (rest : List ℕ) → v ≤ max_number → From s at (spelling v ++ rest)
-    → script_number s at ≡ number.Number (record { value = v; next = at + length (spelling v) })
+    → script_number s at ≡ Ok (record { value = v; next = at + length (spelling v) })
 number_here {s} {at} v rest h p = number_stands s at (read_here s at v rest h p.stands_here)
 
 -- A record is read where its spelling stands.
 pub record_here : {s : List ℕ} {at : ℕ} (r : Record) (rest : List ℕ) → CanBeSpelled r → From s at (spelled_record r ++ rest)
-    → record_at s at ≡ read.Record (record { release = r; next = at + length (spelled_record r) })
+    → record_at s at ≡ Ok (Some (record { release = r; next = at + length (spelled_record r) }))
 record_here {s} {at} r rest can p =
     let gap = spelling r.gap in
     let row = spelling r.row.0 in
@@ -250,4 +259,4 @@ record_here {s} {at} r rest can p =
     let row_read = number_here r.row.0 (cost ++ rest) can.row row_stands in
     let cost_read = number_here r.cost rest can.cost cost_stands in
     record_read s at (λ z. omega arith) _ gap_read _ row_read _ cost_read
-    ∙ ap (λ (n : ℕ). read.Record (record { release = r; next = n })) (omega (arith, length-append gap (row ++ cost), length-append row cost))
+    ∙ ap (λ (n : ℕ). Ok (Some (record { release = r; next = n }))) (omega (arith, length-append gap (row ++ cost), length-append row cost))

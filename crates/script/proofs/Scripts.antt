@@ -1,4 +1,5 @@
 -- Bytes are read as records exactly where the records are spelled, and what comes next of two scripts is one record. (docs/RULES.md, section 7.)
+use Rattle.std.specs.Prelude.{Some, None, Ok, Err}
 use Prim.Native.Nat.{ℕ}
 use native.Mathlib.Omega.{arith}
 use mathlib.Core.Path.{◌≡◌, refl, ap, ◌∙◌}
@@ -10,8 +11,6 @@ use lib.Seq.{drop-length}
 use Rattle.kinds.proofs.Apart.{impossible}
 use Rattle.numbers.specs.SpelledNumbers.{Bytes}
 use Rattle.script.specs.declared.Record.{Record}
-use Rattle.script.specs.declared.RecordRead.TheVariants as read
-use Rattle.script.specs.declared.Chosen.TheVariants as answer
 use Rattle.script.specs.Records.{record_at}
 use Rattle.script.specs.SpelledScripts.{spelled_record, spelled_script, AllCanBeSpelled, SpelledToTheEnd, Reads, ended, then}
 use Rattle.script.specs.ScriptLaws.{RecordReadsBack, RecordIsSpelled, ScriptIsRead, ScriptReadsBack, ReadInOneWay}
@@ -29,7 +28,7 @@ pub record_is_spelled : RecordIsSpelled
 record_is_spelled = record_stands
 
 -- A script ends at its length and nowhere else. The law about what is said there is in proofs/Answers.antt.
-pub end_is_the_length : (s : List ℕ) (at : ℕ) → (record_at s at ≡ read.End) ↔ (at ≡ length s)
+pub end_is_the_length : (s : List ℕ) (at : ℕ) → (record_at s at ≡ (Ok None)) ↔ (at ≡ length s)
 end_is_the_length s at = (end_is_length s at, record_end s at)
 
 -- ---- a script
@@ -81,6 +80,6 @@ pub part_is_one_record : PartIsOneRecord
 part_is_one_record s₁ s₂ time₁ time₂ n b₁ b₂ e = next_is_first s₁ s₂ b₁ b₂ time₁ time₂ n e
 
 pub part_is_empty : PartIsEmpty
-part_is_empty (answer.Next n) s₁ s₂ none = absurd (none n refl)
-part_is_empty answer.Ended s₁ s₂ none = refl
-part_is_empty (answer.Refused r) s₁ s₂ none = refl
+part_is_empty (Ok (Some n)) s₁ s₂ none = absurd (none n refl)
+part_is_empty (Ok None) s₁ s₂ none = refl
+part_is_empty (Err r) s₁ s₂ none = refl

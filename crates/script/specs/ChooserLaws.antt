@@ -1,11 +1,10 @@
 -- The laws of the chooser. (docs/RULES.md, section 7.)
-use Rattle.std.specs.Prelude.{ℕ, ◌+◌, ◌≤◌, ◌<◌, ◌≡◌, List, [], ◌∷◌}
+use Rattle.script.specs.declared.RefusedIn.{RefusedIn}
+use Rattle.std.specs.Prelude.{ℕ, ◌+◌, ◌≤◌, ◌<◌, ◌≡◌, List, [], ◌∷◌, Option, Some, Result, Ok}
 use Rattle.kinds.specs.Numbering.{max_time, Said, numbered, values}
 use Rattle.numbers.specs.SpelledNumbers.{Bytes}
 use Rattle.script.specs.declared.RecordAt.{RecordAt}
 use Rattle.script.specs.declared.Next.{Next}
-use Rattle.script.specs.declared.Chosen.{Chosen}
-use Rattle.script.specs.declared.Chosen.TheVariants as answer
 use Rattle.script.specs.Chooser.{chosen, part_of}
 use Rattle.script.specs.Answers.{chosen_says, refusal_in}
 use Rattle.script.specs.TwoScripts.{FirstOfItsScript, BeginsWith, HasEnded, RefusedFirst, TwoRecords}
@@ -14,12 +13,12 @@ use Rattle.script.specs.TwoScripts.{FirstOfItsScript, BeginsWith, HasEnded, Refu
 
 -- Where a record comes next, the part is the spelling of one record, the first of its script. (7.8)
 abbrev pub PartIsOneRecord : Type 0
-PartIsOneRecord = (s₁ s₂ : List ℕ) (time₁ time₂ : ℕ) (n : Next) → Bytes s₁ → Bytes s₂ → chosen s₁ s₂ time₁ time₂ ≡ answer.Next n
+PartIsOneRecord = (s₁ s₂ : List ℕ) (time₁ time₂ : ℕ) (n : Next) → Bytes s₁ → Bytes s₂ → chosen s₁ s₂ time₁ time₂ ≡ Ok (Some n)
     → (found : RecordAt) × FirstOfItsScript s₁ s₂ n found
 
 -- Where no record comes next, the part is empty. (7.10, 7.14)
 abbrev pub PartIsEmpty : Type 0
-PartIsEmpty = (c : Chosen) (s₁ s₂ : List ℕ) → ((n : Next) → c ≡ answer.Next n → ⊥) → part_of c s₁ s₂ ≡ []
+PartIsEmpty = (c : Result (Option Next) RefusedIn) (s₁ s₂ : List ℕ) → ((n : Next) → c ≡ Ok (Some n) → ⊥) → part_of c s₁ s₂ ≡ []
 
 -- Of two records the first script's comes next unless its time is later, also where a time is above 2^40. (7.9, 7.13)
 abbrev pub FirstUnlessLater : Type 0

@@ -1,5 +1,5 @@
 -- The laws of records, of a script's numbers and of whole scripts. (docs/RULES.md, section 7.)
-use Rattle.std.specs.Prelude.{ℕ, ◌+◌, ◌≤◌, ◌<◌, ◌≡◌, ◌↔◌, List, [], ◌∷◌, ◌++◌, length}
+use Rattle.std.specs.Prelude.{ℕ, ◌+◌, ◌≤◌, ◌<◌, ◌≡◌, ◌↔◌, List, [], ◌∷◌, ◌++◌, length, Some, Ok}
 use Rattle.kinds.specs.Numbering.{Said, numbered, values, refusal_at, refused_with}
 use Rattle.numbers.specs.SpelledNumbers.{Bytes}
 use Rattle.numbers.specs.BadByte.{BadByteAt}
@@ -7,7 +7,6 @@ use Rattle.numbers.specs.Reading.{read_at}
 use Rattle.numbers.specs.Answers.{number_says}
 use Rattle.script.specs.declared.Record.{Record}
 use Rattle.script.specs.declared.RecordAt.{RecordAt}
-use Rattle.script.specs.declared.RecordRead.TheVariants as read
 use Rattle.script.specs.Records.{script_number, record_at}
 use Rattle.script.specs.Answers.{record_says}
 use Rattle.script.specs.SpelledScripts.{spelled_record, spelled_script, CanBeSpelled, SpelledHere, NoNumberOf, AllCanBeSpelled, SpelledToTheEnd, Reads}
@@ -18,11 +17,11 @@ use Rattle.script.specs.SpelledScripts.{spelled_record, spelled_script, CanBeSpe
 abbrev pub RecordReadsBack : Type 0
 RecordReadsBack = (front : List ℕ) (r : Record) (rest : List ℕ) → CanBeSpelled r
     → record_at (front ++ (spelled_record r ++ rest)) (length front)
-    ≡ read.Record (record { release = r; next = length front + length (spelled_record r) })
+    ≡ Ok (Some (record { release = r; next = length front + length (spelled_record r) }))
 
 -- Where a record is read, its spelling stands. (2.5, 7.4)
 abbrev pub RecordIsSpelled : Type 0
-RecordIsSpelled = (s : List ℕ) (at : ℕ) (found : RecordAt) → Bytes s → record_at s at ≡ read.Record found → SpelledHere s at found
+RecordIsSpelled = (s : List ℕ) (at : ℕ) (found : RecordAt) → Bytes s → record_at s at ≡ Ok (Some found) → SpelledHere s at found
 
 -- A script ends at its length and nowhere else. (7.5)
 abbrev pub EndIsTheLength : Type 0

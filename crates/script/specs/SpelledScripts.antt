@@ -1,5 +1,5 @@
 -- How records and scripts are spelled, and what it means that a script reads as records. (docs/RULES.md, section 7.)
-use Rattle.std.specs.Prelude.{ℕ, ◌+◌, ◌≤◌, ◌<◌, ◌≡◌, length, drop}
+use Rattle.std.specs.Prelude.{ℕ, ◌+◌, ◌≤◌, ◌<◌, ◌≡◌, length, drop, Some, None, Ok}
 use mathlib.Core.List.{List, [], ◌∷◌, ◌++◌, flatten, map, Memᴰ}
 use Rattle.numbers.specs.declared.Number.{Number}
 use Rattle.numbers.specs.SpelledNumbers.{Spelled}
@@ -7,7 +7,6 @@ use Rattle.numbers.specs.BadByte.{BadByteAt}
 use Rattle.numbers.specs.Spelling.{max_number, spelling}
 use Rattle.script.specs.declared.Record.{Record}
 use Rattle.script.specs.declared.RecordAt.{RecordAt}
-use Rattle.script.specs.declared.RecordRead.TheVariants as read
 use Rattle.script.specs.Records.{record_at}
 
 -- A record is spelled as its three numbers: the gap, the row number and the cost. (7.1)
@@ -52,5 +51,5 @@ pub record SpelledToTheEnd (s : List ℕ) (at : ℕ) (rs : List Record) : Type 0
 
 -- A script is read from a place on as these records: none at its end, and else the record there and those read from the place after it. (7.4, 7.5)
 pub data Reads (s : List ℕ) : (at : ℕ) → List Record → Type 0 where
-  ended : {at : ℕ} → record_at s at ≡ read.End → Reads s at []
-  then : {at : ℕ} (found : RecordAt) {rs : List Record} → record_at s at ≡ read.Record found → Reads s found.next rs → Reads s at (found.release ∷ rs)
+  ended : {at : ℕ} → record_at s at ≡ Ok None → Reads s at []
+  then : {at : ℕ} (found : RecordAt) {rs : List Record} → record_at s at ≡ Ok (Some found) → Reads s found.next rs → Reads s at (found.release ∷ rs)

@@ -1,12 +1,10 @@
 -- What the chooser can find in its two scripts. (docs/RULES.md, section 7.)
-use Rattle.std.specs.Prelude.{ℕ, ◌≤◌, ◌≡◌, List, [], ◌∷◌, length}
+use Rattle.std.specs.Prelude.{ℕ, ◌≤◌, ◌≡◌, List, [], ◌∷◌, length, Some, Ok}
 use Rattle.kinds.specs.Numbering.{max_time, Said, numbered, values}
 use Rattle.script.specs.declared.RecordAt.{RecordAt}
-use Rattle.script.specs.declared.RecordRead.TheVariants as read
 use Rattle.script.specs.declared.Which.{Which}
 use Rattle.script.specs.declared.Which.TheVariants as which
 use Rattle.script.specs.declared.Next.{Next}
-use Rattle.script.specs.declared.Chosen.TheVariants as answer
 use Rattle.script.specs.Records.{record_at}
 use Rattle.script.specs.Chooser.{part_of}
 use Rattle.script.specs.Answers.{record_says}
@@ -19,10 +17,10 @@ script_named which.Second s₁ s₂ = s₂
 
 -- What is known about a record that comes next. It is the first record of the script that the chooser names, and the part is its spelling. (7.8)
 pub record FirstOfItsScript (s₁ s₂ : List ℕ) (n : Next) (found : RecordAt) : Type 0 where
-  pub read_there : record_at (script_named n.script s₁ s₂) 0 ≡ read.Record found
+  pub read_there : record_at (script_named n.script s₁ s₂) 0 ≡ Ok (Some found)
   pub its_length : n.length ≡ found.next
   pub within : n.length ≤ length (script_named n.script s₁ s₂)
-  pub spelled : part_of (answer.Next n) s₁ s₂ ≡ spelled_record found.release
+  pub spelled : part_of (Ok (Some n)) s₁ s₂ ≡ spelled_record found.release
 
 -- A script begins with this record, and the record reader says so.
 abbrev pub BeginsWith : List ℕ → RecordAt → Type 0

@@ -7,10 +7,10 @@ ghost use Rattle.std.specs.Prelude.{◌≡◌, ◌≤◌};
 ghost use Rattle.kinds.specs.Numbering.{max_time};
 ghost use Rattle.numbers.specs.Spelling.{max_number};
 ghost use Rattle.script.specs.Records.{script_number, record_at};
-ghost use Rattle.script.specs.Chooser.{refused_in, too_late, next_of, earlier_of, chosen, part_of, part_start};
+ghost use Rattle.script.specs.Chooser.{too_late, next_of, earlier_of, chosen, part_of, part_start};
 
 use kinds::{Refusal, RefusedAt, RowNumber, Tick};
-use numbers::NumberRead;
+use numbers::Number;
 
 // A record of a script: the gap since the last record, the row number and the cost. (7.1, 7.2)
 #[derive(Clone, Copy)]
@@ -25,14 +25,6 @@ pub struct Record {
 pub struct RecordAt {
     pub release: Record,
     pub next: usize,
-}
-
-// What the record reader answers: a record, the end of the script, or a refusal. (7.4 to 7.6)
-#[derive(Clone, Copy)]
-pub enum RecordRead {
-    Record(RecordAt),
-    End,
-    Refused(RefusedAt),
 }
 
 // The first or the second of two scripts.
@@ -56,63 +48,44 @@ pub struct Next {
     pub length: usize,
 }
 
-// What the chooser answers: the record that comes next, that both scripts have ended, or a refusal. (7.8 to 7.12)
-#[derive(Clone, Copy)]
-pub enum Chosen {
-    Next(Next),
-    Ended,
-    Refused(RefusedIn),
-}
-
 // A number of a script: refusal 14 where it can't be read, at the place where the number reader refuses it. So a place past the end is refused at the script's
 // length. (2.9, 2.10, 7.5)
-pub fn number_at(script: &[u8], at: usize) -> NumberRead
+pub fn number_at(script: &[u8], at: usize) -> Result<Number, RefusedAt>
     ensures { result ≡ script_number script.now at }
 {
-    match numbers::read(script, at) {
-        NumberRead::Number(n) => NumberRead::Number(n),
-        NumberRead::Refused(r) => NumberRead::Refused(RefusedAt {
-            refusal: Refusal::ScriptMisspelled,
-            place: r.place,
-        }),
-    }
+    numbers::read(script, at).map_err(|r| Refusal::ScriptMisspelled.at(r.place))
 }
 
-// The record at a place, or the end at the script's length. A number that can't be read is refusal 14 at its start, and a place past the end is refusal 14 at
-// the script's length. (7.4 to 7.6)
-pub fn record_at(script: &[u8], at: usize) -> RecordRead
+// The record at a place, or the end at the script's length. A number that can't be read is refusal 14 at its bad byte, and a place past the end is refusal 14
+// at the script's length. (7.4 to 7.6)
+pub fn record_at(script: &[u8], at: usize) -> Result<Option<RecordAt>, RefusedAt>
     ensures { result ≡ record_at script.now at }
 {
     if at == script.len() {
-        return RecordRead::End;
+        return Ok(None);
     }
-    let gap = match number_at(script, at) {
-        NumberRead::Number(n) => n,
-        NumberRead::Refused(r) => return RecordRead::Refused(r),
-    };
-    let row = match number_at(script, gap.next) {
-        NumberRead::Number(n) => n,
-        NumberRead::Refused(r) => return RecordRead::Refused(r),
-    };
-    let cost = match number_at(script, row.next) {
-        NumberRead::Number(n) => n,
-        NumberRead::Refused(r) => return RecordRead::Refused(r),
-    };
-    let number = RowNumber(row.value);
-    RecordRead::Record(RecordAt {
+    let gap = number_at(script, at)?;
+    let row = number_at(script, gap.next)?;
+    let cost = number_at(script, row.next)?;
+    Ok(Some(RecordAt {
         release: Record {
             gap: gap.value,
-            row: number,
+            row: RowNumber(row.value),
             cost: cost.value,
         },
         next: cost.next,
-    })
+    }))
 }
 
 // Chooses which of two scripts, each read from its start, has the record that comes next, given the time that each has reached. A time reached above 2^40 is
 // refusal 10, and then a next record that can't be read is 14, the first script's before the second's. The record with the earlier time comes next, and at
 // equal times the first script's. A record's time above 2^40 is compared like any other. Places count from the start of each lent script. (7.8 to 7.13, 7.15)
-pub fn choose(first: &[u8], second: &[u8], first_time: Tick, second_time: Tick) -> Chosen
+pub fn choose(
+    first: &[u8],
+    second: &[u8],
+    first_time: Tick,
+    second_time: Tick,
+) -> Result<Option<Next>, RefusedIn>
     ensures { result ≡ chosen first.now second.now first_time.0 second_time.0 }
 {
     if Tick::MAX < first_time.0 {
@@ -121,20 +94,19 @@ pub fn choose(first: &[u8], second: &[u8], first_time: Tick, second_time: Tick) 
     if Tick::MAX < second_time.0 {
         return too_late(Which::Second);
     }
-    let one = record_at(first, 0);
-    let other = record_at(second, 0);
-    match one {
-        RecordRead::Refused(r) => refused_in(Which::First, r),
-        RecordRead::Record(a) => match other {
-            RecordRead::Refused(r) => refused_in(Which::Second, r),
-            RecordRead::Record(b) => earlier(a, b, first_time, second_time),
-            RecordRead::End => next_of(Which::First, a.next),
-        },
-        RecordRead::End => match other {
-            RecordRead::Refused(r) => refused_in(Which::Second, r),
-            RecordRead::Record(b) => next_of(Which::Second, b.next),
-            RecordRead::End => Chosen::Ended,
-        },
+    let one = record_at(first, 0).map_err(|r| RefusedIn {
+        script: Which::First,
+        at: r,
+    })?;
+    let other = record_at(second, 0).map_err(|r| RefusedIn {
+        script: Which::Second,
+        at: r,
+    })?;
+    match (one, other) {
+        (Some(a), Some(b)) => earlier(a, b, first_time, second_time),
+        (Some(a), None) => next_of(Which::First, a.next),
+        (None, Some(b)) => next_of(Which::Second, b.next),
+        (None, None) => Ok(None),
     }
 }
 
@@ -152,27 +124,25 @@ pub fn chosen_part<'a>(
         ≡ part_start (chosen first.now second.now first_time.0 second_time.0) first.entry.ref_ptr second.entry.ref_ptr }
 {
     match choose(first, second, first_time, second_time) {
-        Chosen::Next(n) => {
-            let length = n.length;
-            let script = n.script;
-            match script {
-                Which::First => &first[..length],
-                Which::Second => &second[..length],
-            }
-        }
-        Chosen::Ended => &first[..0],
-        Chosen::Refused(_) => &first[..0],
+        Ok(Some(n)) => match n.script {
+            Which::First => &first[..n.length],
+            Which::Second => &second[..n.length],
+        },
+        Ok(None) | Err(_) => &first[..0],
     }
 }
 
 // Of two records the one with the earlier time comes next, and at equal times the first script's. A time above 2^40 is compared like any other. (7.9, 7.13)
-fn earlier(a: RecordAt, b: RecordAt, first_time: Tick, second_time: Tick) -> Chosen
+fn earlier(
+    a: RecordAt,
+    b: RecordAt,
+    first_time: Tick,
+    second_time: Tick,
+) -> Result<Option<Next>, RefusedIn>
     requires { (first_time.0 ≤ max_time) × (second_time.0 ≤ max_time) × (a.release.gap ≤ max_number) × (b.release.gap ≤ max_number) }
     ensures { result ≡ earlier_of a b first_time.0 second_time.0 }
 {
-    let one = a.release;
-    let other = b.release;
-    if first_time.0 + one.gap <= second_time.0 + other.gap {
+    if first_time.0 + a.release.gap <= second_time.0 + b.release.gap {
         next_of(Which::First, a.next)
     } else {
         next_of(Which::Second, b.next)
@@ -180,28 +150,18 @@ fn earlier(a: RecordAt, b: RecordAt, first_time: Tick, second_time: Tick) -> Cho
 }
 
 // The record that comes next is the first of this script, and its spelling has this many bytes. (7.8)
-fn next_of(script: Which, length: usize) -> Chosen
+fn next_of(script: Which, length: usize) -> Result<Option<Next>, RefusedIn>
     ensures { result ≡ next_of script length }
 {
-    Chosen::Next(Next { script, length })
-}
-
-// A refusal says which script it is about. (7.11, 7.12)
-fn refused_in(script: Which, at: RefusedAt) -> Chosen
-    ensures { result ≡ refused_in script at }
-{
-    Chosen::Refused(RefusedIn { script, at })
+    Ok(Some(Next { script, length }))
 }
 
 // A time reached above 2^40 is refusal 10, with which script it is and place 0. (7.11)
-fn too_late(script: Which) -> Chosen
+fn too_late(script: Which) -> Result<Option<Next>, RefusedIn>
     ensures { result ≡ too_late script }
 {
-    refused_in(
+    Err(RefusedIn {
         script,
-        RefusedAt {
-            refusal: Refusal::TimeTooLate,
-            place: 0,
-        },
-    )
+        at: Refusal::TimeTooLate.at(0),
+    })
 }

@@ -1,5 +1,6 @@
 -- The one test of a row number and a cost: each answer comes exactly where its rule says, and the limits of a table are those of its rows and servers in use.
 -- (docs/RULES.md, 3.20 and 6.8.)
+use Rattle.std.specs.Prelude.{Option, Some, None, Result, Ok, Err}
 use Prim.Native.Nat.{ℕ, ◌+◌, ◌-◌, ◌≤◌, ◌<◌}
 use native.Mathlib.Decide.{dec_le}
 use native.Mathlib.Omega.{arith}
@@ -10,6 +11,7 @@ use lib.ListN.{length, take, get_or, replicate, length-append, length-map, lengt
 use lib.ListN.{get_or-map}
 use lib.Seq.{get_or-take, get_or-append-add, length-take-le, take_at}
 use borrow.Author.Tests.{lt-ltb, le-ltb, le-leb, lt-leb}
+use Rattle.kinds.specs.declared.Refusal.{Refusal}
 use Rattle.kinds.specs.declared.Refusal.TheVariants as refusal
 use Rattle.kinds.specs.Numbering.{values, NeverNumberedZero, refused_with}
 use Rattle.kinds.proofs.Apart.{impossible}
@@ -17,10 +19,6 @@ use Rattle.kinds.proofs.Numbering.{never_zero, plain_refusals_apart}
 use Rattle.periods.proofs.Periods.{numbers_apart}
 use Rattle.table.specs.declared.Row.{Row}
 use Rattle.table.specs.declared.Table.{Table}
-use Rattle.table.specs.declared.CostLimit.{CostLimit}
-use Rattle.table.specs.declared.CostLimit.TheVariants as limit
-use Rattle.table.specs.declared.CostAnswer.{CostAnswer}
-use Rattle.table.specs.declared.CostAnswer.TheVariants as answer
 use Rattle.table.specs.Limits.{max_rows, max_sources, max_c}
 use Rattle.table.specs.Tables.{no_row, rows_of}
 use Rattle.table.specs.Costs.{cs_of, cost_limits, held_limits, limit_of, cost_answer, limit_says, cost_says}
@@ -29,46 +27,46 @@ use Rattle.table.specs.Costs as laws
 -- ---- the answers
 
 -- A row number in use has the limit that stands there.
-pub limit_in_use : (limits : List ℕ) (number : ℕ) → number < length limits → limit_of limits number ≡ limit.Units (get_or limits number 0)
+pub limit_in_use : (limits : List ℕ) (number : ℕ) → number < length limits → limit_of limits number ≡ Some (get_or limits number 0)
 limit_in_use limits number h = rw (lt-ltb number (length limits) h)
 
 -- A row number that is not in use has no limit.
-pub limit_not_in_use : (limits : List ℕ) (number : ℕ) → length limits ≤ number → limit_of limits number ≡ limit.NoSuchRow
+pub limit_not_in_use : (limits : List ℕ) (number : ℕ) → length limits ≤ number → limit_of limits number ≡ None
 limit_not_in_use limits number h = rw (le-ltb number (length limits) h)
 
 -- A cost from 1 to the most is allowed.
-pub cost_allowed : (most cost : ℕ) → 1 ≤ cost → cost ≤ most → cost_answer (limit.Units most) cost ≡ answer.Allowed
+pub cost_allowed : (most cost : ℕ) → 1 ≤ cost → cost ≤ most → cost_answer (Some most) cost ≡ Ok tt
 cost_allowed most cost l h = simp (le-leb 1 cost l, le-leb cost most h)
 
 -- A cost of 0 is refused with 7.
-pub no_cost : (most cost : ℕ) → cost < 1 → cost_answer (limit.Units most) cost ≡ answer.Refused refusal.CostOutOfRange
+pub no_cost : (most cost : ℕ) → cost < 1 → cost_answer (Some most) cost ≡ Err refusal.CostOutOfRange
 no_cost most cost h = simp (lt-leb 1 cost h)
 
 -- A cost above the most is refused with 7.
-pub cost_too_high : (most cost : ℕ) → 1 ≤ cost → most < cost → cost_answer (limit.Units most) cost ≡ answer.Refused refusal.CostOutOfRange
+pub cost_too_high : (most cost : ℕ) → 1 ≤ cost → most < cost → cost_answer (Some most) cost ≡ Err refusal.CostOutOfRange
 cost_too_high most cost l h = simp (le-leb 1 cost l, lt-leb cost most h)
 
 -- The test of a row number and a cost has three outcomes, each with what it means.
-pub data CostTested (limits : List ℕ) (number cost : ℕ) : CostAnswer → Type 0 where
-  not_in_use : length limits ≤ number → CostTested limits number cost (answer.Refused refusal.NoSuchRow)
-  out_of_range : number < length limits → (cost ≡ 0) ⊎ (get_or limits number 0 < cost) → CostTested limits number cost (answer.Refused refusal.CostOutOfRange)
-  allowed : number < length limits → 1 ≤ cost → cost ≤ get_or limits number 0 → CostTested limits number cost answer.Allowed
+pub data CostTested (limits : List ℕ) (number cost : ℕ) : Result (Unit {0}) Refusal → Type 0 where
+  not_in_use : length limits ≤ number → CostTested limits number cost (Err refusal.NoSuchRow)
+  out_of_range : number < length limits → (cost ≡ 0) ⊎ (get_or limits number 0 < cost) → CostTested limits number cost (Err refusal.CostOutOfRange)
+  allowed : number < length limits → 1 ≤ cost → cost ≤ get_or limits number 0 → CostTested limits number cost (Ok tt)
 
 module _ (limits : List ℕ) (number cost : ℕ) where
   -- A row number that is not in use is refused with 6.
-  refused_not_in_use : length limits ≤ number → cost_answer (limit_of limits number) cost ≡ answer.Refused refusal.NoSuchRow
+  refused_not_in_use : length limits ≤ number → cost_answer (limit_of limits number) cost ≡ Err refusal.NoSuchRow
   refused_not_in_use h = rw (limit_not_in_use limits number h)
 
   -- A cost that is 0 or above the limit is refused with 7.
   refused_out_of_range : number < length limits → (cost ≡ 0) ⊎ (get_or limits number 0 < cost)
-      → cost_answer (limit_of limits number) cost ≡ answer.Refused refusal.CostOutOfRange
+      → cost_answer (limit_of limits number) cost ≡ Err refusal.CostOutOfRange
   refused_out_of_range h o = rw (limit_in_use limits number h) (elim (dec_le 1 cost) [
     | yes l ↦ cost_too_high (get_or limits number 0) cost l (⊎_elim (λ z. absurd (omega arith)) (λ above. above) o)
     | no l ↦ no_cost (get_or limits number 0) cost (omega arith)
   ])
 
   -- A cost from 1 to the limit is allowed.
-  allowed_in_range : number < length limits → 1 ≤ cost → cost ≤ get_or limits number 0 → cost_answer (limit_of limits number) cost ≡ answer.Allowed
+  allowed_in_range : number < length limits → 1 ≤ cost → cost ≤ get_or limits number 0 → cost_answer (limit_of limits number) cost ≡ Ok tt
   allowed_in_range h l m = rw (limit_in_use limits number h) (cost_allowed (get_or limits number 0) cost l m)
 
   -- The test always has one of the three outcomes.
@@ -89,7 +87,7 @@ module _ (limits : List ℕ) (number cost : ℕ) where
 pub not_in_use_means : laws.NotInUseMeans
 not_in_use_means limits number cost = (to _ (cost_tested limits number cost), λ h. rw (refused_not_in_use limits number cost h))
   where
-    to : (a : CostAnswer) → CostTested limits number cost a → cost_says a ≡ refused_with 6 0 → length limits ≤ number
+    to : (a : Result (Unit {0}) Refusal) → CostTested limits number cost a → cost_says a ≡ refused_with 6 0 → length limits ≤ number
     to a (not_in_use h) e = h
     to a (out_of_range h o) e = numbers_apart {m = 7} {n = 6} e refl refl (λ z. omega arith)
     to a (allowed h l m) e = impossible cc
@@ -97,7 +95,7 @@ not_in_use_means limits number cost = (to _ (cost_tested limits number cost), λ
 pub out_of_range_cost_means : laws.OutOfRangeCostMeans
 out_of_range_cost_means limits number cost = (to _ (cost_tested limits number cost), λ h. rw (refused_out_of_range limits number cost h.0 h.1))
   where
-    to : (a : CostAnswer) → CostTested limits number cost a → cost_says a ≡ refused_with 7 0
+    to : (a : Result (Unit {0}) Refusal) → CostTested limits number cost a → cost_says a ≡ refused_with 7 0
         → (number < length limits) × ((cost ≡ 0) ⊎ (get_or limits number 0 < cost))
     to a (not_in_use h) e = numbers_apart {m = 6} {n = 7} e refl refl (λ z. omega arith)
     to a (out_of_range h o) e = (h, o)
@@ -106,7 +104,8 @@ out_of_range_cost_means limits number cost = (to _ (cost_tested limits number co
 pub allowed_means : laws.AllowedMeans
 allowed_means limits number cost = (to _ (cost_tested limits number cost), λ h. rw (allowed_in_range limits number cost h.0 h.1 h.2))
   where
-    to : (a : CostAnswer) → CostTested limits number cost a → cost_says a ≡ values [] → (number < length limits) × (1 ≤ cost) × (cost ≤ get_or limits number 0)
+    to : (a : Result (Unit {0}) Refusal) → CostTested limits number cost a → cost_says a ≡ values []
+        → (number < length limits) × (1 ≤ cost) × (cost ≤ get_or limits number 0)
     to a (not_in_use h) e = impossible cc
     to a (out_of_range h o) e = impossible cc
     to a (allowed h l m) e = (h, l, m)
@@ -133,27 +132,27 @@ pub costs_never_zero : laws.CostsNeverZero
 costs_never_zero = (limits, costs)
   where
     limits : NeverNumberedZero limit_says
-    limits (limit.Units most) = tt
-    limits limit.NoSuchRow = never_zero refusal.NoSuchRow
+    limits (Some most) = tt
+    limits None = never_zero refusal.NoSuchRow
 
     costs : NeverNumberedZero cost_says
-    costs answer.Allowed = tt
-    costs (answer.Refused r) = never_zero r
+    costs (Ok done) = tt
+    costs (Err r) = never_zero r
 
 pub costs_said_apart : laws.CostsSaidApart
 costs_said_apart = (limits, costs)
   where
-    limits : (a b : CostLimit) → limit_says a ≡ limit_says b → a ≡ b
-    limits (limit.Units m) (limit.Units n) e = cc
-    limits (limit.Units m) limit.NoSuchRow e = impossible cc
-    limits limit.NoSuchRow (limit.Units n) e = impossible cc
-    limits limit.NoSuchRow limit.NoSuchRow e = refl
+    limits : (a b : Option ℕ) → limit_says a ≡ limit_says b → a ≡ b
+    limits (Some m) (Some n) e = cc
+    limits (Some m) None e = impossible cc
+    limits None (Some n) e = impossible cc
+    limits None None e = refl
 
-    costs : (a b : CostAnswer) → cost_says a ≡ cost_says b → a ≡ b
-    costs answer.Allowed answer.Allowed e = refl
-    costs answer.Allowed (answer.Refused r) e = impossible cc
-    costs (answer.Refused q) answer.Allowed e = impossible cc
-    costs (answer.Refused q) (answer.Refused r) e = ap answer.Refused (plain_refusals_apart q r e)
+    costs : (a b : Result (Unit {0}) Refusal) → cost_says a ≡ cost_says b → a ≡ b
+    costs (Ok done) (Ok again) e = refl
+    costs (Ok done) (Err r) e = impossible cc
+    costs (Err q) (Ok done) e = impossible cc
+    costs (Err q) (Err r) e = ap Err (plain_refusals_apart q r e)
 
 -- ---- the limits of a table
 

@@ -1,123 +1,108 @@
--- How a table is read, step by step: a value, a row of four values, and the rows after their count. Each law shows that one answer of the code is right.
--- (docs/RULES.md, section 3.)
+-- How a table is read, step by step: a value, a row of four values, and the rows after their count. (docs/RULES.md, section 3.)
+use Rattle.std.specs.Prelude.{Result, Ok, Err}
 use Prim.Native.Nat.{ℕ, suc, ◌+◌, ◌-◌, ◌≤◌, ◌<◌}
 use mathlib.Core.Path.{◌≡◌, refl, sym, ap, ◌∙◌}
-use mathlib.Core.Bool.{true, false}
+use mathlib.Core.Bool.{true}
 use mathlib.Core.Option.{Option, none, some}
 use mathlib.Core.List.{List, [], ◌∷◌, ◌++◌}
 use native.Mathlib.Numerals.{add-one}
 use native.Mathlib.Omega.{arith}
 use lib.ListN.{length, take, drop, set, replicate, length-replicate, length-set, take-append-drop}
 use lib.Seq.{length-take-le, take-suc-set, drop-set-lt, drop-drop}
-use borrow.Author.Tests.{le-leb, lt-leb}
+use borrow.Author.Tests.{le-leb}
 use Rattle.kinds.specs.declared.Refusal.{Refusal}
-use Rattle.kinds.specs.declared.Refusal.TheVariants.{TooManyRows, ValueOutOfRange, HopelessRow}
+use Rattle.kinds.specs.declared.Refusal.TheVariants.{HopelessRow}
 use Rattle.kinds.specs.declared.RefusedAt.{RefusedAt}
 use Rattle.kinds.proofs.Apart.{impossible}
 use Rattle.numbers.specs.declared.Number.{Number}
-use Rattle.numbers.specs.declared.NumberRead.{NumberRead}
-use Rattle.numbers.specs.declared.NumberRead.TheVariants as number
 use Rattle.numbers.specs.Reading.{read_at}
 use Rattle.table.specs.declared.Row.{Row}
 use Rattle.table.specs.declared.RowAt.{RowAt}
-use Rattle.table.specs.declared.RowRead.{RowRead}
-use Rattle.table.specs.declared.RowRead.TheVariants as row
-use Rattle.table.specs.declared.PartAnswer.TheVariants as answer
 use Rattle.table.specs.Limits.{max_rows}
-use Rattle.table.specs.Rows.{within_limit, rule_of_x, rule_of_y, rule_of_d, range_of_c, within_its_d, after_range, rule_of_c, fine, row_in_range, tested_at}
+use Rattle.table.specs.Rows.{rule_of_x, rule_of_y, rule_of_d, range_of_c, within_its_d, after_range, rule_of_c, fine, row_in_range, tested_at}
 use Rattle.table.specs.Rows.{tested, read_value, after_value, read_row}
 use Rattle.table.specs.Tables.{no_row, held_rows, Rows, rows, refused, in_front, read_rows, rows_from, held_as}
-use Rattle.table.proofs.Ranges.{nothing_wrong, out_of_range, fine_c, within_d, above_d}
+use Rattle.table.proofs.Ranges.{nothing_wrong, fine_c, within_d, above_d}
 
 -- ---- a value
 
 -- The number n is read at the place `at`, and it is fine by the rule.
 pub record ValueAt (rule : ℕ → Option Refusal) (s : List ℕ) (at : ℕ) (n : Number) : Type 0 where
-  pub reads : read_at s at ≡ number.Number n
+  pub reads : read_at s at ≡ Ok n
   pub is_fine : fine (rule n.value) ≡ true
 
 -- A number that is fine by its rule is answered as the value.
-pub value_stands : (rule : ℕ → Option Refusal) (s : List ℕ) (at : ℕ) (n : Number) → ValueAt rule s at n → read_value rule s at ≡ number.Number n
+pub value_stands : (rule : ℕ → Option Refusal) (s : List ℕ) (at : ℕ) (n : Number) → ValueAt rule s at n → read_value rule s at ≡ Ok n
 value_stands rule s at n p = rw (p.reads, nothing_wrong (rule n.value) p.is_fine)
 
--- A number out of range is refused at its start.
-pub value_out_of_range : (most : ℕ) (s : List ℕ) (at : ℕ) (n : Number) → read_at s at ≡ number.Number n → fine (within_limit most n.value) ≡ false
-    → read_value (within_limit most) s at ≡ number.Refused (record { refusal = ValueOutOfRange; place = at })
-value_out_of_range most s at n e wrong = rw (e, out_of_range most n.value wrong)
-
--- A number that can't be read keeps the reader's refusal.
-pub value_misspelled : (rule : ℕ → Option Refusal) (s : List ℕ) (at : ℕ) (r : RefusedAt) → read_at s at ≡ number.Refused r
-    → read_value rule s at ≡ number.Refused r
-value_misspelled rule s at r e = rw e
-
 -- A number that passes the test of its rule is fine by that rule.
-pub tested_fine : (rule : ℕ → Option Refusal) (at : ℕ) (v : NumberRead) (n : Number) → tested rule at v ≡ number.Number n → fine (rule n.value) ≡ true
-tested_fine rule at (number.Number m) n e = by_rule (rule m.value) refl e
+pub tested_fine : (rule : ℕ → Option Refusal) (at : ℕ) (v : Result Number RefusedAt) (n : Number) → tested rule at v ≡ Ok n → fine (rule n.value) ≡ true
+tested_fine rule at (Ok m) n e = by_rule (rule m.value) refl e
   where
-    by_rule : (o : Option Refusal) → rule m.value ≡ o → tested_at at o m ≡ number.Number n → fine (rule n.value) ≡ true
+    by_rule : (o : Option Refusal) → rule m.value ≡ o → tested_at at o m ≡ Ok n → fine (rule n.value) ≡ true
     by_rule none f g = let same : m ≡ n = cc in rw (← same, f)
     by_rule (some r) f g = impossible cc
-tested_fine rule at (number.Refused r) n e = impossible cc
+tested_fine rule at (Err r) n e = impossible cc
 
 -- ---- a c, whose rule looks at d after its own range was tested
 
 -- A number that passed the first test goes on to the second.
-second_test : (rule next : ℕ → Option Refusal) (at : ℕ) (v : NumberRead) (n : Number) → tested rule at v ≡ number.Number n
+second_test : (rule next : ℕ → Option Refusal) (at : ℕ) (v : Result Number RefusedAt) (n : Number) → tested rule at v ≡ Ok n
     → tested (λ c. after_range (rule c) (next c)) at v ≡ tested_at at (next n.value) n
-second_test rule next at (number.Number m) n e = by_rule (rule m.value) e
+second_test rule next at (Ok m) n e = by_rule (rule m.value) e
   where
-    by_rule : (o : Option Refusal) → tested_at at o m ≡ number.Number n → tested_at at (after_range o (next m.value)) m ≡ tested_at at (next n.value) n
+    by_rule : (o : Option Refusal) → tested_at at o m ≡ Ok n → tested_at at (after_range o (next m.value)) m ≡ tested_at at (next n.value) n
     by_rule none f = let same : m ≡ n = cc in rw same
     by_rule (some r) f = impossible cc
-second_test rule next at (number.Refused r) n e = impossible cc
+second_test rule next at (Err r) n e = impossible cc
 
 -- A number that the first test refuses stays refused.
-first_test : (rule next : ℕ → Option Refusal) (at : ℕ) (v : NumberRead) (r : RefusedAt) → tested rule at v ≡ number.Refused r
-    → tested (λ c. after_range (rule c) (next c)) at v ≡ number.Refused r
-first_test rule next at (number.Number m) r e = by_rule (rule m.value) e
+first_test : (rule next : ℕ → Option Refusal) (at : ℕ) (v : Result Number RefusedAt) (r : RefusedAt) → tested rule at v ≡ Err r
+    → tested (λ c. after_range (rule c) (next c)) at v ≡ Err r
+first_test rule next at (Ok m) r e = by_rule (rule m.value) e
   where
-    by_rule : (o : Option Refusal) → tested_at at o m ≡ number.Refused r → tested_at at (after_range o (next m.value)) m ≡ number.Refused r
+    by_rule : (o : Option Refusal) → tested_at at o m ≡ Err r → tested_at at (after_range o (next m.value)) m ≡ Err r
     by_rule none f = impossible cc
     by_rule (some q) f = f
-first_test rule next at (number.Refused q) r e = e
+first_test rule next at (Err q) r e = e
 
 module _ (d : ℕ) (s : List ℕ) (at : ℕ) where
   -- A c in its range that is at most d is answered.
-  pub c_stands : (n : Number) → read_value range_of_c s at ≡ number.Number n → n.value ≤ d → read_value (rule_of_c d) s at ≡ number.Number n
+  pub c_stands : (n : Number) → read_value range_of_c s at ≡ Ok n → n.value ≤ d → read_value (rule_of_c d) s at ≡ Ok n
   c_stands n e h = second_test range_of_c (within_its_d d) at (read_at s at) n e ∙ rw (within_d d n.value h)
 
   -- A c in its range that is above d is refused with 16, at its start.
-  pub c_hopeless : (n : Number) → read_value range_of_c s at ≡ number.Number n → d < n.value
-      → read_value (rule_of_c d) s at ≡ number.Refused (record { refusal = HopelessRow; place = at })
+  pub c_hopeless : (n : Number) → read_value range_of_c s at ≡ Ok n → d < n.value
+      → read_value (rule_of_c d) s at ≡ Err (record { refusal = HopelessRow; place = at })
   c_hopeless n e h = second_test range_of_c (within_its_d d) at (read_at s at) n e ∙ rw (above_d d n.value h)
 
   -- A c that can't be read or is out of its range is refused so.
-  pub c_refused : (r : RefusedAt) → read_value range_of_c s at ≡ number.Refused r → read_value (rule_of_c d) s at ≡ number.Refused r
+  pub c_refused : (r : RefusedAt) → read_value range_of_c s at ≡ Err r → read_value (rule_of_c d) s at ≡ Err r
   c_refused r e = first_test range_of_c (within_its_d d) at (read_at s at) r e
 
 -- ---- a row
 
 -- After a value that was read the row goes on.
-pub after_value_lem : {v : NumberRead} {n : Number} (k : Number → RowRead) → v ≡ number.Number n → after_value v k ≡ k n
+pub after_value_lem : {v : Result Number RefusedAt} {n : Number} (k : Number → Result RowAt RefusedAt) → v ≡ Ok n → after_value v k ≡ k n
 after_value_lem k e = rw e
 
 -- A refusal ends the row.
-pub after_refused : {v : NumberRead} {r : RefusedAt} (k : Number → RowRead) → v ≡ number.Refused r → after_value v k ≡ row.Refused r
+pub after_refused : {v : Result Number RefusedAt} {r : RefusedAt} (k : Number → Result RowAt RefusedAt) → v ≡ Err r → after_value v k ≡ Err r
 after_refused k e = rw e
 
 -- If a row is read past a number, that number was fine.
-fine_before : (at : ℕ) (o : Option Refusal) (n : Number) (k : Number → RowRead) (r : RowAt) → after_value (tested_at at o n) k ≡ row.Row r
-    → (fine o ≡ true) × (k n ≡ row.Row r)
+fine_before : (at : ℕ) (o : Option Refusal) (n : Number) (k : Number → Result RowAt RefusedAt) (r : RowAt) → after_value (tested_at at o n) k ≡ Ok r
+    → (fine o ≡ true) × (k n ≡ Ok r)
 fine_before at none n k r e = (refl, e)
 fine_before at (some f) n k r e = (cc, cc)
 
 -- If a row is read past a place, a number that is fine stood there.
-pub value_before : (rule : ℕ → Option Refusal) (s : List ℕ) (at : ℕ) (v : NumberRead) (k : Number → RowRead) (r : RowAt) → read_at s at ≡ v
-    → after_value (tested rule at v) k ≡ row.Row r → (n : Number) × ValueAt rule s at n × (k n ≡ row.Row r)
-value_before rule s at (number.Number n) k r q e =
+pub value_before : (rule : ℕ → Option Refusal) (s : List ℕ) (at : ℕ) (v : Result Number RefusedAt) (k : Number → Result RowAt RefusedAt) (r : RowAt)
+    → read_at s at ≡ v → after_value (tested rule at v) k ≡ Ok r → (n : Number) × ValueAt rule s at n × (k n ≡ Ok r)
+value_before rule s at (Ok n) k r q e =
     let p = fine_before at (rule n.value) n k r e in
     (n, record { reads = q; is_fine = p.0 }, p.1)
-value_before rule s at (number.Refused a) k r q e = impossible cc
+value_before rule s at (Err a) k r q e = impossible cc
 
 -- The row r is made of four values, which stand one after another from the place `at` on.
 pub record FourValues (s : List ℕ) (at : ℕ) (r : RowAt) : Type 0 where
@@ -132,7 +117,7 @@ pub record FourValues (s : List ℕ) (at : ℕ) (r : RowAt) : Type 0 where
   pub made_of_them : r ≡ record { row = record { x = x.value; y = y.value; d = d.value; c = c.value }; next = c.next }
 
 -- A row that was read is made of four values.
-pub four_values : (s : List ℕ) (at : ℕ) (r : RowAt) → read_row s at ≡ row.Row r → FourValues s at r
+pub four_values : (s : List ℕ) (at : ℕ) (r : RowAt) → read_row s at ≡ Ok r → FourValues s at r
 four_values s at r e =
     let x = value_before rule_of_x s at _ _ _ refl e in
     let y = value_before rule_of_y s x.0.next _ _ _ refl x.2 in
@@ -186,13 +171,13 @@ rows_refused [] at = refl
 rows_refused (r ∷ rs) at = ap (in_front r) (rows_refused rs at)
 
 -- If the next row is read, it stands in front of the rows after it.
-next_row : (left : ℕ) (s : List ℕ) (at : ℕ) (r : RowAt) → read_row s at ≡ row.Row r
+next_row : (left : ℕ) (s : List ℕ) (at : ℕ) (r : RowAt) → read_row s at ≡ Ok r
     → read_rows (suc left) s at ≡ in_front r.row (read_rows left s r.next)
 unfolding read_rows
 next_row left s at r e = rw e
 
 -- If the next row is refused, the rows are refused so.
-next_refused : (left : ℕ) (s : List ℕ) (at : ℕ) (r : RefusedAt) → read_row s at ≡ row.Refused r → read_rows (suc left) s at ≡ refused r
+next_refused : (left : ℕ) (s : List ℕ) (at : ℕ) (r : RefusedAt) → read_row s at ≡ Err r → read_rows (suc left) s at ≡ refused r
 unfolding read_rows
 next_refused left s at r e = rw e
 
@@ -202,15 +187,6 @@ unfolding read_rows
 no_more s at = refl
 
 -- ---- rows after their count
-
--- A count that can't be read keeps the reader's refusal.
-pub count_misspelled : (s : List ℕ) (at : ℕ) (r : RefusedAt) → read_at s at ≡ number.Refused r → held_as (refused r) ≡ held_as (rows_from s at)
-count_misspelled s at r e = rw e
-
--- A count above the limit of rows is refused at once.
-pub too_many_rows : (s : List ℕ) (at : ℕ) (n : Number) → read_at s at ≡ number.Number n → max_rows < n.value
-    → held_as (refused (record { refusal = TooManyRows; place = at })) ≡ held_as (rows_from s at)
-too_many_rows s at n e many = rw (e, lt-leb n.value max_rows many)
 
 -- i of n rows are read, up to the place `at`. They are the first of those held, and the others are unused. The answer is that of these rows in front of what is
 -- read from here on.
@@ -222,7 +198,7 @@ pub record ReadSoFar (s : List ℕ) (from n : ℕ) (held : List Row) (at i : ℕ
   pub answers : rows_from s from ≡ all_in_front (take i held) (read_rows (n - i) s at)
 
 -- At first only the count is read.
-pub none_read : (s : List ℕ) (from : ℕ) (n : Number) → read_at s from ≡ number.Number n → n.value ≤ max_rows
+pub none_read : (s : List ℕ) (from : ℕ) (n : Number) → read_at s from ≡ Ok n → n.value ≤ max_rows
     → ReadSoFar s from n.value (held_rows []) n.next 0
 unfolding all_in_front
 none_read s from n e few =
@@ -244,7 +220,7 @@ unused_more room fill held i a h e =
 
 module _ {s : List ℕ} {from n : ℕ} {held : List Row} {at i : ℕ} (p : ReadSoFar s from n held at i) where
   -- If row i is read, one more row is held.
-  pub row_more : (r : RowAt) → i < n → read_row s at ≡ row.Row r → ReadSoFar s from n (set held i r.row) r.next (i + 1)
+  pub row_more : (r : RowAt) → i < n → read_row s at ≡ Ok r → ReadSoFar s from n (set held i r.row) r.next (i + 1)
   row_more r h e =
       let room : i < max_rows = omega (arith, p.few_rows) in
       let left : n - i ≡ suc (n - (i + 1)) = omega arith in
@@ -258,16 +234,17 @@ module _ {s : List ℕ} {from n : ℕ} {held : List Row} {at i : ℕ} (p : ReadS
       }
 
   -- If row i is refused, the rows are refused so.
-  pub row_refused : (r : RefusedAt) → i < n → read_row s at ≡ row.Refused r → held_as (refused r) ≡ held_as (rows_from s from)
+  pub row_refused : (r : RefusedAt) → i < n → read_row s at ≡ Err r → held_as (refused r) ≡ held_as (rows_from s from)
   row_refused r h e =
       let left : n - i ≡ suc (n - (i + 1)) = omega arith in
       let gone : rows_from s from ≡ refused r = p.answers ∙ rw (left, next_refused (n - (i + 1)) s at r e, rows_refused) in
       rw gone
 
   -- When all n rows are read, the code holds exactly these rows.
-  pub all_read : n ≤ i → record { rows = held; count = i; answer = answer.Until at } ≡ held_as (rows_from s from)
+  pub all_read : n ≤ i → Ok (record { rows = held; count = n; next = at }) ≡ held_as (rows_from s from)
   all_read end =
       let left : n - i ≡ 0 = omega arith in
+      let same : i ≡ n = omega (arith, p.not_past) in
       let long : length (take i held) ≡ i = length-take-le i held (omega (arith, p.few_rows, p.all_places)) in
       let all : rows_from s from ≡ rows (take i held) at = p.answers ∙ rw (left, no_more, all_the_rows) in
-      sym (rw (all, long, ← p.unused, take-append-drop))
+      sym (rw (all, long, ← p.unused, take-append-drop, same))

@@ -1,5 +1,6 @@
--- How servers are read, step by step: a server of two numbers, and the servers after their count. Each law shows that one answer of the code is right, or what
--- is known about servers that were read. (docs/RULES.md, 3.18 and 3.19.)
+-- How servers are read, step by step: a server of two numbers, and the servers after their count. The last part is what is known about servers that were
+-- read. (docs/RULES.md, 3.18 and 3.19.)
+use Rattle.std.specs.Prelude.{Result, Ok, Err}
 use Prim.Native.Nat.{ℕ, zero, suc, ◌+◌, ◌-◌, ◌≤◌, ◌<◌}
 use mathlib.Core.Path.{◌≡◌, refl, sym, ap, ◌∙◌}
 use mathlib.Core.Bool.{Bool, true, false, cond, ◌&&◌}
@@ -10,28 +11,23 @@ use native.Mathlib.Omega.{arith}
 use lib.Dec.{leb}
 use lib.ListN.{length, take, drop, set, replicate, length-replicate, length-set, take-append-drop}
 use lib.Seq.{length-take-le, take-suc-set}
-use borrow.Author.Tests.{leb-true, le-leb, lt-leb}
+use borrow.Author.Tests.{leb-true, le-leb}
 use Rattle.kinds.specs.declared.Refusal.{Refusal}
 use Rattle.kinds.specs.declared.Refusal.TheVariants.{TooManyRows, ValueOutOfRange}
 use Rattle.kinds.specs.declared.RefusedAt.{RefusedAt}
 use Rattle.kinds.proofs.Apart.{impossible}
 use Rattle.numbers.specs.declared.Number.{Number}
-use Rattle.numbers.specs.declared.NumberRead.{NumberRead}
-use Rattle.numbers.specs.declared.NumberRead.TheVariants as number
 use Rattle.numbers.specs.Reading.{read_at}
 use Rattle.table.specs.declared.Server.{Server}
 use Rattle.table.specs.declared.ServerAt.{ServerAt}
-use Rattle.table.specs.declared.ServerRead.{ServerRead}
-use Rattle.table.specs.declared.ServerRead.TheVariants as server
-use Rattle.table.specs.declared.PartAnswer.TheVariants as answer
 use Rattle.table.specs.Limits.{max_servers, max_b}
-use Rattle.table.specs.Rows.{fine, tested_at, tested, read_value}
-use Rattle.table.specs.Servers.{rule_of_a, rule_of_b, server_in_range, GoodServer, after_server_number, read_server, no_server, held_servers, ServerInRangeMeans}
+use Rattle.table.specs.Rows.{fine, tested_at, tested}
+use Rattle.table.specs.Servers.{rule_of_a, rule_of_b, GoodServer, after_server_number, read_server, no_server, held_servers, ServerInRangeMeans}
 use Rattle.table.specs.Servers.{Servers, servers, refused, in_front_of, after_server, read_servers, after_server_count, servers_from, held_servers_as}
 use Rattle.table.specs.SpelledTables.{GoodServers}
 use Rattle.table.proofs.Each.{Each, each_none, Each-cons}
 use Rattle.table.proofs.Ranges.{both_true, fine_where, fine_limits, within_fine}
-use Rattle.table.proofs.Reading.{ValueAt, tested_fine, unused_more}
+use Rattle.table.proofs.Reading.{ValueAt, unused_more}
 
 -- ---- the ranges of a and b
 
@@ -65,55 +61,19 @@ server_in_range_means v = (
 
 -- ---- a server
 
-module _ (s : List ℕ) (at : ℕ) where
-  -- If a is refused as it is read, the server is refused so.
-  pub a_refused : (r : RefusedAt) → read_value rule_of_a s at ≡ number.Refused r → server.Refused r ≡ read_server s at
-  a_refused r e = rw e
-
-  module _ (a : Number) (a_read : read_value rule_of_a s at ≡ number.Number a) where
-    -- If b is refused as it is read, the server is refused so.
-    pub b_refused : (r : RefusedAt) → read_value (rule_of_b a.value) s a.next ≡ number.Refused r → server.Refused r ≡ read_server s at
-    b_refused r e = rw (a_read, e)
-
-    -- If b can't be read, the server keeps the reader's refusal.
-    pub b_misspelled : (r : RefusedAt) → read_at s a.next ≡ number.Refused r → server.Refused r ≡ read_server s at
-    b_misspelled r e = rw (a_read, e)
-
-    -- If b stands and is fine, the server is answered, with the place right after it.
-    pub server_stands : (b : Number) → read_value (rule_of_b a.value) s a.next ≡ number.Number b
-        → server.Server (record { server = record { a = a.value; b = b.value }; next = b.next }) ≡ read_server s at
-    server_stands b e = rw (a_read, e)
-
-    module _ (b : Number) (b_read : read_at s a.next ≡ number.Number b) where
-      -- The a that was read is in its range, so the test of the server answers what the rule of b does.
-      same_test : server_in_range (record { a = a.value; b = b.value }) ≡ (leb a.value b.value && leb b.value max_b)
-      same_test =
-          let a_fine = tested_fine rule_of_a at (read_at s at) a a_read in
-          rw a_fine (fine_b a.value b.value)
-
-      -- A server out of its range is refused with 3, at the start of b.
-      pub server_out_of_range : server_in_range (record { a = a.value; b = b.value }) ≡ false
-          → server.Refused (record { refusal = ValueOutOfRange; place = a.next }) ≡ read_server s at
-      server_out_of_range wrong = let no = sym same_test ∙ wrong in rw (a_read, b_read, no)
-
-      -- A server in its range is answered, with the place right after it.
-      pub server_is_in_range : server_in_range (record { a = a.value; b = b.value }) ≡ true
-          → server.Server (record { server = record { a = a.value; b = b.value }; next = b.next }) ≡ read_server s at
-      server_is_in_range right = let yes = sym same_test ∙ right in rw (a_read, b_read, yes)
-
 -- If a server is read past a number, that number was fine.
-fine_before : (at : ℕ) (o : Option Refusal) (n : Number) (k : Number → ServerRead) (v : ServerAt) → after_server_number (tested_at at o n) k ≡ server.Server v
-    → (fine o ≡ true) × (k n ≡ server.Server v)
+fine_before : (at : ℕ) (o : Option Refusal) (n : Number) (k : Number → Result ServerAt RefusedAt) (v : ServerAt)
+    → after_server_number (tested_at at o n) k ≡ Ok v → (fine o ≡ true) × (k n ≡ Ok v)
 fine_before at none n k v e = (refl, e)
 fine_before at (some f) n k v e = (cc, cc)
 
 -- If a server is read past a place, a number that is fine stood there.
-pub number_before : (rule : ℕ → Option Refusal) (s : List ℕ) (at : ℕ) (r : NumberRead) (k : Number → ServerRead) (v : ServerAt) → read_at s at ≡ r
-    → after_server_number (tested rule at r) k ≡ server.Server v → (n : Number) × ValueAt rule s at n × (k n ≡ server.Server v)
-number_before rule s at (number.Number n) k v q e =
+pub number_before : (rule : ℕ → Option Refusal) (s : List ℕ) (at : ℕ) (r : Result Number RefusedAt) (k : Number → Result ServerAt RefusedAt) (v : ServerAt)
+    → read_at s at ≡ r → after_server_number (tested rule at r) k ≡ Ok v → (n : Number) × ValueAt rule s at n × (k n ≡ Ok v)
+number_before rule s at (Ok n) k v q e =
     let p = fine_before at (rule n.value) n k v e in
     (n, record { reads = q; is_fine = p.0 }, p.1)
-number_before rule s at (number.Refused r) k v q e = impossible cc
+number_before rule s at (Err r) k v q e = impossible cc
 
 -- The server v is made of two numbers, which stand one after another from the place `at` on.
 pub record TwoNumbers (s : List ℕ) (at : ℕ) (v : ServerAt) : Type 0 where
@@ -124,7 +84,7 @@ pub record TwoNumbers (s : List ℕ) (at : ℕ) (v : ServerAt) : Type 0 where
   pub made_of_them : v ≡ record { server = record { a = a.value; b = b.value }; next = b.next }
 
 -- A server that was read is made of two numbers.
-pub two_numbers : (s : List ℕ) (at : ℕ) (v : ServerAt) → read_server s at ≡ server.Server v → TwoNumbers s at v
+pub two_numbers : (s : List ℕ) (at : ℕ) (v : ServerAt) → read_server s at ≡ Ok v → TwoNumbers s at v
 two_numbers s at v e =
     let a = number_before rule_of_a s at _ _ _ refl e in
     let b = number_before (rule_of_b a.0.value) s a.0.next _ _ _ refl a.2 in
@@ -160,13 +120,13 @@ servers_refused [] at = refl
 servers_refused (v ∷ vs) at = ap (in_front_of v) (servers_refused vs at)
 
 -- If the next server is read, it stands in front of the servers after it.
-next_server : (left : ℕ) (s : List ℕ) (at : ℕ) (v : ServerAt) → read_server s at ≡ server.Server v
+next_server : (left : ℕ) (s : List ℕ) (at : ℕ) (v : ServerAt) → read_server s at ≡ Ok v
     → read_servers (suc left) s at ≡ in_front_of v.server (read_servers left s v.next)
 unfolding read_servers
 next_server left s at v e = rw e
 
 -- If the next server is refused, the servers are refused so.
-next_refused : (left : ℕ) (s : List ℕ) (at : ℕ) (r : RefusedAt) → read_server s at ≡ server.Refused r → read_servers (suc left) s at ≡ refused r
+next_refused : (left : ℕ) (s : List ℕ) (at : ℕ) (r : RefusedAt) → read_server s at ≡ Err r → read_servers (suc left) s at ≡ refused r
 unfolding read_servers
 next_refused left s at r e = rw e
 
@@ -176,16 +136,6 @@ unfolding read_servers
 no_more s at = refl
 
 -- ---- servers after their count
-
--- A count that can't be read keeps the reader's refusal.
-pub server_count_misspelled : (s : List ℕ) (at : ℕ) (r : RefusedAt) → read_at s at ≡ number.Refused r
-    → held_servers_as (refused r) ≡ held_servers_as (servers_from s at)
-server_count_misspelled s at r e = rw e
-
--- A count above the limit of servers is refused at once.
-pub too_many_servers : (s : List ℕ) (at : ℕ) (n : Number) → read_at s at ≡ number.Number n → max_servers < n.value
-    → held_servers_as (refused (record { refusal = TooManyRows; place = at })) ≡ held_servers_as (servers_from s at)
-too_many_servers s at n e many = rw (e, lt-leb n.value max_servers many)
 
 -- i of n servers are read, up to the place `at`. They are the first of those held, and the others are unused. The answer is that of these servers in front of
 -- what is read from here on.
@@ -197,7 +147,7 @@ pub record ServersSoFar (s : List ℕ) (from n : ℕ) (held : List Server) (at i
   pub answers : servers_from s from ≡ all_in_front_of (take i held) (read_servers (n - i) s at)
 
 -- At first only the count is read.
-pub no_server_read : (s : List ℕ) (from : ℕ) (n : Number) → read_at s from ≡ number.Number n → n.value ≤ max_servers
+pub no_server_read : (s : List ℕ) (from : ℕ) (n : Number) → read_at s from ≡ Ok n → n.value ≤ max_servers
     → ServersSoFar s from n.value (held_servers []) n.next 0
 unfolding all_in_front_of
 no_server_read s from n e few =
@@ -212,7 +162,7 @@ no_server_read s from n e few =
 
 module _ {s : List ℕ} {from n : ℕ} {held : List Server} {at i : ℕ} (p : ServersSoFar s from n held at i) where
   -- If server i is read, one more server is held.
-  pub server_more : (v : ServerAt) → i < n → read_server s at ≡ server.Server v → ServersSoFar s from n (set held i v.server) v.next (i + 1)
+  pub server_more : (v : ServerAt) → i < n → read_server s at ≡ Ok v → ServersSoFar s from n (set held i v.server) v.next (i + 1)
   server_more v h e =
       let room : i < max_servers = omega (arith, p.few_servers) in
       let left : n - i ≡ suc (n - (i + 1)) = omega arith in
@@ -226,19 +176,20 @@ module _ {s : List ℕ} {from n : ℕ} {held : List Server} {at i : ℕ} (p : Se
       }
 
   -- If server i is refused, the servers are refused so.
-  pub server_refused : (r : RefusedAt) → i < n → read_server s at ≡ server.Refused r → held_servers_as (refused r) ≡ held_servers_as (servers_from s from)
+  pub server_refused : (r : RefusedAt) → i < n → read_server s at ≡ Err r → held_servers_as (refused r) ≡ held_servers_as (servers_from s from)
   server_refused r h e =
       let left : n - i ≡ suc (n - (i + 1)) = omega arith in
       let gone : servers_from s from ≡ refused r = p.answers ∙ rw (left, next_refused (n - (i + 1)) s at r e, servers_refused) in
       rw gone
 
   -- When all n servers are read, the code holds exactly these servers.
-  pub all_servers_read : n ≤ i → record { servers = held; count = i; answer = answer.Until at } ≡ held_servers_as (servers_from s from)
+  pub all_servers_read : n ≤ i → Ok (record { servers = held; serving = n; next = at }) ≡ held_servers_as (servers_from s from)
   all_servers_read end =
       let left : n - i ≡ 0 = omega arith in
+      let same : i ≡ n = omega (arith, p.not_past) in
       let long : length (take i held) ≡ i = length-take-le i held (omega (arith, p.few_servers, p.all_places)) in
       let all : servers_from s from ≡ servers (take i held) at = p.answers ∙ rw (left, no_more, all_the_servers) in
-      sym (rw (all, long, ← p.unused, take-append-drop))
+      sym (rw (all, long, ← p.unused, take-append-drop, same))
 
 -- ---- servers that were read
 
@@ -248,11 +199,11 @@ record ManyGood (n : ℕ) (vs : List Server) : Type 0 where
   each_good : Each GoodServer vs
 
 -- If n + 1 servers are read, the first of them is read.
-pub first_server : (n : ℕ) (s : List ℕ) (r : ServerRead) {vs : List Server} {next : ℕ}
+pub first_server : (n : ℕ) (s : List ℕ) (r : Result ServerAt RefusedAt) {vs : List Server} {next : ℕ}
     → after_server r (λ v after. in_front_of v (read_servers n s after)) ≡ servers vs next
-    → (v : ServerAt) × (r ≡ server.Server v) × (in_front_of v.server (read_servers n s v.next) ≡ servers vs next)
-first_server n s (server.Server v) e = (v, refl, e)
-first_server n s (server.Refused at) e = impossible cc
+    → (v : ServerAt) × (r ≡ Ok v) × (in_front_of v.server (read_servers n s v.next) ≡ servers vs next)
+first_server n s (Ok v) e = (v, refl, e)
+first_server n s (Err at) e = impossible cc
 
 -- If servers are read, those after the first are read.
 pub other_servers : (v : Server) (r : Servers) {vs : List Server} {next : ℕ} → in_front_of v r ≡ servers vs next
@@ -271,22 +222,22 @@ many_good (suc n) s at e =
     rw (← o.2) (record { many = ap suc more.many; each_good = Each-cons (good_server (two_numbers s at f.0 f.1)) more.each_good })
 
 -- If servers are read, their count was read before them, and it is at most the limit of servers.
-pub record ServerCountRead (s : List ℕ) (r : NumberRead) (vs : List Server) (next : ℕ) : Type 0 where
+pub record ServerCountRead (s : List ℕ) (r : Result Number RefusedAt) (vs : List Server) (next : ℕ) : Type 0 where
   pub count : Number
-  pub was_read : r ≡ number.Number count
+  pub was_read : r ≡ Ok count
   pub few_servers : count.value ≤ max_servers
   pub then : read_servers count.value s count.next ≡ servers vs next
 
-pub server_count_read : (s : List ℕ) (at : ℕ) (r : NumberRead) {vs : List Server} {next : ℕ} → after_server_count s at r ≡ servers vs next
+pub server_count_read : (s : List ℕ) (at : ℕ) (r : Result Number RefusedAt) {vs : List Server} {next : ℕ} → after_server_count s at r ≡ servers vs next
     → ServerCountRead s r vs next
-server_count_read s at (number.Number n) {vs} {next} e = by_test (leb n.value max_servers) refl e
+server_count_read s at (Ok n) {vs} {next} e = by_test (leb n.value max_servers) refl e
   where
     by_test : (b : Bool) → leb n.value max_servers ≡ b
         → cond b (read_servers n.value s n.next) (refused (record { refusal = TooManyRows; place = at })) ≡ servers vs next
-        → ServerCountRead s (number.Number n) vs next
+        → ServerCountRead s (Ok n) vs next
     by_test true t f = record { count = n; was_read = refl; few_servers = leb-true n.value max_servers t; then = f }
     by_test false t f = impossible cc
-server_count_read s at (number.Refused q) e = impossible cc
+server_count_read s at (Err q) e = impossible cc
 
 -- Servers that are read after their count are servers that a table may have.
 pub good_servers : (s : List ℕ) (at : ℕ) {vs : List Server} {next : ℕ} → servers_from s at ≡ servers vs next → GoodServers vs

@@ -1,5 +1,6 @@
 -- Bytes are refused exactly as the rules say: for their timer, for their row count, for a bad value, for a hopeless row, for their servers, for bytes after the
 -- servers, or for their H. (docs/RULES.md, 3.3, 3.7 to 3.12, 3.17 and 3.19.)
+use Rattle.std.specs.Prelude.{Result, Ok, Err}
 use Prim.Native.Nat.{ℕ, ◌≤◌}
 use native.Mathlib.Decide.{dec_le}
 use native.Mathlib.Omega.{arith}
@@ -12,8 +13,7 @@ use Rattle.kinds.specs.Numbering.{refusal_number, refused_with}
 use Rattle.kinds.specs.declared.Refusal.TheVariants.{Misspelled, TooManyRows, ExtraBytes, PeriodTooLong, HopelessRow}
 use Rattle.kinds.specs.declared.RefusedAt.{RefusedAt}
 use Rattle.kinds.proofs.Apart.{impossible}
-use Rattle.numbers.specs.declared.NumberRead.{NumberRead}
-use Rattle.numbers.specs.declared.NumberRead.TheVariants as number
+use Rattle.numbers.specs.declared.Number.{Number}
 use Rattle.numbers.specs.Spelling.{spelling}
 use Rattle.numbers.specs.Reading.{read_at}
 use Rattle.numbers.specs.SpelledNumbers.{Bytes}
@@ -21,9 +21,6 @@ use Rattle.numbers.proofs.Spellings.{number_has_one_spelling, spelled_read}
 use Rattle.numbers.proofs.BadByte.{bad_read, refused_bad}
 use Rattle.table.specs.declared.Row.{Row}
 use Rattle.table.specs.declared.TimerAt.{TimerAt}
-use Rattle.table.specs.declared.TimerRead.{TimerRead}
-use Rattle.table.specs.declared.TimerRead.TheVariants as timer
-use Rattle.table.specs.declared.TableAnswer.TheVariants.{Accepted, Refused}
 use Rattle.table.specs.Limits.{max_rows, max_period}
 use Rattle.table.specs.Content.{Content}
 use Rattle.table.specs.Period.{period_of}
@@ -134,8 +131,8 @@ rows_so_if_refused : {s : List ℕ} (from : ℕ) {r : RefusedAt} → Bytes s →
     → RowsRefusedSo s from (refusal_number r.refusal) r.place
 rows_so_if_refused {s} from {r} b inside e = count (read_at s from) refl e
   where
-    count : (v : NumberRead) → read_at s from ≡ v → after_count s from v ≡ refused r → RowsRefusedSo s from (refusal_number r.refusal) r.place
-    count (number.Number n) f g = elim (dec_le n.value max_rows) [
+    count : (v : Result Number RefusedAt) → read_at s from ≡ v → after_count s from v ≡ refused r → RowsRefusedSo s from (refusal_number r.refusal) r.place
+    count (Ok n) f g = elim (dec_le n.value max_rows) [
       | yes few ↦
           badly_behind_count few (number_stands from n b f)
           (rows_end_badly n.value n.next b (number_has_one_spelling s from n b f).within (simp (le-leb n.value max_rows few) at g))
@@ -144,7 +141,7 @@ rows_so_if_refused {s} from {r} b inside e = count (read_at s from) refl e
           let is : r ≡ record { refusal = TooManyRows; place = from } = cc in
           rw is (too_large_count n (number_has_one_spelling s from n b f) (omega arith))
     ]
-    count (number.Refused q) f g =
+    count (Err q) f g =
         let w = refused_bad b inside f in
         let is : r ≡ record { refusal = Misspelled; place = q.place } = cc (g, w.0) in
         rw is (no_count w.1)
@@ -171,14 +168,14 @@ content_inside : {s : List ℕ} {at : ℕ} {content : Content} → ContentEnds s
 content_inside p = ends_inside p.its_servers.before (ends_inside p.its_rows.before (ends_inside p.timer.before (omega arith)))
 
 -- After the servers, only extra bytes and an H above its limit are refused.
-refused_at_end : {s : List ℕ} {at : ℕ} {content : Content} {r : RefusedAt} → ContentEnds s at content → (at_end s content at).answer ≡ Refused r
+refused_at_end : {s : List ℕ} {at : ℕ} {content : Content} {r : RefusedAt} → ContentEnds s at content → (at_end s content at).answer ≡ Err r
     → RefusedSo s (refusal_number r.refusal) r.place
 refused_at_end {s} {at} {content} {r} p e = elim (dec_le (length s) at) [
   | yes l ↦
       let end : at ≡ length s = omega (arith, content_inside p) in
       elim (dec_le (period_of content) max_period) [
         | yes h ↦
-            let z : Accepted (period_of content) ≡ Refused r = simp (le-ltb at (length s) l, le-leb (period_of content) max_period h) at e in
+            let z : Ok (period_of content) ≡ Err r = simp (le-ltb at (length s) l, le-leb (period_of content) max_period h) at e in
             impossible cc
         | no h ↦
             let f = simp (le-ltb at (length s) l, lt-leb (period_of content) max_period (omega arith)) at e in
@@ -192,11 +189,11 @@ refused_at_end {s} {at} {content} {r} p e = elim (dec_le (length s) at) [
 ]
 
 -- If reading the bytes is refused, the rules refuse them so.
-pub so_if_refused : (s : List ℕ) (r : RefusedAt) → Bytes s → (table_read s).answer ≡ Refused r → RefusedSo s (refusal_number r.refusal) r.place
+pub so_if_refused : (s : List ℕ) (r : RefusedAt) → Bytes s → (table_read s).answer ≡ Err r → RefusedSo s (refusal_number r.refusal) r.place
 so_if_refused s r b e = first (read_timer s) refl e
   where
     last : (t : TimerAt) {rs : List Row} {then : ℕ} → TimerEnds s t.next t.s t.p → RowsEnd s t.next then rs → then ≤ length s → (v : Servers)
-        → servers_from s then ≡ v → (after_servers s t rs v).answer ≡ Refused r → RefusedSo s (refusal_number r.refusal) r.place
+        → servers_from s then ≡ v → (after_servers s t rs v).answer ≡ Err r → RefusedSo s (refusal_number r.refusal) r.place
     last t {rs} {then} timed ended inside (servers vs at) f g =
         refused_at_end {content = content_with t rs vs}
         (record { from = t.next; then = then; timer = timed; its_rows = ended; its_servers = servers_end then b inside f })
@@ -206,7 +203,7 @@ so_if_refused s r b e = first (read_timer s) refl e
         bad_servers timed ended (servers_so_if_refused then b inside (f ∙ ap servers.refused same))
 
     after : (t : TimerAt) → TimerEnds s t.next t.s t.p → t.next ≤ length s → (v : Rows) → rows_from s t.next ≡ v
-        → (after_rows s t v).answer ≡ Refused r → RefusedSo s (refusal_number r.refusal) r.place
+        → (after_rows s t v).answer ≡ Err r → RefusedSo s (refusal_number r.refusal) r.place
     after t timed inside (rows rs then) f g =
         let ended = rows_end t.next b f in
         last t timed ended (ends_inside ended.before inside) (servers_from s then) refl g
@@ -214,11 +211,11 @@ so_if_refused s r b e = first (read_timer s) refl e
         let same : q ≡ r = cc in
         bad_rows timed (rows_so_if_refused t.next b inside (f ∙ ap refused same))
 
-    first : (v : TimerRead) → read_timer s ≡ v → (after_timer s v).answer ≡ Refused r → RefusedSo s (refusal_number r.refusal) r.place
-    first (timer.Timer t) f g =
+    first : (v : Result TimerAt RefusedAt) → read_timer s ≡ v → (after_timer s v).answer ≡ Err r → RefusedSo s (refusal_number r.refusal) r.place
+    first (Ok t) f g =
         let timed = timer_ends b f in
         after t timed (ends_inside timed.before (omega arith)) (rows_from s t.next) refl g
-    first (timer.Refused q) f g = let same : q ≡ r = cc in bad_timer (timer_so_if_refused b (f ∙ ap timer.Refused same))
+    first (Err q) f g = let same : q ≡ r = cc in bad_timer (timer_so_if_refused b (f ∙ ap Err same))
 
 -- A bad value is refused with 1 or 3.
 value_refusal : {s : List ℕ} {at most number place : ℕ} → BadValue s at most number place → (1 ≤ number) × (number ≤ 3)
@@ -251,7 +248,7 @@ table_refusal (bytes_after ended more) = inl (omega arith, omega arith)
 table_refusal (long_period ended long) = inl (omega arith, omega arith)
 
 -- The refusals of a table are numbered 1 to 5 and 16.
-pub refused_as_a_table : (s : List ℕ) (r : RefusedAt) → Bytes s → (table_read s).answer ≡ Refused r → TableRefusal (refusal_number r.refusal)
+pub refused_as_a_table : (s : List ℕ) (r : RefusedAt) → Bytes s → (table_read s).answer ≡ Err r → TableRefusal (refusal_number r.refusal)
 refused_as_a_table s r bytes e = table_refusal (so_if_refused s r bytes e)
 
 -- The rules refuse bytes with 16 for a hopeless row only.

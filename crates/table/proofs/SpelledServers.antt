@@ -1,5 +1,6 @@
 -- A server, and servers after their count, are read at a place exactly when their spelling stands there and a table may have them, and are refused exactly as
 -- the rules say. Servers are proved from a server, and a server from its a and b, each in both directions. (docs/RULES.md, 3.6 to 3.9, 3.18 and 3.19.)
+use Rattle.std.specs.Prelude.{Result, Ok, Err}
 use Prim.Native.Nat.{ℕ, zero, suc, ◌≤◌, ◌<◌}
 use native.Mathlib.Decide.{dec_le}
 use native.Mathlib.Omega.{arith}
@@ -14,8 +15,6 @@ use Rattle.kinds.specs.declared.Refusal.TheVariants.{Misspelled, TooManyRows, Va
 use Rattle.kinds.specs.declared.RefusedAt.{RefusedAt}
 use Rattle.kinds.proofs.Apart.{impossible}
 use Rattle.numbers.specs.declared.Number.{Number}
-use Rattle.numbers.specs.declared.NumberRead.{NumberRead}
-use Rattle.numbers.specs.declared.NumberRead.TheVariants as number
 use Rattle.numbers.specs.Spelling.{spelling}
 use Rattle.numbers.specs.Reading.{read_at}
 use Rattle.numbers.specs.SpelledNumbers.{Bytes, Spelled}
@@ -24,8 +23,6 @@ use Rattle.numbers.proofs.Spellings.{number_has_one_spelling, spelled_read}
 use Rattle.numbers.proofs.BadByte.{bad_read, refused_bad}
 use Rattle.table.specs.declared.Server.{Server}
 use Rattle.table.specs.declared.ServerAt.{ServerAt}
-use Rattle.table.specs.declared.ServerRead.{ServerRead}
-use Rattle.table.specs.declared.ServerRead.TheVariants as server
 use Rattle.table.specs.Limits.{max_servers, max_b}
 use Rattle.table.specs.Rows.{read_value}
 use Rattle.table.specs.Servers.{rule_of_a, rule_of_b, GoodServer, read_server, Servers, servers, refused, in_front_of, after_server, read_servers}
@@ -41,16 +38,16 @@ use Rattle.table.proofs.BadValues.{ValueAnswer, good, bad, value_answer, good_va
 
 -- A b that can't be read is refused with 1, at its bad byte.
 b_misspelled : (a : ℕ) {s : List ℕ} {at place : ℕ} → Bytes s → BadByteAt s at place
-    → read_value (rule_of_b a) s at ≡ number.Refused (record { refusal = Misspelled; place = place })
+    → read_value (rule_of_b a) s at ≡ Err (record { refusal = Misspelled; place = place })
 b_misspelled a b p = simp (bad_read b p)
 
-module _ (a : ℕ) (s : List ℕ) (at : ℕ) (n : Number) (e : read_at s at ≡ number.Number n) where
+module _ (a : ℕ) (s : List ℕ) (at : ℕ) (n : Number) (e : read_at s at ≡ Ok n) where
   -- A b from a to its limit is answered.
-  b_stands : a ≤ n.value → n.value ≤ max_b → read_value (rule_of_b a) s at ≡ number.Number n
+  b_stands : a ≤ n.value → n.value ≤ max_b → read_value (rule_of_b a) s at ≡ Ok n
   b_stands l h = simp (e, le-leb a n.value l, le-leb n.value max_b h)
 
   -- A b that is below a or above its limit is refused with 3, at its start.
-  b_outside : (n.value < a) ⊎ (max_b < n.value) → read_value (rule_of_b a) s at ≡ number.Refused (record { refusal = ValueOutOfRange; place = at })
+  b_outside : (n.value < a) ⊎ (max_b < n.value) → read_value (rule_of_b a) s at ≡ Err (record { refusal = ValueOutOfRange; place = at })
   b_outside o = elim (dec_le a n.value) [
     | yes l ↦ simp (e, le-leb a n.value l, lt-leb n.value max_b (⊎_elim (λ below. absurd (omega arith)) (λ above. above) o))
     | no l ↦ simp (e, lt-leb a n.value (omega arith))
@@ -60,17 +57,17 @@ module _ (a : ℕ) (s : List ℕ) (at : ℕ) (n : Number) (e : read_at s at ≡ 
 
 module _ (s : List ℕ) (at : ℕ) where
   -- If a is refused as it is read, the server is refused so.
-  a_refused : (r : RefusedAt) → read_value rule_of_a s at ≡ number.Refused r → read_server s at ≡ server.Refused r
+  a_refused : (r : RefusedAt) → read_value rule_of_a s at ≡ Err r → read_server s at ≡ Err r
   a_refused r e = rw e
 
-  module _ (a : Number) (a_read : read_value rule_of_a s at ≡ number.Number a) where
+  module _ (a : Number) (a_read : read_value rule_of_a s at ≡ Ok a) where
     -- If b is refused as it is read, the server is refused so.
-    b_refused : (r : RefusedAt) → read_value (rule_of_b a.value) s a.next ≡ number.Refused r → read_server s at ≡ server.Refused r
+    b_refused : (r : RefusedAt) → read_value (rule_of_b a.value) s a.next ≡ Err r → read_server s at ≡ Err r
     b_refused r e = rw (a_read, e)
 
     -- If a and b are answered, the server is answered, with the place right after b.
-    both_answered : (b : Number) → read_value (rule_of_b a.value) s a.next ≡ number.Number b
-        → read_server s at ≡ server.Server (record { server = record { a = a.value; b = b.value }; next = b.next })
+    both_answered : (b : Number) → read_value (rule_of_b a.value) s a.next ≡ Ok b
+        → read_server s at ≡ Ok (record { server = record { a = a.value; b = b.value }; next = b.next })
     both_answered b e = rw (a_read, e)
 
 -- From the place `at` up to `next` stands the spelling of the server v, which a table may have.
@@ -79,7 +76,7 @@ record ServerStands (s : List ℕ) (at : ℕ) (v : Server) (next : ℕ) : Type 0
   stands : PartStands s at (spelled_server v) next
 
 -- A server that a table may have is read where its spelling stands.
-server_read : {s : List ℕ} {at next : ℕ} {v : Server} → ServerStands s at v next → read_server s at ≡ server.Server (record { server = v; next = next })
+server_read : {s : List ℕ} {at next : ℕ} {v : Server} → ServerStands s at v next → read_server s at ≡ Ok (record { server = v; next = next })
 server_read {s} {at} {next} {v} p =
     let w = p.is_good in
     let t = parted (spelling v.a) (spelling v.b) p.stands in
@@ -97,7 +94,7 @@ data BadServer (s : List ℕ) (at : ℕ) : (number place : ℕ) → Type 0 where
 record ServerRefused (s : List ℕ) (at n place : ℕ) : Type 0 where
   kind : Refusal
   its_number : refusal_number kind ≡ n
-  answer : read_server s at ≡ server.Refused (record { refusal = kind; place = place })
+  answer : read_server s at ≡ Err (record { refusal = kind; place = place })
 
 -- A bad server is refused so.
 server_refused : {s : List ℕ} {at n place : ℕ} → Bytes s → BadServer s at n place → ServerRefused s at n place
@@ -113,24 +110,24 @@ server_refused {s} {at} b (wrong_b a p l h (b_out_of_range n q o)) = record {
 }
 
 -- What reading a server answers: a server that stands there and that a table may have, or the refusal of what is wrong with it.
-data ServerAnswer (s : List ℕ) (at : ℕ) : ServerRead → Type 0 where
-  there : (v : ServerAt) → ServerStands s at v.server v.next → ServerAnswer s at (server.Server v)
-  not_there : (r : RefusedAt) → BadServer s at (refusal_number r.refusal) r.place → ServerAnswer s at (server.Refused r)
+data ServerAnswer (s : List ℕ) (at : ℕ) : Result ServerAt RefusedAt → Type 0 where
+  there : (v : ServerAt) → ServerStands s at v.server v.next → ServerAnswer s at (Ok v)
+  not_there : (r : RefusedAt) → BadServer s at (refusal_number r.refusal) r.place → ServerAnswer s at (Err r)
 
 -- Reading a server always answers as `ServerAnswer` says.
 server_answer : {s : List ℕ} {at : ℕ} → Bytes s → at ≤ length s → ServerAnswer s at (read_server s at)
 server_answer {s} {at} b inside = by_a (read_value rule_of_a s at) refl (value_answer b inside)
   where
-    outside : (a : Number) → read_value rule_of_a s at ≡ number.Number a → Spelled s at a → 1 ≤ a.value → a.value ≤ max_b → (n : Number)
-        → read_at s a.next ≡ number.Number n → (n.value < a.value) ⊎ (max_b < n.value) → ServerAnswer s at (read_server s at)
+    outside : (a : Number) → read_value rule_of_a s at ≡ Ok a → Spelled s at a → 1 ≤ a.value → a.value ≤ max_b → (n : Number)
+        → read_at s a.next ≡ Ok n → (n.value < a.value) ⊎ (max_b < n.value) → ServerAnswer s at (read_server s at)
     outside a a_read p l h n e o =
         let q = number_has_one_spelling s a.next n b e in
         subst (ServerAnswer s at) (sym (b_refused s at a a_read _ (b_outside a.value s a.next n e o)))
         (not_there (record { refusal = ValueOutOfRange; place = a.next }) (wrong_b a p l h (b_out_of_range n q o)))
 
-    by_b : (a : Number) → read_value rule_of_a s at ≡ number.Number a → Spelled s at a → 1 ≤ a.value → a.value ≤ max_b → (v : NumberRead)
+    by_b : (a : Number) → read_value rule_of_a s at ≡ Ok a → Spelled s at a → 1 ≤ a.value → a.value ≤ max_b → (v : Result Number RefusedAt)
         → read_at s a.next ≡ v → ServerAnswer s at (read_server s at)
-    by_b a a_read p l h (number.Number n) e = elim (dec_le a.value n.value) [
+    by_b a a_read p l h (Ok n) e = elim (dec_le a.value n.value) [
       | yes k ↦ elim (dec_le n.value max_b) [
         | yes m ↦
             let it : ServerAt = record { server = record { a = a.value; b = n.value }; next = n.next } in
@@ -143,14 +140,14 @@ server_answer {s} {at} b inside = by_a (read_value rule_of_a s at) refl (value_a
       ]
       | no k ↦ outside a a_read p l h n e (inl (omega arith))
     ]
-    by_b a a_read p l h (number.Refused r) e =
+    by_b a a_read p l h (Err r) e =
         let w = (refused_bad b p.within e).1 in
         subst (ServerAnswer s at) (sym (b_refused s at a a_read _ (b_misspelled a.value b w)))
         (not_there (record { refusal = Misspelled; place = r.place }) (wrong_b a p l h (misspelled_b w)))
 
-    by_a : (v : NumberRead) → read_value rule_of_a s at ≡ v → ValueAnswer s at max_b v → ServerAnswer s at (read_server s at)
-    by_a (number.Number a) a_read (good p l h) = by_b a a_read p l h (read_at s a.next) refl
-    by_a (number.Refused r) a_read (bad how w) = subst (ServerAnswer s at) (sym (a_refused s at r a_read)) (not_there r (wrong_a w))
+    by_a : (v : Result Number RefusedAt) → read_value rule_of_a s at ≡ v → ValueAnswer s at max_b v → ServerAnswer s at (read_server s at)
+    by_a (Ok a) a_read (good p l h) = by_b a a_read p l h (read_at s a.next) refl
+    by_a (Err r) a_read (bad how w) = subst (ServerAnswer s at) (sym (a_refused s at r a_read)) (not_there r (wrong_a w))
 
 -- ---- servers, one after another
 
@@ -193,7 +190,7 @@ servers_read {s = s} {at = at} {next = next} (v ∷ vs) p =
 
 -- If fewer than n servers stand up to a server that is refused, reading n servers ends in that refusal.
 servers_refused : (n : ℕ) {s : List ℕ} (at : ℕ) (before : List Server) {mid : ℕ} {r : RefusedAt} → length before < n → ServersStand s at before mid
-    → read_server s mid ≡ server.Refused r → read_servers n s at ≡ refused r
+    → read_server s mid ≡ Err r → read_servers n s at ≡ refused r
 unfolding read_servers
 servers_refused zero at before fewer p wrong = absurd (omega arith)
 servers_refused (suc n) at [] fewer p wrong = rw (none_end p, wrong)
@@ -219,10 +216,10 @@ unfolding read_servers
 servers_answer zero at b inside = all_stand refl none_stand
 servers_answer (suc n) {s} at b inside = go (read_server s at) (server_answer b inside) (λ next h. servers_answer n next b h)
   where
-    go : (v : ServerRead) → ServerAnswer s at v → ((next : ℕ) → next ≤ length s → ServersAnswer n s next (read_servers n s next))
+    go : (v : Result ServerAt RefusedAt) → ServerAnswer s at v → ((next : ℕ) → next ≤ length s → ServersAnswer n s next (read_servers n s next))
         → ServersAnswer (suc n) s at (after_server v (λ q after. in_front_of q (read_servers n s after)))
-    go (server.Server v) (there it p) more = answer_behind (read_servers n s v.next) p (more v.next (ends_inside p.stands inside))
-    go (server.Refused r) (not_there how wrong) more = end_badly [] (omega arith) none_stand wrong
+    go (Ok v) (there it p) more = answer_behind (read_servers n s v.next) p (more v.next (ends_inside p.stands inside))
+    go (Err r) (not_there how wrong) more = end_badly [] (omega arith) none_stand wrong
 
 -- ---- servers after their count
 
@@ -299,8 +296,8 @@ behind_count {n = n} (refused r) few p (end_badly before fewer q wrong) =
 servers_from_answer : {s : List ℕ} {from : ℕ} → Bytes s → from ≤ length s → ServersFromAnswer s from (servers_from s from)
 servers_from_answer {s} {from} b inside = count (read_at s from) refl
   where
-    count : (v : NumberRead) → read_at s from ≡ v → ServersFromAnswer s from (after_server_count s from v)
-    count (number.Number n) e =
+    count : (v : Result Number RefusedAt) → read_at s from ≡ v → ServersFromAnswer s from (after_server_count s from v)
+    count (Ok n) e =
         let p = number_has_one_spelling s from n b e in
         elim (dec_le n.value max_servers) [
           | yes few ↦
@@ -310,7 +307,7 @@ servers_from_answer {s} {from} b inside = count (read_at s from) refl
               rw (lt-leb n.value max_servers (omega arith))
               (refused_so {r = record { refusal = TooManyRows; place = from }} (too_many_servers n p (omega arith)))
         ]
-    count (number.Refused r) e =
+    count (Err r) e =
         let w = refused_bad b inside e in
         let is : r ≡ record { refusal = Misspelled; place = r.place } = cc w.0 in
         subst (λ q. ServersFromAnswer s from (refused q)) (sym is) (refused_so {r = record { refusal = Misspelled; place = r.place }} (no_server_count w.1))

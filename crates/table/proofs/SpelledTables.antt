@@ -1,5 +1,6 @@
 -- The laws of a table, stated by the cases of its answer, for other proofs to cite. Bytes are accepted exactly when they are the spelling of an acceptable
 -- content. (docs/RULES.md, section 3.)
+use Rattle.std.specs.Prelude.{Result, Ok, Err}
 use Prim.Native.Nat.{ℕ, ◌≤◌}
 use native.Mathlib.Omega.{arith}
 use mathlib.Core.Path.{◌≡◌, refl, sym, ap, ap₂, ◌∙◌}
@@ -18,10 +19,7 @@ use Rattle.numbers.proofs.Spellings.{spelling_last}
 use Rattle.table.specs.declared.Row.{Row}
 use Rattle.table.specs.declared.Server.{Server}
 use Rattle.table.specs.declared.TimerAt.{TimerAt}
-use Rattle.table.specs.declared.TimerRead.{TimerRead}
-use Rattle.table.specs.declared.TimerRead.TheVariants as timer
 use Rattle.table.specs.declared.TableRead.{TableRead}
-use Rattle.table.specs.declared.TableAnswer.TheVariants.{Accepted}
 use Rattle.table.specs.Limits.{max_period}
 use Rattle.table.specs.Content.{Content}
 use Rattle.table.specs.Period.{periods_of, period_of}
@@ -89,20 +87,20 @@ spelled_ends content a =
 
 -- The spelling of an acceptable content is read as its table.
 pub spelled_is_read : (content : Content) → Acceptable content
-    → table_read (spelled_table content) ≡ record { table = table_of content; answer = Accepted (period_of content) }
+    → table_read (spelled_table content) ≡ record { table = table_of content; answer = Ok (period_of content) }
 spelled_is_read content a =
     let s = spelled_table content in
     content_then (spelled_ends content a) ∙ simp (le-ltb (length s) (length s) (omega arith), le-leb (period_of content) max_period a.period_within)
 
 -- If a test refuses the table where it holds, and the table is accepted, then the test does not hold.
-refused_if : (t : Bool) (at : RefusedAt) (then : TableRead) {h : ℕ} → (cond t (refused_table at) then).answer ≡ Accepted h
-    → (t ≡ false) × (then.answer ≡ Accepted h)
+refused_if : (t : Bool) (at : RefusedAt) (then : TableRead) {h : ℕ} → (cond t (refused_table at) then).answer ≡ Ok h
+    → (t ≡ false) × (then.answer ≡ Ok h)
 refused_if true at then e = (cc, cc)
 refused_if false at then e = (refl, e)
 
 -- If a test refuses the table where it does not hold, and the table is accepted, then the test holds.
-refused_unless : (t : Bool) (at : RefusedAt) (then : TableRead) {h : ℕ} → (cond t then (refused_table at)).answer ≡ Accepted h
-    → (t ≡ true) × (then.answer ≡ Accepted h)
+refused_unless : (t : Bool) (at : RefusedAt) (then : TableRead) {h : ℕ} → (cond t then (refused_table at)).answer ≡ Ok h
+    → (t ≡ true) × (then.answer ≡ Ok h)
 refused_unless true at then e = (refl, e)
 refused_unless false at then e = (cc, cc)
 
@@ -116,7 +114,7 @@ record ServersAccepted (s : List ℕ) (t : TimerAt) (rs : List Row) (v : Servers
   period : h ≡ period_of (content_with t rs all)
   table : (after_servers s t rs v).table ≡ table_of (content_with t rs all)
 
-servers_accepted : (s : List ℕ) (t : TimerAt) (rs : List Row) (v : Servers) (h : ℕ) → (after_servers s t rs v).answer ≡ Accepted h
+servers_accepted : (s : List ℕ) (t : TimerAt) (rs : List Row) (v : Servers) (h : ℕ) → (after_servers s t rs v).answer ≡ Ok h
     → ServersAccepted s t rs v h
 servers_accepted s t rs (servers vs next) h e =
     let last = refused_if (ltb next (length s)) _ _ e in
@@ -133,19 +131,19 @@ servers_accepted s t rs (servers vs next) h e =
 servers_accepted s t rs (servers.refused at) h e = impossible cc
 
 -- If a table is accepted, its rows were read.
-rows_accepted : (s : List ℕ) (t : TimerAt) (v : Rows) (h : ℕ) → (after_rows s t v).answer ≡ Accepted h
-    → (rs : List Row) × (next : ℕ) × (v ≡ rows rs next) × ((after_servers s t rs (servers_from s next)).answer ≡ Accepted h)
+rows_accepted : (s : List ℕ) (t : TimerAt) (v : Rows) (h : ℕ) → (after_rows s t v).answer ≡ Ok h
+    → (rs : List Row) × (next : ℕ) × (v ≡ rows rs next) × ((after_servers s t rs (servers_from s next)).answer ≡ Ok h)
 rows_accepted s t (rows rs next) h e = (rs, next, refl, e)
 rows_accepted s t (refused at) h e = impossible cc
 
 -- If a table is accepted, its timer was read.
-timer_accepted : (s : List ℕ) (v : TimerRead) (h : ℕ) → (after_timer s v).answer ≡ Accepted h
-    → (t : TimerAt) × (v ≡ timer.Timer t) × ((after_rows s t (rows_from s t.next)).answer ≡ Accepted h)
-timer_accepted s (timer.Timer t) h e = (t, refl, e)
-timer_accepted s (timer.Refused r) h e = impossible cc
+timer_accepted : (s : List ℕ) (v : Result TimerAt RefusedAt) (h : ℕ) → (after_timer s v).answer ≡ Ok h
+    → (t : TimerAt) × (v ≡ Ok t) × ((after_rows s t (rows_from s t.next)).answer ≡ Ok h)
+timer_accepted s (Ok t) h e = (t, refl, e)
+timer_accepted s (Err r) h e = impossible cc
 
 -- Bytes that are accepted are the spelling of an acceptable content.
-pub accepted_is_spelled : (s : List ℕ) (h : ℕ) → Bytes s → (table_read s).answer ≡ Accepted h → (content : Content) × AcceptedAs s h content
+pub accepted_is_spelled : (s : List ℕ) (h : ℕ) → Bytes s → (table_read s).answer ≡ Ok h → (content : Content) × AcceptedAs s h content
 accepted_is_spelled s h b e =
     let w = timer_accepted s (read_timer s) h e in
     let t = w.0 in
@@ -182,7 +180,7 @@ spellings_of_tables_differ content other a b e =
     sym (content_of_table content) ∙ ap (λ (t : TableRead). content_of t.table) same ∙ content_of_table other
 
 -- Bytes that are accepted are accepted as the content of the table that was read.
-pub accepted_as_read : (s : List ℕ) (h : ℕ) → Bytes s → (table_read s).answer ≡ Accepted h → AcceptedAs s h (content_of (table_read s).table)
+pub accepted_as_read : (s : List ℕ) (h : ℕ) → Bytes s → (table_read s).answer ≡ Ok h → AcceptedAs s h (content_of (table_read s).table)
 accepted_as_read s h b e = let a = accepted_is_spelled s h b e in rw (a.1.read_as, content_of_table) a.1
 
 -- If bytes were accepted as a content, all that `UsableContent` lists holds for it.
@@ -203,5 +201,5 @@ usable_content s h content a =
     }
 
 -- For an accepted table, all that `UsableContent` lists holds for its content.
-pub accepted_is_usable : (s : List ℕ) (h : ℕ) → Bytes s → (table_read s).answer ≡ Accepted h → UsableContent s h (content_of (table_read s).table)
+pub accepted_is_usable : (s : List ℕ) (h : ℕ) → Bytes s → (table_read s).answer ≡ Ok h → UsableContent s h (content_of (table_read s).table)
 accepted_is_usable s h b e = usable_content s h (content_of (table_read s).table) (accepted_as_read s h b e)

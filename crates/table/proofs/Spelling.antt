@@ -1,5 +1,6 @@
 -- A value, a row, and rows one after another are read at a place exactly when their spelling stands there and they are within their limits. Rows are proved
 -- from a row, and a row from a value, each in both directions. (docs/RULES.md, section 3.)
+use Rattle.std.specs.Prelude.{Ok}
 use Prim.Native.Nat.{ℕ, zero, suc, ◌+◌, ◌-◌, ◌≤◌}
 use native.Mathlib.Omega.{arith}
 use mathlib.Core.Path.{◌≡◌, refl, sym, ap, ◌∙◌}
@@ -9,14 +10,12 @@ use lib.Seq.{drop-drop, drop-length, drop-append_seam}
 use borrow.Author.Tests.{le-leb}
 use Rattle.kinds.proofs.Apart.{impossible}
 use Rattle.numbers.specs.declared.Number.{Number}
-use Rattle.numbers.specs.declared.NumberRead.TheVariants as number
 use Rattle.numbers.specs.Spelling.{max_number, spelling}
 use Rattle.numbers.specs.Reading.{read_at}
 use Rattle.numbers.specs.SpelledNumbers.{Bytes, Spelled}
 use Rattle.numbers.proofs.Spellings.{read_here, number_has_one_spelling}
 use Rattle.table.specs.declared.Row.{Row}
 use Rattle.table.specs.declared.RowAt.{RowAt}
-use Rattle.table.specs.declared.RowRead.TheVariants as row
 use Rattle.table.specs.Limits.{max_rows, max_x, max_y, max_d, max_c}
 use Rattle.table.specs.Rows.{within_limit, read_value, read_row}
 use Rattle.table.specs.Tables.{rows, read_rows, rows_from}
@@ -61,17 +60,17 @@ spelled_stands p = record { here = p.stands_here; ends = p.ends }
 
 -- A number is read where its spelling stands.
 pub number_read : {s : List ℕ} {at next : ℕ} (v : ℕ) → v ≤ max_number → PartStands s at (spelling v) next
-    → read_at s at ≡ number.Number (record { value = v; next = next })
+    → read_at s at ≡ Ok (record { value = v; next = next })
 number_read {s} {at} {next} v h p =
-    read_here s at v (drop next s) h p.here ∙ ap (λ (n : ℕ). number.Number (record { value = v; next = n })) (sym p.ends)
+    read_here s at v (drop next s) h p.here ∙ ap (λ (n : ℕ). Ok (record { value = v; next = n })) (sym p.ends)
 
 -- Where a number is read, its spelling stands.
-pub number_stands : {s : List ℕ} (at : ℕ) (n : Number) → Bytes s → read_at s at ≡ number.Number n → PartStands s at (spelling n.value) n.next
+pub number_stands : {s : List ℕ} (at : ℕ) (n : Number) → Bytes s → read_at s at ≡ Ok n → PartStands s at (spelling n.value) n.next
 number_stands {s} at n b e = spelled_stands (number_has_one_spelling s at n b e)
 
 -- A value from 1 to its limit is read where its spelling stands.
 pub value_read : {s : List ℕ} {at next : ℕ} (most v : ℕ) → most ≤ max_number → 1 ≤ v → v ≤ most → PartStands s at (spelling v) next
-    → read_value (within_limit most) s at ≡ number.Number (record { value = v; next = next })
+    → read_value (within_limit most) s at ≡ Ok (record { value = v; next = next })
 value_read {s} {at} most v m l h p = value_stands (within_limit most) s at _ (record { reads = number_read v (omega arith) p; is_fine = within_fine most v l h })
 
 -- ---- a row
@@ -82,7 +81,7 @@ pub record RowStands (s : List ℕ) (at : ℕ) (r : Row) (next : ℕ) : Type 0 w
   pub stands : PartStands s at (spelled_row r) next
 
 -- A row that a table may have is read where its spelling stands.
-pub row_read : {s : List ℕ} {at next : ℕ} {r : Row} → RowStands s at r next → read_row s at ≡ row.Row (record { row = r; next = next })
+pub row_read : {s : List ℕ} {at next : ℕ} {r : Row} → RowStands s at r next → read_row s at ≡ Ok (record { row = r; next = next })
 row_read {r} p =
     let w = p.acceptable.within_limits in
     let x = parted (spelling r.x) (spelling r.y ++ (spelling r.d ++ spelling r.c)) p.stands in
@@ -96,7 +95,7 @@ row_read {r} p =
     )
 
 -- Where a row is read, its spelling stands, and a table may have it.
-pub row_stands : {s : List ℕ} (at : ℕ) (r : RowAt) → Bytes s → read_row s at ≡ row.Row r → RowStands s at r.row r.next
+pub row_stands : {s : List ℕ} (at : ℕ) (r : RowAt) → Bytes s → read_row s at ≡ Ok r → RowStands s at r.row r.next
 row_stands {s} at r b e =
     let v = four_values s at r e in
     let x = number_stands at v.x b v.x_stands.reads in

@@ -1,5 +1,6 @@
 -- Bytes are read as the table of a content that was accepted, or as the empty table beside the refusal. So the table is in range, and its unused rows and
 -- servers hold zeros. (docs/RULES.md, 3.14 and 10.5.)
+use Rattle.std.specs.Prelude.{Result, Ok, Err}
 use Prim.Native.Nat.{ℕ, zero, suc, ◌+◌, ◌-◌, ◌≤◌, ◌<◌}
 use mathlib.Core.Path.{◌≡◌, refl, ◌∙◌}
 use mathlib.Core.Logic.{◌⊎◌, inl, inr, ⊎_elim}
@@ -16,10 +17,7 @@ use Rattle.table.specs.declared.Row.{Row}
 use Rattle.table.specs.declared.Server.{Server}
 use Rattle.table.specs.declared.Table.{Table}
 use Rattle.table.specs.declared.TimerAt.{TimerAt}
-use Rattle.table.specs.declared.TimerRead.{TimerRead}
-use Rattle.table.specs.declared.TimerRead.TheVariants as timer
 use Rattle.table.specs.declared.TableRead.{TableRead}
-use Rattle.table.specs.declared.TableAnswer.TheVariants.{Accepted, Refused}
 use Rattle.table.specs.Limits.{max_rows, max_servers, max_period}
 use Rattle.table.specs.Content.{Content, rows_alone}
 use Rattle.table.specs.Period.{period_of}
@@ -117,7 +115,7 @@ module _ {t : Table} (r : InRange t) where
 
 -- The table is accepted, or the empty table is answered.
 abbrev AcceptedOrEmpty : TableRead → Type 0
-AcceptedOrEmpty r = ((h : ℕ) × (r.answer ≡ Accepted h)) ⊎ (r.table ≡ empty_table)
+AcceptedOrEmpty r = ((h : ℕ) × (r.answer ≡ Ok h)) ⊎ (r.table ≡ empty_table)
 
 -- If two answers are accepted or empty, the one that a test picks is accepted or empty.
 either : (test : Bool) (r q : TableRead) → AcceptedOrEmpty r → AcceptedOrEmpty q → AcceptedOrEmpty (cond test r q)
@@ -137,9 +135,9 @@ after_rows_lem s t (rows rs next) = after_servers_lem s t rs (servers_from s nex
 after_rows_lem s t (refused at) = inr refl
 
 -- The answer after the timer is accepted or empty.
-after_timer_lem : (s : List ℕ) (v : TimerRead) → AcceptedOrEmpty (after_timer s v)
-after_timer_lem s (timer.Timer t) = after_rows_lem s t (rows_from s t.next)
-after_timer_lem s (timer.Refused at) = inr refl
+after_timer_lem : (s : List ℕ) (v : Result TimerAt RefusedAt) → AcceptedOrEmpty (after_timer s v)
+after_timer_lem s (Ok t) = after_rows_lem s t (rows_from s t.next)
+after_timer_lem s (Err at) = inr refl
 
 -- Bytes are always read as the table of a content whose timer, rows and servers a table may have.
 read_as_content : (s : List ℕ) → Bytes s → (content : Content) × ((table_read s).table ≡ table_of content) × GoodContent content
@@ -160,6 +158,6 @@ unused_hold_zeros s b i =
     rw t.1 (unused_held max_rows no_row t.0.rows i, unused_held max_servers no_server t.0.servers i)
 
 -- Bytes that are refused are read as the empty table.
-pub refused_is_empty : (s : List ℕ) (r : RefusedAt) → (table_read s).answer ≡ Refused r → (table_read s).table ≡ empty_table
+pub refused_is_empty : (s : List ℕ) (r : RefusedAt) → (table_read s).answer ≡ Err r → (table_read s).table ≡ empty_table
 refused_is_empty s r e =
     ⊎_elim (λ accepted. impossible (cc (accepted.1, e))) (λ empty. empty) (after_timer_lem s (read_timer s))

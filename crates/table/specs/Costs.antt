@@ -1,14 +1,12 @@
 -- One test of a row number and a cost. A release, the soundness of a run and a script's record all use it. It answers 6 where the row number is not in use, and
 -- 7 where the cost is 0 or above the row's c. A server is a row whose c is 4,096. (docs/RULES.md, 3.20, 6.8 and 2.11.)
 use Rattle.std.specs.Prelude.{ℕ, ◌+◌, ◌-◌, ◌≤◌, ◌<◌, ◌≡◌, ◌↔◌, ◌⊎◌, cond, List, [], ◌∷◌, ◌++◌, map, ltb, length, take, get_or, replicate}
+use Rattle.std.specs.Prelude.{Option, Some, None, Result, Ok, Err}
+use Rattle.kinds.specs.declared.Refusal.{Refusal}
 use Rattle.kinds.specs.declared.Refusal.TheVariants as refusal
 use Rattle.kinds.specs.Numbering.{Says, numbered, values, refused_says, without_place, NeverNumberedZero, SaysApart, refused_with}
 use Rattle.table.specs.declared.Row.{Row}
 use Rattle.table.specs.declared.Table.{Table}
-use Rattle.table.specs.declared.CostLimit.{CostLimit}
-use Rattle.table.specs.declared.CostLimit.TheVariants as limit
-use Rattle.table.specs.declared.CostAnswer.{CostAnswer}
-use Rattle.table.specs.declared.CostAnswer.TheVariants as answer
 use Rattle.table.specs.Limits.{max_rows, max_servers, max_sources, max_c}
 use Rattle.table.specs.Rows.{from_one_to}
 use Rattle.table.specs.Tables.{no_row, rows_of}
@@ -27,23 +25,23 @@ held_limits t = cs_of (rows_of t) ++ replicate (max_sources - length (rows_of t)
 
 -- `limits` has one cost limit for each row number in use. A row number below their count has the limit at that number, and any other number is not in use.
 -- (6.8)
-abbrev pub limit_of : (limits : List ℕ) (number : ℕ) → CostLimit
-limit_of limits number = cond (ltb number (length limits)) (limit.Units (get_or limits number 0)) limit.NoSuchRow
+abbrev pub limit_of : (limits : List ℕ) (number : ℕ) → Option ℕ
+limit_of limits number = cond (ltb number (length limits)) (Some (get_or limits number 0)) None
 
 -- A cost from 1 to the most is allowed, and any other is refusal 7. Where the row number is not in use, every cost is refusal 6. (6.8)
-abbrev pub cost_answer : CostLimit → (cost : ℕ) → CostAnswer
-cost_answer limit.NoSuchRow cost = answer.Refused refusal.NoSuchRow
-cost_answer (limit.Units most) cost = cond (from_one_to most cost) answer.Allowed (answer.Refused refusal.CostOutOfRange)
+abbrev pub cost_answer : Option ℕ → (cost : ℕ) → Result (Unit {0}) Refusal
+cost_answer None cost = Err refusal.NoSuchRow
+cost_answer (Some most) cost = cond (from_one_to most cost) (Ok tt) (Err refusal.CostOutOfRange)
 
 -- A limit says the most that a job may cost. Where the row number is not in use it says refusal 6, at place 0, since no place is named. (10.2, 10.7)
-abbrev pub limit_says : CostLimit → Says
-limit_says (limit.Units most) = values (most ∷ [])
-limit_says limit.NoSuchRow = numbered (refused_says (without_place refusal.NoSuchRow))
+abbrev pub limit_says : Option ℕ → Says
+limit_says (Some most) = values (most ∷ [])
+limit_says None = numbered (refused_says (without_place refusal.NoSuchRow))
 
 -- A cost that is allowed says no value. A cost that is refused says its refusal, at place 0, since no place is named. (10.2, 10.7)
-abbrev pub cost_says : CostAnswer → Says
-cost_says answer.Allowed = values []
-cost_says (answer.Refused r) = numbered (refused_says (without_place r))
+abbrev pub cost_says : Result (Unit {0}) Refusal → Says
+cost_says (Ok done) = values []
+cost_says (Err r) = numbered (refused_says (without_place r))
 
 -- ---- what is proved (proofs/CostLimits.antt)
 

@@ -1,15 +1,13 @@
 -- The ranges of a row's values, and how a row is read from bytes. (docs/RULES.md, section 3.)
-use Rattle.std.specs.Prelude.{ℕ, Bool, true, false, not, cond, ◌&&◌, List, leb, ltb}
+use Rattle.std.specs.Prelude.{ℕ, Bool, true, false, not, cond, ◌&&◌, List, leb, ltb, Result, Ok, Err}
 use Rattle.std.proofs.Math.Option.{Option, none, some}
+use Rattle.kinds.specs.declared.RefusedAt.{RefusedAt}
 use Rattle.kinds.specs.declared.Refusal.{Refusal}
 use Rattle.kinds.specs.declared.Refusal.TheVariants.{ValueOutOfRange, HopelessRow}
 use Rattle.numbers.specs.declared.Number.{Number}
-use Rattle.numbers.specs.declared.NumberRead.{NumberRead}
-use Rattle.numbers.specs.declared.NumberRead.TheVariants as number
 use Rattle.numbers.specs.Reading.{read_at}
+use Rattle.table.specs.declared.RowAt.{RowAt}
 use Rattle.table.specs.declared.Row.{Row}
-use Rattle.table.specs.declared.RowRead.{RowRead}
-use Rattle.table.specs.declared.RowRead.TheVariants as row
 use Rattle.table.specs.Limits.{max_x, max_y, max_d, max_c}
 
 -- `from_one_to` tests whether the number n is from 1 to the limit `most`. (3.2)
@@ -67,29 +65,29 @@ abbrev pub row_acceptable : Row → Bool
 row_acceptable r = row_in_range r && not (hopeless r)
 
 -- A number that was read at the place `at` is answered as it is if its rule gives no refusal. Otherwise that refusal is answered, at the number's start. (3.10)
-abbrev pub tested_at : (at : ℕ) → Option Refusal → Number → NumberRead
-tested_at at none n = number.Number n
-tested_at at (some r) n = number.Refused (record { refusal = r; place = at })
+abbrev pub tested_at : (at : ℕ) → Option Refusal → Number → Result Number RefusedAt
+tested_at at none n = Ok n
+tested_at at (some r) n = Err (record { refusal = r; place = at })
 
 -- A number that was read is tested by its rule, and a number that can't be read keeps the reader's refusal. (3.8, 3.10)
-abbrev pub tested : (rule : ℕ → Option Refusal) (at : ℕ) → NumberRead → NumberRead
-tested rule at (number.Number n) = tested_at at (rule n.value) n
-tested rule at (number.Refused r) = number.Refused r
+abbrev pub tested : (rule : ℕ → Option Refusal) (at : ℕ) → Result Number RefusedAt → Result Number RefusedAt
+tested rule at (Ok n) = tested_at at (rule n.value) n
+tested rule at (Err r) = Err r
 
 -- A value is tested as it is read, before the next one is looked at. (3.7)
-abbrev pub read_value : (rule : ℕ → Option Refusal) → List ℕ → (at : ℕ) → NumberRead
+abbrev pub read_value : (rule : ℕ → Option Refusal) → List ℕ → (at : ℕ) → Result Number RefusedAt
 read_value rule s at = tested rule at (read_at s at)
 
 -- After a value that was read the row goes on with `k`, and a refusal ends it. (3.7)
-abbrev pub after_value : NumberRead → (Number → RowRead) → RowRead
-after_value (number.Number n) k = k n
-after_value (number.Refused r) k = row.Refused r
+abbrev pub after_value : Result Number RefusedAt → (Number → Result RowAt RefusedAt) → Result RowAt RefusedAt
+after_value (Ok n) k = k n
+after_value (Err r) k = Err r
 
 -- A row is read as x, y, d and c, from left to right. The rule of c looks at the d that was read before it. (3.3, 3.6, 3.7)
-abbrev pub read_row : List ℕ → (at : ℕ) → RowRead
+abbrev pub read_row : List ℕ → (at : ℕ) → Result RowAt RefusedAt
 read_row s at =
     after_value (read_value rule_of_x s at) λ x.
     after_value (read_value rule_of_y s x.next) λ y.
     after_value (read_value rule_of_d s y.next) λ d.
     after_value (read_value (rule_of_c d.value) s d.next) λ c.
-    row.Row (record { row = record { x = x.value; y = y.value; d = d.value; c = c.value }; next = c.next })
+    Ok (record { row = record { x = x.value; y = y.value; d = d.value; c = c.value }; next = c.next })

@@ -1,18 +1,14 @@
 -- Servers give odd jobs a share of the processor: the ranges of a server's a and b, and how servers are read from bytes. (docs/RULES.md, 3.18 and 3.19.)
-use Rattle.std.specs.Prelude.{ℕ, zero, suc, ◌-◌, ◌≤◌, ◌≡◌, ◌↔◌, Bool, true, cond, ◌&&◌, List, [], ◌∷◌, ◌++◌, leb, length, replicate}
+use Rattle.std.specs.Prelude.{ℕ, zero, suc, ◌-◌, ◌≤◌, ◌≡◌, ◌↔◌, Bool, true, cond, ◌&&◌, List, [], ◌∷◌, ◌++◌, leb, length, replicate, Result, Ok, Err}
 use Rattle.std.proofs.Math.Option.{Option, none, some}
 use Rattle.kinds.specs.declared.Refusal.{Refusal}
 use Rattle.kinds.specs.declared.Refusal.TheVariants.{ValueOutOfRange, TooManyRows}
 use Rattle.kinds.specs.declared.RefusedAt.{RefusedAt}
 use Rattle.numbers.specs.declared.Number.{Number}
-use Rattle.numbers.specs.declared.NumberRead.{NumberRead}
-use Rattle.numbers.specs.declared.NumberRead.TheVariants as number
 use Rattle.numbers.specs.Reading.{read_at}
+use Rattle.table.specs.declared.ServersAt.{ServersAt}
+use Rattle.table.specs.declared.ServerAt.{ServerAt}
 use Rattle.table.specs.declared.Server.{Server}
-use Rattle.table.specs.declared.ServerRead.{ServerRead}
-use Rattle.table.specs.declared.ServerRead.TheVariants as server
-use Rattle.table.specs.declared.ServersRead.{ServersRead}
-use Rattle.table.specs.declared.PartAnswer.TheVariants as answer
 use Rattle.table.specs.Limits.{max_servers, max_b}
 use Rattle.table.specs.Rows.{within_limit, fine, read_value}
 
@@ -37,16 +33,16 @@ pub record GoodServer (v : Server) : Type 0 where
   pub most_b : v.b ≤ max_b
 
 -- After a number that was read the server goes on with `k`, and a refusal ends it. (3.7)
-abbrev pub after_server_number : NumberRead → (Number → ServerRead) → ServerRead
-after_server_number (number.Number n) k = k n
-after_server_number (number.Refused r) k = server.Refused r
+abbrev pub after_server_number : Result Number RefusedAt → (Number → Result ServerAt RefusedAt) → Result ServerAt RefusedAt
+after_server_number (Ok n) k = k n
+after_server_number (Err r) k = Err r
 
 -- A server is read as a and b. Each is tested as it is read, and the rule of b looks at the a that was read before it. (3.6, 3.19)
-abbrev pub read_server : List ℕ → (at : ℕ) → ServerRead
+abbrev pub read_server : List ℕ → (at : ℕ) → Result ServerAt RefusedAt
 read_server s at =
     after_server_number (read_value rule_of_a s at) λ a.
     after_server_number (read_value (rule_of_b a.value) s a.next) λ b.
-    server.Server (record { server = record { a = a.value; b = b.value }; next = b.next })
+    Ok (record { server = record { a = a.value; b = b.value }; next = b.next })
 
 -- ---- servers after their count
 
@@ -69,9 +65,9 @@ in_front_of v (servers vs next) = servers (v ∷ vs) next
 in_front_of v (refused at) = refused at
 
 -- After a server that was read the servers go on with `k`, and a refusal ends them. (3.7)
-abbrev pub after_server : ServerRead → (Server → (next : ℕ) → Servers) → Servers
-after_server (server.Server v) k = k v.server v.next
-after_server (server.Refused at) k = refused at
+abbrev pub after_server : Result ServerAt RefusedAt → (Server → (next : ℕ) → Servers) → Servers
+after_server (Ok v) k = k v.server v.next
+after_server (Err at) k = refused at
 
 -- `read_servers` reads n servers, one after another, from the place `at` on. (3.6, 3.7)
 unfoldable pub read_servers : (n : ℕ) → List ℕ → (at : ℕ) → Servers
@@ -80,19 +76,19 @@ read_servers (suc n) s at = after_server (read_server s at) (λ v next. in_front
 
 -- After the server count its servers are read. A count above the limit of servers is refusal 2 at once, at the count's start, and a count that can't be read
 -- keeps the reader's refusal. (3.8, 3.9)
-abbrev pub after_server_count : List ℕ → (at : ℕ) → NumberRead → Servers
-after_server_count s at (number.Number n) =
+abbrev pub after_server_count : List ℕ → (at : ℕ) → Result Number RefusedAt → Servers
+after_server_count s at (Ok n) =
     cond (leb n.value max_servers) (read_servers n.value s n.next) (refused (record { refusal = TooManyRows; place = at }))
-after_server_count s at (number.Refused r) = refused r
+after_server_count s at (Err r) = refused r
 
 -- `servers_from` reads the server count at a place, and then the servers after it. (3.6, 3.7)
 abbrev pub servers_from : List ℕ → (at : ℕ) → Servers
 servers_from s at = after_server_count s at (read_at s at)
 
--- The code holds the servers that were read as a table does. If they were refused, no server is in use. (3.14)
-abbrev pub held_servers_as : Servers → ServersRead
-held_servers_as (servers vs next) = record { servers = held_servers vs; count = length vs; answer = answer.Until next }
-held_servers_as (refused r) = record { servers = held_servers []; count = 0; answer = answer.Refused r }
+-- The code holds the servers that were read as a table does. (3.14)
+abbrev pub held_servers_as : Servers → Result ServersAt RefusedAt
+held_servers_as (servers vs next) = Ok (record { servers = held_servers vs; serving = length vs; next = next })
+held_servers_as (refused r) = Err r
 
 -- ---- what is proved (proofs/ReadingServers.antt)
 

@@ -1,22 +1,17 @@
 -- What bytes are read as: a table, or a refusal. (docs/RULES.md, sections 3 and 10.)
-use Rattle.std.specs.Prelude.{ℕ, zero, suc, ◌-◌, ◌≤◌, ◌<◌, ◌≡◌, true, cond, List, [], ◌∷◌, ◌++◌, ltb, leb, length, take, replicate, get_or}
+use Rattle.std.specs.Prelude.{ℕ, zero, suc, ◌-◌, ◌≤◌, ◌<◌, ◌≡◌, true, cond, List, [], ◌∷◌, ◌++◌, ltb, leb, length, take, replicate, get_or, Result, Ok, Err}
 use Rattle.kinds.specs.declared.RefusedAt.{RefusedAt}
 use Rattle.kinds.specs.declared.Refusal.TheVariants.{TooManyRows, ExtraBytes, PeriodTooLong}
-use Rattle.numbers.specs.declared.NumberRead.{NumberRead}
-use Rattle.numbers.specs.declared.NumberRead.TheVariants as number
+use Rattle.numbers.specs.declared.Number.{Number}
 use Rattle.numbers.specs.Reading.{read_at}
+use Rattle.table.specs.declared.TableWith.{TableWith}
+use Rattle.table.specs.declared.RowsAt.{RowsAt}
+use Rattle.table.specs.declared.RowAt.{RowAt}
 use Rattle.table.specs.declared.Row.{Row}
-use Rattle.table.specs.declared.RowRead.{RowRead}
-use Rattle.table.specs.declared.RowRead.TheVariants as row
-use Rattle.table.specs.declared.RowsRead.{RowsRead}
-use Rattle.table.specs.declared.PartAnswer.TheVariants as answer
 use Rattle.table.specs.declared.Server.{Server}
 use Rattle.table.specs.declared.TimerAt.{TimerAt}
-use Rattle.table.specs.declared.TimerRead.{TimerRead}
-use Rattle.table.specs.declared.TimerRead.TheVariants as timer
 use Rattle.table.specs.declared.Table.{Table}
 use Rattle.table.specs.declared.TableRead.{TableRead}
-use Rattle.table.specs.declared.TableAnswer.TheVariants.{Accepted, Refused}
 use Rattle.table.specs.Limits.{max_rows, max_servers, max_period}
 use Rattle.table.specs.Content.{Content, rows_alone}
 use Rattle.table.specs.Period.{period_of}
@@ -87,9 +82,9 @@ in_front r (rows rs next) = rows (r ∷ rs) next
 in_front r (refused at) = refused at
 
 -- After a row that was read the rows go on with `k`, and a refusal ends them. (3.7)
-abbrev pub after_row : RowRead → (Row → (next : ℕ) → Rows) → Rows
-after_row (row.Row r) k = k r.row r.next
-after_row (row.Refused at) k = refused at
+abbrev pub after_row : Result RowAt RefusedAt → (Row → (next : ℕ) → Rows) → Rows
+after_row (Ok r) k = k r.row r.next
+after_row (Err at) k = refused at
 
 -- `read_rows` reads n rows, one after another, from the place `at` on. (3.6, 3.7)
 unfoldable pub read_rows : (n : ℕ) → List ℕ → (at : ℕ) → Rows
@@ -98,31 +93,36 @@ read_rows (suc n) s at = after_row (read_row s at) (λ r next. in_front r (read_
 
 -- After the row count its rows are read. A count above the limit of rows is refusal 2 at once, at the count's start, and a count that can't be read keeps the
 -- reader's refusal. (3.8, 3.9)
-abbrev pub after_count : List ℕ → (at : ℕ) → NumberRead → Rows
-after_count s at (number.Number n) = cond (leb n.value max_rows) (read_rows n.value s n.next) (refused (record { refusal = TooManyRows; place = at }))
-after_count s at (number.Refused r) = refused r
+abbrev pub after_count : List ℕ → (at : ℕ) → Result Number RefusedAt → Rows
+after_count s at (Ok n) = cond (leb n.value max_rows) (read_rows n.value s n.next) (refused (record { refusal = TooManyRows; place = at }))
+after_count s at (Err r) = refused r
 
 -- `rows_from` reads the row count at a place, and then the rows after it. (3.6, 3.7)
 abbrev pub rows_from : List ℕ → (at : ℕ) → Rows
 rows_from s at = after_count s at (read_at s at)
 
--- The code holds the rows that were read as a table does. If they were refused, no row is in use. (3.14)
-abbrev pub held_as : Rows → RowsRead
-held_as (rows rs next) = record { rows = held_rows rs; count = length rs; answer = answer.Until next }
-held_as (refused r) = record { rows = held_rows []; count = 0; answer = answer.Refused r }
+-- The code holds the rows that were read as a table does. (3.14)
+abbrev pub held_as : Rows → Result RowsAt RefusedAt
+held_as (rows rs next) = Ok (record { rows = held_rows rs; count = length rs; next = next })
+held_as (refused r) = Err r
 
 -- ---- how a table is read
 
 -- For a refused table the empty table is answered, beside the refusal. (10.5)
 abbrev pub refused_table : RefusedAt → TableRead
-refused_table at = record { table = empty_table; answer = Refused at }
+refused_table at = record { table = empty_table; answer = Err at }
+
+-- A table that was read stands beside its H. For a refused table the empty table stands beside the refusal. (10.5)
+abbrev pub beside : Result TableWith RefusedAt → TableRead
+beside (Ok read) = record { table = read.table; answer = Ok read.period }
+beside (Err at) = refused_table at
 
 -- The rows and servers were read up to the place `next`. Bytes after them are refusal 4. After that test, an H above 1,048,576 is refusal 5. Otherwise the
 -- table is accepted, with its H. (3.11, 3.12, 3.13)
 abbrev pub at_end : List ℕ → Content → (next : ℕ) → TableRead
 at_end s content next =
     cond (ltb next (length s)) (refused_table (record { refusal = ExtraBytes; place = next }))
-    (cond (leb (period_of content) max_period) (record { table = table_of content; answer = Accepted (period_of content) })
+    (cond (leb (period_of content) max_period) (record { table = table_of content; answer = Ok (period_of content) })
     (refused_table (record { refusal = PeriodTooLong; place = length s })))
 
 -- `content_with` is the content that has a timer, these rows and these servers. (3.6)
@@ -140,9 +140,9 @@ after_rows s t (rows rs next) = after_servers s t rs (servers_from s next)
 after_rows s t (refused at) = refused_table at
 
 -- After the timer come the row count and the rows. A refusal of the timer is the table's refusal. (3.7, 3.17)
-abbrev pub after_timer : List ℕ → TimerRead → TableRead
-after_timer s (timer.Timer t) = after_rows s t (rows_from s t.next)
-after_timer s (timer.Refused at) = refused_table at
+abbrev pub after_timer : List ℕ → Result TimerAt RefusedAt → TableRead
+after_timer s (Ok t) = after_rows s t (rows_from s t.next)
+after_timer s (Err at) = refused_table at
 
 -- The bytes are read as a table: the timer's s and p, the row count, its rows, the server count, its servers, and nothing after them. (3.6, 3.7)
 abbrev pub table_read : List ℕ → TableRead

@@ -1,14 +1,12 @@
 -- The timer takes the first s ticks of every p: the ranges of s and p, and how they are read from bytes. (docs/RULES.md, 3.16 and 3.17.)
-use Rattle.std.specs.Prelude.{ℕ, ◌≤◌, ◌<◌, ◌≡◌, ◌↔◌, Bool, true, cond, ◌&&◌, List, ltb}
+use Rattle.std.specs.Prelude.{ℕ, ◌≤◌, ◌<◌, ◌≡◌, ◌↔◌, Bool, true, cond, ◌&&◌, List, ltb, Result, Ok, Err}
 use Rattle.std.proofs.Math.Option.{Option, none, some}
+use Rattle.kinds.specs.declared.RefusedAt.{RefusedAt}
 use Rattle.kinds.specs.declared.Refusal.{Refusal}
 use Rattle.kinds.specs.declared.Refusal.TheVariants.{ValueOutOfRange}
 use Rattle.numbers.specs.declared.Number.{Number}
-use Rattle.numbers.specs.declared.NumberRead.{NumberRead}
-use Rattle.numbers.specs.declared.NumberRead.TheVariants as number
 use Rattle.numbers.specs.Reading.{read_at}
-use Rattle.table.specs.declared.TimerRead.{TimerRead}
-use Rattle.table.specs.declared.TimerRead.TheVariants as timer
+use Rattle.table.specs.declared.TimerAt.{TimerAt}
 use Rattle.table.specs.Limits.{max_p}
 use Rattle.table.specs.Rows.{within_limit, fine, tested_at, read_value}
 
@@ -31,17 +29,17 @@ pub record GoodTimer (s p : ℕ) : Type 0 where
   pub s_below_p : s < p
 
 -- After a number that was read the timer goes on with `k`, and a refusal ends it. (3.7)
-abbrev pub after_timer_number : NumberRead → (Number → TimerRead) → TimerRead
-after_timer_number (number.Number n) k = k n
-after_timer_number (number.Refused r) k = timer.Refused r
+abbrev pub after_timer_number : Result Number RefusedAt → (Number → Result TimerAt RefusedAt) → Result TimerAt RefusedAt
+after_timer_number (Ok n) k = k n
+after_timer_number (Err r) k = Err r
 
 -- The timer is read as s, at place 0, and p. Once both are read, p is tested first, and then s, which is refused at its start. (3.6, 3.17)
-abbrev pub read_timer : List ℕ → TimerRead
+abbrev pub read_timer : List ℕ → Result TimerAt RefusedAt
 read_timer bytes =
     after_timer_number (read_at bytes 0) λ s.
     after_timer_number (read_value rule_of_p bytes s.next) λ p.
     after_timer_number (tested_at 0 (rule_of_s p.value s.value) s) λ good.
-    timer.Timer (record { s = good.value; p = p.value; next = p.next })
+    Ok (record { s = good.value; p = p.value; next = p.next })
 
 -- ---- what is proved (proofs/Timers.antt)
 

@@ -3,7 +3,7 @@
 ghost use Rattle.std.specs.Prelude.{◌≡◌};
 ghost use Rattle.table.specs.Costs.{held_limits, limit_of, cost_answer};
 
-use crate::{CostAnswer, CostLimit, Row, Table};
+use crate::{Row, Table};
 use kinds::{Refusal, RowNumber};
 
 impl Table {
@@ -12,44 +12,37 @@ impl Table {
     pub fn cost_limits(self) -> [u64; Table::MAX_SOURCES]
         ensures { result ≡ held_limits self }
     {
-        let count = self.count;
         let mut limits: [u64; Table::MAX_SOURCES] = [Row::MAX_C; Table::MAX_SOURCES];
-        let mut i: usize = 0;
-        while (i < count) & (i < Table::MAX_ROWS) {
-            let row = self.rows[i];
-            limits[i] = row.c;
-            i += 1;
+        for i in 0..self.count.min(Table::MAX_ROWS) {
+            limits[i] = self.rows[i].c;
         }
         limits
     }
 }
 
 // `limits` holds the most that a job may cost, for each row number in use. The row number is compared with their count before it is narrowed. (2.11, 6.8)
-pub fn limit_of(limits: &[u64], number: RowNumber) -> CostLimit
+pub fn limit_of(limits: &[u64], number: RowNumber) -> Option<u64>
     ensures { result ≡ limit_of limits.now number.0 }
 {
-    let at = number.0;
-    if at < limits.len() as u64 {
-        return CostLimit::Units(limits[at as usize]);
+    if number.0 < limits.len() as u64 {
+        return Some(limits[number.0 as usize]);
     }
-    CostLimit::NoSuchRow
+    None
 }
 
-impl CostLimit {
-    // A cost from 1 to the most is allowed. Any other is refusal 7, and where the row number is not in use every cost is refusal 6. (6.8)
-    pub fn answer(self, cost: u64) -> CostAnswer
-        ensures { result ≡ cost_answer self cost }
-    {
-        let most = match self {
-            CostLimit::Units(most) => most,
-            CostLimit::NoSuchRow => return CostAnswer::Refused(Refusal::NoSuchRow),
-        };
-        if cost < 1 {
-            return CostAnswer::Refused(Refusal::CostOutOfRange);
-        }
-        if most < cost {
-            return CostAnswer::Refused(Refusal::CostOutOfRange);
-        }
-        CostAnswer::Allowed
+// `limit` is the most that a job of the row number may cost, and there is none where the row number is not in use: then every cost is refusal 6. A cost from 1
+// to the limit is allowed, and any other is refusal 7. (6.8)
+pub fn cost_answer(limit: Option<u64>, cost: u64) -> Result<(), Refusal>
+    ensures { result ≡ cost_answer limit cost }
+{
+    let Some(most) = limit else {
+        return Err(Refusal::NoSuchRow);
+    };
+    if cost < 1 {
+        return Err(Refusal::CostOutOfRange);
     }
+    if most < cost {
+        return Err(Refusal::CostOutOfRange);
+    }
+    Ok(())
 }

@@ -11,14 +11,13 @@ ghost use Rattle.std.specs.Prelude.{◌≡◌, ◌+◌, ◌≤◌, take};
 ghost use Rattle.table.specs.Limits.{max_rows, max_servers, limits};
 ghost use Rattle.table.specs.Period.{periods_of};
 ghost use Rattle.table.specs.Rows.{within_limit, fine, row_in_range, hopeless, row_acceptable};
-ghost use Rattle.table.specs.Tables.{content_of, empty_table, refused_table, table_read};
+ghost use Rattle.table.specs.Tables.{content_of, empty_table, beside, table_read};
 
 use crate::rows::read_rows;
 use crate::servers::read_servers;
 use crate::timer::read_timer;
-pub use costs::limit_of;
+pub use costs::{cost_answer, limit_of};
 use kinds::{Refusal, RefusedAt};
-use periods::Period;
 pub use timer::timer_in_range;
 
 // A row expects x jobs in any y ticks, each due d ticks after its release and costing at most c units. (1.1)
@@ -41,6 +40,7 @@ pub struct Server {
 
 // The timer takes the first s ticks of every p. The rows in use are the first `count`, and the servers in use are the first `serving`. The others hold
 // zeros in every table that was read. (3.14, 3.16, 3.18)
+// Each array and the number of its places in use are two fields, since C reads this struct. (9.16)
 #[repr(C)]
 #[derive(Clone, Copy)]
 pub struct Table {
@@ -52,18 +52,11 @@ pub struct Table {
     pub serving: usize,
 }
 
-// A table is accepted, with its H, or it is refused. (3.4, 3.13)
-#[derive(Clone, Copy)]
-pub enum TableAnswer {
-    Accepted(u64),
-    Refused(RefusedAt),
-}
-
 // The table that was read stands beside the answer. If it was refused, this is the empty table. (10.5)
 #[derive(Clone, Copy)]
 pub struct TableRead {
     pub table: Table,
-    pub answer: TableAnswer,
+    pub answer: Result<u64, RefusedAt>,
 }
 
 // These are all limits of a table. (3.1, 3.2, 3.4, 3.16, 3.18)
@@ -80,33 +73,12 @@ pub struct Limits {
     pub period: u64,
 }
 
-// A row in use limits the cost of its jobs, and a row number that is not in use has no limit. (6.8)
-#[derive(Clone, Copy)]
-pub enum CostLimit {
-    Units(u64),
-    NoSuchRow,
-}
-
-// A job may have its stated cost, or is refused. (6.8)
-#[derive(Clone, Copy)]
-pub enum CostAnswer {
-    Allowed,
-    Refused(Refusal),
-}
-
 // A timer that was read comes with the place right after it.
 #[derive(Clone, Copy)]
 struct TimerAt {
     s: u64,
     p: u64,
     next: usize,
-}
-
-// Reading the timer gives its s and p, or the refusal that ended it.
-#[derive(Clone, Copy)]
-enum TimerRead {
-    Timer(TimerAt),
-    Refused(RefusedAt),
 }
 
 // A row that was read comes with the place right after it.
@@ -116,26 +88,13 @@ struct RowAt {
     next: usize,
 }
 
-// Reading a row gives the row, or the refusal that ended it.
+// Rows that were read come with the place right after them. (`ServersAt` is its twin: one type for both would be longer than the two, with a type parameter, a
+// length and a trait for what is read.)
 #[derive(Clone, Copy)]
-enum RowRead {
-    Row(RowAt),
-    Refused(RefusedAt),
-}
-
-// Rows or servers were read up to this place, or this refusal ended them.
-#[derive(Clone, Copy)]
-enum PartAnswer {
-    Until(usize),
-    Refused(RefusedAt),
-}
-
-// The rows that were read stand beside the answer. If they were refused, no row is in use.
-#[derive(Clone, Copy)]
-struct RowsRead {
+struct RowsAt {
     rows: [Row; Table::MAX_ROWS],
     count: usize,
-    answer: PartAnswer,
+    next: usize,
 }
 
 // A server that was read comes with the place right after it.
@@ -145,19 +104,19 @@ struct ServerAt {
     next: usize,
 }
 
-// Reading a server gives the server, or the refusal that ended it.
+// Servers that were read come with the place right after them.
 #[derive(Clone, Copy)]
-enum ServerRead {
-    Server(ServerAt),
-    Refused(RefusedAt),
+struct ServersAt {
+    servers: [Server; Table::MAX_SERVERS],
+    serving: usize,
+    next: usize,
 }
 
-// The servers that were read stand beside the answer. If they were refused, no server is in use.
+// A table that was read comes with its H.
 #[derive(Clone, Copy)]
-struct ServersRead {
-    servers: [Server; Table::MAX_SERVERS],
-    count: usize,
-    answer: PartAnswer,
+struct TableWith {
+    table: Table,
+    period: u64,
 }
 
 impl Row {
@@ -199,7 +158,7 @@ impl Row {
 fn within_limit(most: u64, value: u64) -> bool
     ensures { result ≡ fine (within_limit most value) }
 {
-    (1 <= value) & (value <= most)
+    (1..=most).contains(&value)
 }
 
 impl Table {
@@ -241,19 +200,12 @@ impl Table {
         requires { (self.count ≤ max_rows) × (self.serving ≤ max_servers) }
         ensures { take (self.count + self.serving + 1) result ≡ periods_of (content_of self) }
     {
-        let count = self.count;
         let mut periods: [u64; Table::MAX_PERIODS] = [self.p; Table::MAX_PERIODS];
-        let mut i: usize = 0;
-        while i < count {
-            let row = self.rows[i];
-            periods[i + 1] = row.y;
-            i += 1;
+        for i in 0..self.count {
+            periods[i + 1] = self.rows[i].y;
         }
-        let mut k: usize = 0;
-        while k < self.serving {
-            let server = self.servers[k];
-            periods[count + 1 + k] = server.b;
-            k += 1;
+        for k in 0..self.serving {
+            periods[self.count + 1 + k] = self.servers[k].b;
         }
         periods
     }
@@ -276,63 +228,50 @@ impl Table {
     }
 }
 
-// For a refused table the empty table is answered, beside the refusal. (10.5)
-fn refused(at: RefusedAt) -> TableRead
-    ensures { result ≡ refused_table at }
+// The table that the bytes spell, with its H, or the refusal with its place. (3.6, 3.7, 3.13, 3.17, 3.19)
+fn spelled(bytes: &[u8]) -> Result<TableWith, RefusedAt>
+    ensures { beside result ≡ table_read bytes.now }
 {
-    TableRead {
-        table: Table::empty(),
-        answer: TableAnswer::Refused(at),
+    let timer = read_timer(bytes)?;
+    let read = read_rows(bytes, timer.next)?;
+    let served = read_servers(bytes, read.next)?;
+    if served.next < bytes.len() {
+        return Err(Refusal::ExtraBytes.at(served.next));
     }
-}
-
-// The answer is the table that the bytes spell, or the refusal with its place. (3.6, 3.7, 3.13, 3.17, 3.19)
-pub fn read_table(bytes: &[u8]) -> TableRead
-    ensures { result ≡ table_read bytes.now }
-{
-    let timer = match read_timer(bytes) {
-        TimerRead::Timer(t) => t,
-        TimerRead::Refused(r) => return refused(r),
-    };
-    let read = read_rows(bytes, timer.next);
-    let answer = read.answer;
-    let after = match answer {
-        PartAnswer::Until(next) => next,
-        PartAnswer::Refused(r) => return refused(r),
-    };
-    let served = read_servers(bytes, after);
-    let last = served.answer;
-    let next = match last {
-        PartAnswer::Until(next) => next,
-        PartAnswer::Refused(r) => return refused(r),
-    };
-    if next < bytes.len() {
-        return refused(RefusedAt {
-            refusal: Refusal::ExtraBytes,
-            place: next,
-        });
-    }
+    // The check wants an array that goes into a literal in a variable of its own.
     let rows = read.rows;
-    let count = read.count;
     let servers = served.servers;
-    let serving = served.count;
     let table = Table {
         s: timer.s,
         p: timer.p,
         rows,
-        count,
+        count: read.count,
         servers,
-        serving,
+        serving: served.serving,
     };
     let periods = table.periods();
-    match periods::period_within(&periods[..count + serving + 1], Table::MAX_PERIOD) {
-        Period::Ticks(h) => TableRead {
-            table,
-            answer: TableAnswer::Accepted(h),
+    match periods::period_within(
+        &periods[..table.count + table.serving + 1],
+        Table::MAX_PERIOD,
+    ) {
+        Ok(period) => Ok(TableWith { table, period }),
+        Err(r) => Err(r.at(bytes.len())),
+    }
+}
+
+// The answer is the table that the bytes spell, or the refusal with its place. For a refused table the empty table stands beside the refusal. (3.6, 3.7, 3.13,
+// 3.17, 3.19, 10.5)
+pub fn read_table(bytes: &[u8]) -> TableRead
+    ensures { result ≡ table_read bytes.now }
+{
+    match spelled(bytes) {
+        Ok(read) => TableRead {
+            table: read.table,
+            answer: Ok(read.period),
         },
-        Period::Refused(r) => refused(RefusedAt {
-            refusal: r,
-            place: bytes.len(),
-        }),
+        Err(at) => TableRead {
+            table: Table::empty(),
+            answer: Err(at),
+        },
     }
 }

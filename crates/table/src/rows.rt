@@ -1,51 +1,31 @@
 // How rows are read: a value, a row of four values, and rows one after another after their count. (docs/RULES.md, 3.3 and 3.6 to 3.10.)
 ghost use Rattle.std.specs.Prelude.{◌≡◌};
 ghost use Rattle.table.specs.Rows.{within_limit, read_value, read_row};
-ghost use Rattle.table.specs.Tables.{refused, rows_from, held_as};
+ghost use Rattle.table.specs.Tables.{rows_from, held_as};
 
-use crate::{PartAnswer, Row, RowAt, RowRead, RowsRead, Table, within_limit};
+use crate::{Row, RowAt, RowsAt, Table, within_limit};
 use kinds::{Refusal, RefusedAt};
-use numbers::NumberRead;
+use numbers::Number;
 
 // A value with a limit is tested as it is read, before the next is looked at. (3.7, 3.10)
-pub(crate) fn read_value(bytes: &[u8], at: usize, most: u64) -> NumberRead
+pub(crate) fn read_value(bytes: &[u8], at: usize, most: u64) -> Result<Number, RefusedAt>
     ensures { result ≡ read_value (within_limit most) bytes.now at }
 {
-    match numbers::read(bytes, at) {
-        NumberRead::Number(n) => {
-            let value = n.value;
-            if within_limit(most, value) {
-                return NumberRead::Number(n);
-            }
-            NumberRead::Refused(RefusedAt {
-                refusal: Refusal::ValueOutOfRange,
-                place: at,
-            })
-        }
-        NumberRead::Refused(r) => NumberRead::Refused(r),
+    let number = numbers::read(bytes, at)?;
+    if !within_limit(most, number.value) {
+        return Err(Refusal::ValueOutOfRange.at(at));
     }
+    Ok(number)
 }
 
 // A row is read as x, y, d and c, from left to right. A c above d is refused after its own range was tested, at its start. (3.3, 3.6, 3.7)
-fn read_row(bytes: &[u8], at: usize) -> RowRead
+fn read_row(bytes: &[u8], at: usize) -> Result<RowAt, RefusedAt>
     ensures { result ≡ read_row bytes.now at }
 {
-    let x = match read_value(bytes, at, Row::MAX_X) {
-        NumberRead::Number(n) => n,
-        NumberRead::Refused(r) => return RowRead::Refused(r),
-    };
-    let y = match read_value(bytes, x.next, Row::MAX_Y) {
-        NumberRead::Number(n) => n,
-        NumberRead::Refused(r) => return RowRead::Refused(r),
-    };
-    let d = match read_value(bytes, y.next, Row::MAX_D) {
-        NumberRead::Number(n) => n,
-        NumberRead::Refused(r) => return RowRead::Refused(r),
-    };
-    let c = match read_value(bytes, d.next, Row::MAX_C) {
-        NumberRead::Number(n) => n,
-        NumberRead::Refused(r) => return RowRead::Refused(r),
-    };
+    let x = read_value(bytes, at, Row::MAX_X)?;
+    let y = read_value(bytes, x.next, Row::MAX_Y)?;
+    let d = read_value(bytes, y.next, Row::MAX_D)?;
+    let c = read_value(bytes, d.next, Row::MAX_C)?;
     let row = Row {
         x: x.value,
         y: y.value,
@@ -53,59 +33,29 @@ fn read_row(bytes: &[u8], at: usize) -> RowRead
         c: c.value,
     };
     if row.hopeless() {
-        return RowRead::Refused(RefusedAt {
-            refusal: Refusal::HopelessRow,
-            place: d.next,
-        });
+        return Err(Refusal::HopelessRow.at(d.next));
     }
-    RowRead::Row(RowAt { row, next: c.next })
-}
-
-// If rows are refused, no row is in use.
-fn refused_rows(at: RefusedAt) -> RowsRead
-    ensures { result ≡ held_as (refused at) }
-{
-    let none = Table::empty();
-    let rows = none.rows;
-    RowsRead {
-        rows,
-        count: 0,
-        answer: PartAnswer::Refused(at),
-    }
+    Ok(RowAt { row, next: c.next })
 }
 
 // The row count is read at a place, and then the rows after it. (3.6, 3.7, 3.9)
-pub(crate) fn read_rows(bytes: &[u8], at: usize) -> RowsRead
+pub(crate) fn read_rows(bytes: &[u8], at: usize) -> Result<RowsAt, RefusedAt>
     ensures { result ≡ held_as (rows_from bytes.now at) }
 {
-    let count = match numbers::read(bytes, at) {
-        NumberRead::Number(n) => n,
-        NumberRead::Refused(r) => return refused_rows(r),
-    };
+    let count = numbers::read(bytes, at)?;
     if count.value > Table::MAX_ROWS as u64 {
-        return refused_rows(RefusedAt {
-            refusal: Refusal::TooManyRows,
-            place: at,
-        });
+        return Err(Refusal::TooManyRows.at(at));
     }
     let mut held = Table::empty();
     let mut next = count.next;
-    let mut i: usize = 0;
-    while i < count.value as usize {
-        match read_row(bytes, next) {
-            RowRead::Row(r) => {
-                let row = r.row;
-                held.rows[i] = row;
-                next = r.next;
-            }
-            RowRead::Refused(r) => return refused_rows(r),
-        }
-        i += 1;
+    for i in 0..count.value as usize {
+        let read = read_row(bytes, next)?;
+        held.rows[i] = read.row;
+        next = read.next;
     }
-    let rows = held.rows;
-    RowsRead {
-        rows,
-        count: i,
-        answer: PartAnswer::Until(next),
-    }
+    Ok(RowsAt {
+        rows: held.rows,
+        count: count.value as usize,
+        next,
+    })
 }

@@ -1,11 +1,10 @@
 // Servers: the ranges of a and b, and how servers are read after their count. (docs/RULES.md, 3.18 and 3.19.)
 ghost use Rattle.std.specs.Prelude.{◌≡◌};
-ghost use Rattle.table.specs.Servers.{server_in_range, read_server, refused, servers_from, held_servers_as};
+ghost use Rattle.table.specs.Servers.{server_in_range, read_server, servers_from, held_servers_as};
 
 use crate::rows::read_value;
-use crate::{PartAnswer, Server, ServerAt, ServerRead, ServersRead, Table, within_limit};
+use crate::{Server, ServerAt, ServersAt, Table, within_limit};
 use kinds::{Refusal, RefusedAt};
-use numbers::NumberRead;
 
 impl Server {
     // The a and the b of a server may be at most this. (3.18)
@@ -20,77 +19,42 @@ impl Server {
 }
 
 // A server is read as a and b, each tested as it is read. A b below a is refused at the start of b. (3.19)
-fn read_server(bytes: &[u8], at: usize) -> ServerRead
+fn read_server(bytes: &[u8], at: usize) -> Result<ServerAt, RefusedAt>
     ensures { result ≡ read_server bytes.now at }
 {
-    let a = match read_value(bytes, at, Server::MAX_B) {
-        NumberRead::Number(n) => n,
-        NumberRead::Refused(r) => return ServerRead::Refused(r),
-    };
-    let b = match numbers::read(bytes, a.next) {
-        NumberRead::Number(n) => n,
-        NumberRead::Refused(r) => return ServerRead::Refused(r),
-    };
+    let a = read_value(bytes, at, Server::MAX_B)?;
+    let b = numbers::read(bytes, a.next)?;
     let server = Server {
         a: a.value,
         b: b.value,
     };
     if !server.in_range() {
-        return ServerRead::Refused(RefusedAt {
-            refusal: Refusal::ValueOutOfRange,
-            place: a.next,
-        });
+        return Err(Refusal::ValueOutOfRange.at(a.next));
     }
-    ServerRead::Server(ServerAt {
+    Ok(ServerAt {
         server,
         next: b.next,
     })
 }
 
-// If servers are refused, no server is in use.
-fn refused_servers(at: RefusedAt) -> ServersRead
-    ensures { result ≡ held_servers_as (refused at) }
-{
-    let none = Table::empty();
-    let servers = none.servers;
-    ServersRead {
-        servers,
-        count: 0,
-        answer: PartAnswer::Refused(at),
-    }
-}
-
 // The server count is read at a place, and then the servers after it. (3.6, 3.7, 3.9)
-pub(crate) fn read_servers(bytes: &[u8], at: usize) -> ServersRead
+pub(crate) fn read_servers(bytes: &[u8], at: usize) -> Result<ServersAt, RefusedAt>
     ensures { result ≡ held_servers_as (servers_from bytes.now at) }
 {
-    let count = match numbers::read(bytes, at) {
-        NumberRead::Number(n) => n,
-        NumberRead::Refused(r) => return refused_servers(r),
-    };
+    let count = numbers::read(bytes, at)?;
     if count.value > Table::MAX_SERVERS as u64 {
-        return refused_servers(RefusedAt {
-            refusal: Refusal::TooManyRows,
-            place: at,
-        });
+        return Err(Refusal::TooManyRows.at(at));
     }
     let mut servers: [Server; Table::MAX_SERVERS] = [Server { a: 0, b: 0 }; Table::MAX_SERVERS];
     let mut next = count.next;
-    let mut i: usize = 0;
-    while i < count.value as usize {
-        match read_server(bytes, next) {
-            ServerRead::Server(r) => {
-                let server = r.server;
-                servers[i] = server;
-                next = r.next;
-            }
-            ServerRead::Refused(r) => return refused_servers(r),
-        }
-        i += 1;
+    for i in 0..count.value as usize {
+        let read = read_server(bytes, next)?;
+        servers[i] = read.server;
+        next = read.next;
     }
-    ServersRead {
+    Ok(ServersAt {
         servers,
-        count: i,
-        answer: PartAnswer::Until(next),
-    }
+        serving: count.value as usize,
+        next,
+    })
 }

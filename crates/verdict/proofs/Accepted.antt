@@ -1,5 +1,6 @@
 -- What is known about a table that was accepted: it is in range, its H is from 1 to its limit, p and each y and b divide H, and its demand is a curve with the
 -- period H.
+use Rattle.std.specs.Prelude.{Ok}
 use Prim.Native.Nat.{ℕ, ◌≤◌}
 use mathlib.Core.Path.{◌≡◌, refl}
 use mathlib.Core.List.Memᴰ
@@ -9,7 +10,6 @@ use Rattle.theory.specs.Curves.{Curve}
 use Rattle.table.specs.declared.Row.{Row}
 use Rattle.table.specs.declared.Server.{Server}
 use Rattle.table.specs.declared.Table.{Table}
-use Rattle.table.specs.declared.TableAnswer.TheVariants as answer
 use Rattle.table.specs.Limits.{max_period}
 use Rattle.table.specs.Period.{ys_of, bs_of}
 use Rattle.table.specs.Tables.{rows_of, servers_of, table_read, InRange}
@@ -28,7 +28,7 @@ pub record Known (t : Table) (period : ℕ) : Type 0 where
   pub curve : Curve (table_demand t) (largest_d t) period (table_growth t period)
 
 -- All that a verdict needs is known about every accepted table.
-pub accepted_is_known : (s : List ℕ) (period : ℕ) → Bytes s → (table_read s).answer ≡ answer.Accepted period → Known (table_read s).table period
+pub accepted_is_known : (s : List ℕ) (period : ℕ) → Bytes s → (table_read s).answer ≡ Ok period → Known (table_read s).table period
 accepted_is_known s period bytes accepted =
     let u = accepted_is_usable s period bytes accepted in
     let t = (table_read s).table in

@@ -100,13 +100,6 @@ module _ {f g : ℕ → ℕ} {base size : ℕ} where
 
 -- ---- zeros, and the steps of one term after another
 
--- One entry more is 0.
-pub one_zero_more : (k : ℕ) (rises : List ℕ) → k < block_size → length rises ≡ block_size → ((j : ℕ) → j < k → get_or rises j 0 ≡ 0)
-    → (j : ℕ) → j < k + 1 → get_or (set rises k 0) j 0 ≡ 0
-one_zero_more k rises room long zeros j below = by_eq j k
-    (λ here. rw here (get_or-set_same rises k 0 0 (omega arith)))
-    (λ there. get_or-set_other rises k j 0 0 there ∙ zeros j (omega (arith, there)))
-
 -- No terms rise nowhere.
 pub no_terms_yet : (l rises : List ℕ) {base size : ℕ} → length rises ≡ block_size → ((j : ℕ) → j < size → get_or rises j 0 ≡ 0)
     → RisesOf (terms_demand l 0) base size rises

@@ -1,13 +1,13 @@
 -- The demand that an array holds is in parts: the part for P repeats itself every P, and the rest is below its line. No number of the line is too large.
 -- (docs/RULES.md, 5.3 and 5.7.)
 use Prim.Native.Nat.{ℕ, zero, suc, ◌+◌, ◌-◌, ◌*◌, ◌/◌, ◌%◌, ◌≤◌, ◌<◌}
-use mathlib.Core.Path.{◌≡◌, refl, sym}
+use mathlib.Core.Path.{◌≡◌, refl, sym, ◌∙◌}
 use mathlib.Core.Logic.{◌≢◌}
 use mathlib.Core.List.{List}
 use native.Mathlib.Omega.{arith}
 use native.Mathlib.Nat.{div-le_self, div-mul-le_self, le_trans, mul-le-mul, mul-le-mul_left, mul-le-mul_right, zero-div}
 use native.Mathlib.Numerals.{add-one}
-use lib.ListN.{length, get_or}
+use lib.ListN.{length}
 use borrow.Author.Tests.{eq-eqb, ne_eqb}
 use Rattle.theory.specs.Ticks.{timer_takes}
 use Rattle.theory.specs.Terms.{term_demand, reciprocal}
@@ -23,13 +23,16 @@ use Rattle.theory.proofs.TermCurves.{term_is_a_curve, no_demand_without_weight}
 use Rattle.theory.proofs.Parts.{term_in_parts, timer_in_parts, two_in_parts, part_and_line_never_fall}
 use Rattle.table.specs.Limits.{max_sources, max_x, max_y, max_c, max_period}
 use Rattle.table.specs.Timer.{GoodTimer}
+use Rattle.verdict.specs.declared.terms.Terms.{Terms}
+use Rattle.verdict.specs.declared.line.Line.{Line}
 use Rattle.verdict.specs.declared.parts.Part.{Part}
 use Rattle.verdict.specs.HeldTerms.{parts, max_searched, held_entries, held_s, held_p, held_term, sum_below, held_demand, with_term}
-use Rattle.verdict.specs.HeldTerms.{GoodTerm, GoodHeader, Held}
+use Rattle.verdict.specs.HeldTerms.{GoodTerm, Held}
 use Rattle.verdict.specs.HeldParts.{held_w, held_up, held_down, held_b, held_a, held_growth, timer_growth, part_demand, line_slope, line_lift}
-use Rattle.verdict.specs.HeldParts.{Repeats, IsPart, GoodLine, max_over}
+use Rattle.verdict.specs.HeldParts.{Repeats, GoodLine, max_over}
+use Rattle.verdict.specs.Searched.{held_by, with_line, IsPart}
 use Rattle.verdict.proofs.Bounds.{taken_in_period}
-use Rattle.verdict.proofs.FilledTerms.{Filled, none_filled, filled_as, one_more_filled}
+use Rattle.verdict.proofs.FilledTerms.{Filled, filled_as, one_more_filled}
 use Rattle.verdict.proofs.HeldTerms.{most_term, sum_at_most, sum_not_larger, held_at_most, held_never_falls}
 
 -- ---- what is taken in and what is left out
@@ -122,19 +125,13 @@ module _ (l : List ℕ) (P period : ℕ) where
 -- ---- filling a part
 
 -- The timer of a part, and no terms yet.
-pub timer_of_part_filled : {l : List ℕ} → GoodHeader l → (P : ℕ) (part : List ℕ) → length part ≡ held_entries → held_s part ≡ taken_into_part P (held_p l) (held_s l)
-    → held_p part ≡ held_p l → get_or part 2 0 ≡ get_or l 2 0 → Filled part 0 (part_demand l 0 P)
-timer_of_part_filled {l} header P part long is_s is_p is_m =
-    filled_as
-    (none_filled part long (record {
-      good_timer = rw (is_s, is_p) (still_a_timer P (held_s l) (held_p l) header.good_timer);
-      is_reciprocal = rw (is_m, is_p) header.is_reciprocal;
-    }))
-    (λ L. rw (is_s, is_p) (sym (part_of_none l P L)))
+pub timer_of_part_filled : {part : List ℕ} (l : List ℕ) (P : ℕ) → length part ≡ held_entries → Held part 0
+    → ((L : ℕ) → held_demand part 0 L ≡ timer_takes (taken_into_part P (held_p l) (held_s l)) (held_p l) L) → Filled part 0 (part_demand l 0 P)
+timer_of_part_filled l P long held is = record { as_long = long; held = held; demands = λ L. is L ∙ sym (part_of_none l P L) }
 
 module _ {l : List ℕ} {count : ℕ} (held : Held l count) (P i : ℕ) (there : i < count) (even : P % held_b l i ≡ 0) where
   -- The term with the reciprocal that it is given anew is a good one.
-  good_anew : GoodTerm (reciprocal parts (held_a l i) (held_b l i)) (held_w l i) (held_up l i) (held_b l i) (held_a l i)
+  pub good_anew : GoodTerm (reciprocal parts (held_a l i) (held_b l i)) (held_w l i) (held_up l i) (held_b l i) (held_a l i)
   good_anew =
       let good = held.good i there in
       record {
@@ -284,25 +281,26 @@ module _ {l : List ℕ} {count d period : ℕ} (held : Held l count) (repeats : 
                 (λ k b. left_out_at_most P (held_b l k) (held_growth l period k)),
           )
 
-      module _ {part : Part} (is : IsPart l count P period part) where
-        -- With the part that was made the demand is in parts.
-        pub made_in_parts : InParts (held_demand l count) (held_demand part.terms part.count) d P period growth part.slope part.lift
-        made_in_parts =
-            let all = all_in_parts in
-            record {
-              part_growth = all.part_growth;
-              repeats = λ L h. omega (arith, is.demands L, is.demands (L + P), all.repeats L h);
-              rest_below = λ L. rw (is.demands L, is.is_slope, is.is_lift) (all.rest_below L);
-              in_proportion = rw is.is_slope all.in_proportion;
-            }
+      -- The line above what is left out has small numbers.
+      pub line_is_good : 1 ≤ period → period ≤ max_period → growth ≤ period + max_over
+          → GoodLine (line_slope l count P period) (line_lift l count P period) period
+      line_is_good some most small = record {
+        some_period = some;
+        most_slope = omega (arith, slope_within);
+        most_lift = lift_within held P period count (omega arith);
+      }
 
-        -- The line of the part that was made has small numbers.
-        pub made_good_line : 1 ≤ period → period ≤ max_period → growth ≤ period + max_over → GoodLine part.slope part.lift period
-        made_good_line some most small = record {
-          some_period = some;
-          most_slope = omega (arith, is.is_slope, slope_within);
-          most_lift = rw (is.is_slope, is.is_lift) (lift_within held P period count (omega arith));
-        }
+      -- With the part that was made the demand is in parts.
+      pub made_in_parts : {part : Part} → IsPart l count P period growth part
+          → InParts (held_demand l count) (held_by part.terms) d P period growth part.line.slope part.line.lift
+      made_in_parts is =
+          let all = all_in_parts in
+          record {
+            part_growth = all.part_growth;
+            repeats = λ L h. omega (arith, is.demands L, is.demands (L + P), all.repeats L h);
+            rest_below = λ L. rw (is.demands L, is.is_slope, is.is_lift) (all.rest_below L);
+            in_proportion = rw is.is_slope all.in_proportion;
+          }
 
 -- ---- the height of a line
 
@@ -323,21 +321,22 @@ line_product_at_most good L looked_at = (mul-le-mul good.most_slope looked_at, l
 
 -- No part with its line, in a length that is looked at, is above this.
 abbrev pub most_part : ℕ
-most_part = max_sources * most_term + max_searched + (max_period + max_over) * (max_searched + max_y)
+most_part = max_sources * most_term + max_searched + (max_period + max_over) * (max_searched + max_y) + max_over
 
-module _ {l : List ℕ} {count slope lift period : ℕ} (held : Held l count) (good : GoodLine slope lift period) where
+module _ (terms : Terms) (line : Line) where
   -- The part and the line together are within a bound.
-  pub part_at_most : (L : ℕ) → L ≤ max_searched → part_and_line (held_demand l count) period slope lift L ≤ most_part
+  pub part_at_most : (L : ℕ) → L ≤ max_searched → with_line terms line L ≤ most_part
   unfolding line_at
   part_at_most L looked_at =
       omega (
         arith,
-        line_product_at_most good L looked_at,
-        div-le_self (slope * L + lift) period,
-        held_at_most held count L (omega arith) looked_at,
-        held.few,
+        line_product_at_most line.good L looked_at,
+        div-le_self (line.slope * L + line.lift) line.period,
+        line.most_extra,
+        held_at_most terms.held terms.count L (omega arith) looked_at,
+        terms.held.few,
       )
 
   -- The part and the line together never fall.
-  pub part_never_falls : NeverFalls (part_and_line (held_demand l count) period slope lift)
-  part_never_falls = part_and_line_never_fall (held_demand l count) period slope lift good.some_period (held_never_falls held)
+  pub part_never_falls : NeverFalls (part_and_line (held_by terms) line.period line.slope line.lift)
+  part_never_falls = part_and_line_never_fall (held_by terms) line.period line.slope line.lift line.good.some_period (held_never_falls terms.held)

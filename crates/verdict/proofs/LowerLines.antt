@@ -1,9 +1,8 @@
 -- Lower lines above what a part leaves out. What is left out repeats itself every Q, higher by as much as the line rises in Q. So a line that is above it in
 -- the lengths below d + Q is above it in every length. (docs/RULES.md, 5.3 and 5.7.)
-use Prim.Native.Nat.{ℕ, zero, suc, ◌+◌, ◌-◌, ◌*◌, ◌/◌, ◌%◌, ◌≤◌, ◌<◌, ◌∣◌}
+use Prim.Native.Nat.{ℕ, zero, suc, ◌+◌, ◌-◌, ◌*◌, ◌/◌, ◌%◌, ◌≤◌, ◌<◌, ◌∣◌, max}
 use mathlib.Core.Path.{◌≡◌, ap}
 use mathlib.Core.Logic.{◌≢◌}
-use mathlib.Core.Bool.{Bool, true, false, cond}
 use mathlib.Core.List.{List}
 use native.Mathlib.Omega.{arith}
 use native.Mathlib.Nat.{mul-le-mul_left}
@@ -19,10 +18,6 @@ use Rattle.verdict.specs.HeldTerms.{held_s, held_p, held_term, sum_below, held_d
 use Rattle.verdict.specs.HeldParts.{held_w, held_up, held_down, held_b, held_a, held_growth, part_demand, line_slope}
 use Rattle.verdict.specs.HeldParts.{Repeats, GoodLine, LeftOutRepeats, LineAbove, LowerLift}
 use Rattle.verdict.proofs.HeldParts.{all_taken_in, all_left_out}
-
--- A test that says no does not say yes.
-pub not_said : {A : Type 0} → false ≡ true → A
-not_said said = absurd (let z : ◌≡◌ {A = ℕ} 0 1 = ap (λ (b : Bool). cond b 1 0) said in omega arith)
 
 -- ---- products
 
@@ -58,13 +53,9 @@ module _ {f part : ℕ → ℕ} {H slope lift at most : ℕ} (lower : LowerLift 
         (λ same. let e : L ≡ at = omega arith in rw e (product_of_whole H (f at) (part at) rest (slope * at) r is_rest (omega arith)));
   }
 
-  -- The lift stays as it is.
-  pub lift_stays : above ≤ most → LowerLift f part H slope lift (at + 1) most
-  lift_stays low = one_more_below (omega arith) low lower.at_most
-
-  -- The lift is raised.
-  pub lift_raised : most < above → LowerLift f part H slope lift (at + 1) above
-  lift_raised high = one_more_below (omega arith) (omega arith) above_at_most
+  -- The lift is the larger of the two.
+  pub larger_lift : {r : ℕ} → r ≡ max most above → LowerLift f part H slope lift (at + 1) r
+  larger_lift is = one_more_below (omega arith) (omega arith) (omega (arith, above_at_most, lower.at_most))
 
 -- ---- what is left out
 

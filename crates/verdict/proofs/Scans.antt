@@ -1,5 +1,6 @@
 -- How far the lengths have to be scanned to settle the verdict, which depends on whether the growth is above the period. Also, a verdict that is right for the
 -- table that was read is right for its bytes. (docs/RULES.md, 5.7 to 5.9.)
+use Rattle.std.specs.Prelude.{Ok, Err}
 use Prim.Native.Nat.{ℕ, ◌+◌, ◌*◌, ◌≤◌, ◌<◌}
 use mathlib.Core.Path.{◌≡◌, refl}
 use mathlib.Core.List.{List}
@@ -10,7 +11,6 @@ use Rattle.theory.specs.Curves.{EveryLengthFits, FitsUpTo}
 use Rattle.theory.proofs.Curves.{settled_within_a_period, smallest_within_a_period, fails_when_growth_is_above, has_smallest_failing}
 use Rattle.table.specs.declared.Table.{Table}
 use Rattle.table.specs.declared.TableRead.{TableRead}
-use Rattle.table.specs.declared.TableAnswer.TheVariants as answer
 use Rattle.table.specs.Tables.{table_read}
 use Rattle.verdict.specs.declared.Verdict.{Verdict}
 use Rattle.verdict.specs.declared.Verdict.TheVariants as verdict
@@ -63,7 +63,7 @@ overloaded_above_one s period bytes accepted above =
 -- ---- the bytes that were read
 
 module _ (s : List ℕ) (read : TableRead) (reads_as : read ≡ table_read s) where
-  module _ (period : ℕ) (accepted : read.answer ≡ answer.Accepted period) where
+  module _ (period : ℕ) (accepted : read.answer ≡ Ok period) where
     -- All that a verdict needs is known about the accepted table.
     pub read_is_known : Bytes s → Known read.table period
     read_is_known bytes = rw reads_as (accepted_is_known s period bytes (rw reads_as at accepted))
@@ -73,5 +73,5 @@ module _ (s : List ℕ) (read : TableRead) (reads_as : read ≡ table_read s) wh
     judged_as_accepted v right = rw (← reads_as, accepted) right
 
   -- Where the table was refused, that refusal is the right verdict for the bytes.
-  pub judged_as_refused : (r : RefusedAt) → read.answer ≡ answer.Refused r → Judged s (verdict.Refused r)
+  pub judged_as_refused : (r : RefusedAt) → read.answer ≡ Err r → Judged s (verdict.Refused r)
   judged_as_refused r refused = rw (← reads_as, refused) refl

@@ -1,6 +1,7 @@
 -- What the loops of the quick search keep: which lengths are known to fit, and which is known to fail. (docs/RULES.md, 5.4 to 5.9.)
+use Rattle.std.specs.Prelude.{Option, Some, None, IsSome}
 use Prim.Native.Nat.{ℕ, ◌+◌, ◌-◌, ◌*◌, ◌≤◌, ◌<◌}
-use mathlib.Core.Path.{◌≡◌, ap}
+use mathlib.Core.Path.{◌≡◌, refl, ap}
 use native.Mathlib.Omega.{arith}
 use native.Mathlib.Nat.{mul-le-mul_right}
 use Rattle.theory.specs.Curves.{SmallestFailing, FitsUpTo}
@@ -11,7 +12,7 @@ use Rattle.theory.proofs.Cases.{by_lt}
 use Rattle.theory.proofs.Descent.{descent}
 use Rattle.theory.proofs.Classes.{class_fits, nothing_to_settle, settled_by_looks, settled_by_a_walk, none_found, best_is_smallest, walk_finds, walk_ends}
 use Rattle.verdict.specs.HeldParts.{LooksSettle, SettledFrom, WalkFound}
-use Rattle.verdict.specs.QuickVerdict.{LargestOrNone, SmallestOrNone}
+use Rattle.verdict.specs.QuickVerdict.{SmallestOrNone}
 
 -- ---- from the end of a stretch down
 
@@ -26,17 +27,6 @@ passed_down f extra hi at v never_falls is fits above L low high = by_lt at L
     (λ h. above L h high)
     (λ h. descent f extra at never_falls (omega (arith, is)) L (omega (arith, is)) h)
 
--- All lengths of a stretch fit.
-pub none_fails : {f : ℕ → ℕ} {lo hi : ℕ} → FitsBetween f lo hi → LargestOrNone f lo hi 0
-none_fails fits = record { none = λ e. fits; some = λ h. absurd (omega arith) }
-
--- A length that fails, above which all fit, is the largest that fails.
-pub largest_found : {f : ℕ → ℕ} {lo hi at : ℕ} → 1 ≤ lo → lo ≤ at → at ≤ hi → at < f at → FitsAbove f hi at → LargestOrNone f lo hi at
-largest_found one low high fails above = record {
-  none = λ e. absurd (omega arith);
-  some = λ h. record { from_lo = low; to_hi = high; fails = fails; larger_fit = above };
-}
-
 -- ---- from the start of a stretch up
 
 -- Every length from lo on and below `low` fits.
@@ -48,21 +38,13 @@ pub fits_further : {f : ℕ → ℕ} {lo low high : ℕ} → FitsBelow f lo low 
 fits_further {low = low} below fits L from to = by_lt L low (λ h. below L from h) (λ h. fits L h (omega arith))
 
 -- The smallest that fails from `low` on is the smallest that fails from lo on, where the lengths between fit.
-pub smallest_found : {f : ℕ → ℕ} {lo hi low found r : ℕ} → 1 ≤ lo → lo ≤ low → found ≤ hi → FitsBelow f lo low → SmallestFrom f low found r
-    → SmallestOrNone f lo hi r
-smallest_found {low = low} one from within below s = record {
-  none = λ e. absurd (omega (arith, s.from_lo));
-  some = λ h. record {
-    from_lo = omega (arith, s.from_lo);
-    to_hi = omega (arith, s.to_hi);
-    fails = s.fails;
-    smaller_fit = λ M low_end small. by_lt M low (λ k. below M low_end k) (λ k. s.smaller_fit M k small);
-  };
+pub smallest_found : {f : ℕ → ℕ} {lo hi low found r : ℕ} → lo ≤ low → found ≤ hi → FitsBelow f lo low → SmallestFrom f low found r → SmallestFrom f lo hi r
+smallest_found {low = low} from within below s = record {
+  from_lo = omega (arith, s.from_lo);
+  to_hi = omega (arith, s.to_hi);
+  fails = s.fails;
+  smaller_fit = λ M low_end small. by_lt M low (λ k. below M low_end k) (λ k. s.smaller_fit M k small);
 }
-
--- No length of a stretch fails.
-pub none_fails_at_all : {f : ℕ → ℕ} {lo hi low : ℕ} → hi < low → FitsBelow f lo low → SmallestOrNone f lo hi 0
-none_fails_at_all end below = record { none = λ e L from to. below L from (omega arith); some = λ h. absurd (omega arith) }
 
 -- ---- the least slack
 
@@ -111,39 +93,29 @@ module _ {f : ℕ → ℕ} {lo hi : ℕ} where
   }
 
 -- What is found for the curve that is raised by 0 is found for the curve itself.
-pub not_raised : {f : ℕ → ℕ} {lo hi r : ℕ} → SmallestOrNone (raised f 0) lo hi r → SmallestOrNone f lo hi r
-not_raised s = record {
-  none = λ e L from to. omega (arith, s.none e L from to);
-  some = λ one.
-      let it = s.some one in
-      record {
-        from_lo = it.from_lo;
-        to_hi = it.to_hi;
-        fails = omega (arith, it.fails);
-        smaller_fit = λ M from below. omega (arith, it.smaller_fit M from below);
-      };
+pub not_raised : (f : ℕ → ℕ) (lo hi : ℕ) (r : Option ℕ) → SmallestOrNone (raised f 0) lo hi r → SmallestOrNone f lo hi r
+not_raised f lo hi None fits = λ L from to. omega (arith, fits L from to)
+not_raised f lo hi (Some r) it = record {
+  from_lo = it.from_lo;
+  to_hi = it.to_hi;
+  fails = omega (arith, it.fails);
+  smaller_fit = λ M from below. omega (arith, it.smaller_fit M from below);
 }
 
 -- A length that is found in the first part of a stretch is found in the whole stretch.
-pub found_sooner : {f : ℕ → ℕ} {lo middle hi r : ℕ} → SmallestOrNone f lo middle r → 1 ≤ r → middle ≤ hi → SmallestOrNone f lo hi r
-found_sooner s one within =
-    let it = s.some one in
-    record {
-      none = λ e. absurd (omega arith);
-      some = λ h. record { from_lo = it.from_lo; to_hi = omega (arith, it.to_hi); fails = it.fails; smaller_fit = it.smaller_fit };
-    }
+pub found_sooner : {f : ℕ → ℕ} {lo middle hi r : ℕ} → SmallestFrom f lo middle r → middle ≤ hi → SmallestFrom f lo hi r
+found_sooner it within = record { from_lo = it.from_lo; to_hi = omega (arith, it.to_hi); fails = it.fails; smaller_fit = it.smaller_fit }
 
 -- ---- a length that is known to be there
 
--- Where some length fails, the smallest that fails was found.
-pub found_for_sure : {f : ℕ → ℕ} {lo hi r : ℕ} → SmallestOrNone f lo hi r → (t : ℕ) → lo ≤ t → t ≤ hi → t < f t → SmallestFrom f lo hi r
-found_for_sure {r = r} s t low high fails = by_lt 0 r
-    (λ h. s.some h)
-    (λ h. absurd (omega (arith, s.none (omega arith) t low high)))
+-- Where some length fails, one was found.
+pub found_for_sure : (f : ℕ → ℕ) (lo hi : ℕ) (r : Option ℕ) → SmallestOrNone f lo hi r → (t : ℕ) → lo ≤ t → t ≤ hi → t < f t → IsSome r
+found_for_sure f lo hi None fits t low high fails = absurd (omega (arith, fits t low high))
+found_for_sure f lo hi (Some r) it t low high fails = refl
 
-module _ {f : ℕ → ℕ} {done last : ℕ} (fit : FitsUpTo f done) where
+module _ {f : ℕ → ℕ} {done : ℕ} (fit : FitsUpTo f done) where
   -- The smallest that fails after the lengths that fit is the smallest of all.
-  pub first_is_smallest : {L : ℕ} → SmallestFrom f (done + 1) last L → SmallestFailing f L
+  pub first_is_smallest : {last L : ℕ} → SmallestFrom f (done + 1) last L → SmallestFailing f L
   first_is_smallest s = record {
     some_length = omega (arith, s.from_lo);
     fails = s.fails;
@@ -151,21 +123,17 @@ module _ {f : ℕ → ℕ} {done last : ℕ} (fit : FitsUpTo f done) where
   }
 
   -- Where none fails after the lengths that fit, all fit.
-  pub all_fit : FitsBetween f (done + 1) last → FitsUpTo f last
+  pub all_fit : {last : ℕ} → FitsBetween f (done + 1) last → FitsUpTo f last
   all_fit rest L one high = by_lt done L (λ h. rest L (omega arith) high) (λ h. fit L one h)
 
   -- Where the lengths up to `near` fit as well, the smallest that fails after `near` is the smallest that fails after `done`.
-  pub from_there_on : {near r : ℕ} → FitsUpTo f near → SmallestOrNone f (near + 1) last r → SmallestOrNone f (done + 1) last r
-  from_there_on {near} {r} fits s = record {
-    none = λ e L from to. by_lt near L (λ h. s.none e L (omega arith) to) (λ h. fits L (omega arith) h);
-    some = λ one.
-        let it = s.some one in
-        record {
-          from_lo = by_lt done r (λ h. omega arith) (λ h. absurd (omega (arith, fit r one h, it.fails)));
-          to_hi = it.to_hi;
-          fails = it.fails;
-          smaller_fit = λ M from below. by_lt near M (λ h. it.smaller_fit M (omega arith) below) (λ h. fits M (omega arith) h);
-        };
+  pub from_there_on : {near : ℕ} (last : ℕ) (r : Option ℕ) → FitsUpTo f near → SmallestOrNone f (near + 1) last r → SmallestOrNone f (done + 1) last r
+  from_there_on {near} last None fits rest = λ L from to. by_lt near L (λ h. rest L (omega arith) to) (λ h. fits L (omega arith) h)
+  from_there_on {near} last (Some r) fits it = record {
+    from_lo = by_lt done r (λ h. omega arith) (λ h. absurd (omega (arith, fit r (omega (arith, it.from_lo)) h, it.fails)));
+    to_hi = it.to_hi;
+    fails = it.fails;
+    smaller_fit = λ M from below. by_lt near M (λ h. it.smaller_fit M (omega arith) below) (λ h. fits M (omega arith) h);
   }
 
 -- ---- classes of lengths
@@ -269,12 +237,9 @@ module _ {f : ℕ → ℕ} {start P H : ℕ} where
     all_settled L above at_most sooner inside = done.settled L above at_most sooner (omega arith)
 
     -- Where `best` is past the period, no length of it fails.
-    pub no_class_fails : start + H < best → SmallestOrNone f (start + 1) (start + H) 0
-    no_class_fails past = record { none = λ e. none_found f start P H best all_settled past; some = λ h. absurd (omega arith) }
+    pub no_class_fails : start + H < best → FitsBetween f (start + 1) (start + H)
+    no_class_fails past = none_found f start P H best all_settled past
 
     -- Otherwise `best` is the smallest that fails.
-    pub class_fails : best ≤ start + H → SmallestOrNone f (start + 1) (start + H) best
-    class_fails within = record {
-      none = λ e. absurd (omega (arith, (done.found within).0));
-      some = λ h. best_is_smallest f start P H best all_settled (done.found within).0 within (done.found within).1;
-    }
+    pub class_fails : best ≤ start + H → SmallestFrom f (start + 1) (start + H) best
+    class_fails within = best_is_smallest f start P H best all_settled (done.found within).0 within (done.found within).1

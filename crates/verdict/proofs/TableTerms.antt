@@ -3,7 +3,7 @@ use Prim.Native.Nat.{ℕ, ◌+◌, ◌-◌, ◌*◌, ◌≤◌, ◌<◌, ◌∣�
 use mathlib.Core.Path.{◌≡◌, refl}
 use mathlib.Core.List.{List, Memᴰ}
 use native.Mathlib.Omega.{arith}
-use lib.ListN.{length, get_or}
+use lib.ListN.{length}
 use Rattle.theory.specs.Lists.{total}
 use Rattle.theory.specs.Ticks.{timer_takes}
 use Rattle.theory.specs.Terms.{reciprocal}
@@ -15,17 +15,17 @@ use Rattle.table.specs.SpelledTables.{WithinLimits}
 use Rattle.table.specs.Servers.{GoodServer, no_server}
 use Rattle.table.specs.Tables.{no_row, rows_of, servers_of, InRange}
 use Rattle.verdict.specs.Demand.{table_demand, largest_d}
-use Rattle.verdict.specs.HeldTerms.{parts, held_entries, held_s, held_p, held_demand, GoodTerm, Held, with_term}
+use Rattle.verdict.specs.HeldTerms.{parts, held_entries, held_p, held_demand, GoodTerm, Held, with_term}
 use Rattle.verdict.specs.HeldParts.{PeriodOf, Repeats}
 use Rattle.verdict.proofs.Sums.{total_more, stands_among}
 use Rattle.verdict.proofs.Rows.{row_at, first_rows, demand_in, row_places, row_within}
 use Rattle.verdict.proofs.Servers.{server_at, first_servers, server_demand_in, server_places}
 use Rattle.verdict.proofs.Bounds.{some_b, cost_of_x_at_most}
 use Rattle.verdict.proofs.TableCurve.{d_at_most_largest}
-use Rattle.verdict.proofs.FilledTerms.{Filled, Placed, none_filled, none_placed, filled_as, one_more_filled, one_more_placed}
+use Rattle.verdict.proofs.FilledTerms.{Filled, Placed, none_placed, filled_as, one_more_filled, one_more_placed}
 
 -- A server is a good term.
-server_is_good : (v : Server) → GoodServer v → GoodTerm (reciprocal parts v.a v.b) 1 0 v.b v.a
+pub server_is_good : (v : Server) → GoodServer v → GoodTerm (reciprocal parts v.a v.b) 1 0 v.b v.a
 server_is_good v good = record {
   some_b = some_b v good;
   most_b = good.most_b;
@@ -36,7 +36,7 @@ server_is_good v good = record {
 }
 
 -- A row is a good term.
-row_is_good : (r : Row) → WithinLimits r → GoodTerm (reciprocal parts 1 r.y) (r.x * r.c) (r.y - r.d) r.y 1
+pub row_is_good : (r : Row) → WithinLimits r → GoodTerm (reciprocal parts 1 r.y) (r.x * r.c) (r.y - r.d) r.y 1
 row_is_good r limits = record {
   some_b = limits.some_y;
   most_b = omega (arith, limits.most_y);
@@ -68,12 +68,10 @@ module _ {t : Table} (in_range : InRange t) where
   row_is_there i h = stands_among no_row t.rows t.count i h (row_places in_range)
 
   -- An array that holds the timer and no terms yet.
-  pub timer_filled : (l : List ℕ) → length l ≡ held_entries → held_s l ≡ t.s → held_p l ≡ t.p → get_or l 2 0 ≡ reciprocal parts 1 t.p
+  pub timer_filled : {l : List ℕ} → length l ≡ held_entries → Held l 0 → ((L : ℕ) → held_demand l 0 L ≡ timer_takes t.s t.p L)
       → Filled l 0 (servers_to t 0)
   unfolding total
-  timer_filled l long is_s is_p is_m =
-      filled_as (none_filled l long (record { good_timer = rw (is_s, is_p) in_range.good_timer; is_reciprocal = rw is_p is_m }))
-      (λ L. rw (is_s, is_p) (omega arith))
+  timer_filled long held is = record { as_long = long; held = held; demands = λ L. omega (arith, is L) }
 
   -- An array that holds the timer places no terms yet.
   pub timer_placed : (l : List ℕ) → held_p l ≡ t.p → Placed t.p (OfTable t) l 0
@@ -149,6 +147,6 @@ module _ {t : Table} (in_range : InRange t) where
 
   -- An array that is filled with all servers and all rows holds the table's demand.
   pub all_filled : {l : List ℕ} {i : ℕ} → i ≡ t.count → Filled l (t.serving + i) (rows_to t i)
-      → Held l (t.serving + t.count) × ((L : ℕ) → held_demand l (t.serving + t.count) L ≡ table_demand t L)
+      → (L : ℕ) → held_demand l (t.serving + t.count) L ≡ table_demand t L
   unfolding table_demand
-  all_filled all filled = let whole = rw all at filled in (whole.held, whole.demands)
+  all_filled all filled = (rw all at filled).demands

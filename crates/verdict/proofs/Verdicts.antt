@@ -1,4 +1,6 @@
 -- At most one verdict is right for any bytes, and some verdict is. Different verdicts say different things, and none has the number 0. (docs/RULES.md, 5.6.)
+use Rattle.kinds.specs.declared.RefusedAt.{RefusedAt}
+use Rattle.std.specs.Prelude.{Some, Result, Ok, Err}
 use Prim.Native.Nat.{ℕ}
 use mathlib.Core.Path.{◌≡◌, refl, sym, ap, ap₂, ◌∙◌}
 use mathlib.Core.Logic.{⊎_elim}
@@ -7,13 +9,10 @@ use Rattle.kinds.specs.Numbering.{Said}
 use Rattle.kinds.proofs.Numbering.{never_zero, no_answer, numbers_differ}
 use Rattle.theory.proofs.Curves.{decided, one_smallest_failing, none_where_every_length_fits}
 use Rattle.table.specs.declared.Table.{Table}
-use Rattle.table.specs.declared.TableAnswer.{TableAnswer}
-use Rattle.table.specs.declared.TableAnswer.TheVariants as answer
 use Rattle.table.specs.Tables.{table_read}
 use Rattle.verdict.specs.declared.Witness.{Witness}
 use Rattle.verdict.specs.declared.Verdict.{Verdict}
 use Rattle.verdict.specs.declared.Verdict.TheVariants as verdict
-use Rattle.verdict.specs.declared.Scan.TheVariants as scan
 use Rattle.verdict.specs.Demand.{table_demand, table_growth, largest_d}
 use Rattle.verdict.specs.Verdict.{RightOf, RightOfRead, verdict_says, Scanned, OneVerdict, SomeVerdict, VerdictNeverSaysZero, VerdictsSaidApart}
 use Rattle.verdict.specs.Verdict.{FeasibleSays, OverloadedSays, RefusedVerdictSays}
@@ -42,9 +41,9 @@ one_right t (verdict.Overloaded v) (verdict.Refused r) p q = absurd q
 one_right t (verdict.Refused r) w p q = absurd p
 
 -- At most one verdict is right for what was read.
-one_right_of_read : (t : Table) (a : TableAnswer) (v w : Verdict) → RightOfRead t a v → RightOfRead t a w → v ≡ w
-one_right_of_read t (answer.Accepted period) v w p q = one_right t v w p q
-one_right_of_read t (answer.Refused r) v w p q = p ∙ sym q
+one_right_of_read : (t : Table) (a : Result ℕ RefusedAt) (v w : Verdict) → RightOfRead t a v → RightOfRead t a w → v ≡ w
+one_right_of_read t (Ok period) v w p q = one_right t v w p q
+one_right_of_read t (Err r) v w p q = p ∙ sym q
 
 pub one_verdict : OneVerdict
 one_verdict s v w p q = one_right_of_read (table_read s).table (table_read s).answer v w p q
@@ -61,12 +60,12 @@ some_right t period known = ⊎_elim
 pub some_verdict : SomeVerdict
 some_verdict s bytes = right (table_read s).answer refl
   where
-    right : (a : TableAnswer) → (table_read s).answer ≡ a → (v : Verdict) × RightOfRead (table_read s).table a v
-    right (answer.Accepted period) e = some_right (table_read s).table period (accepted_is_known s period bytes e)
-    right (answer.Refused r) e = (verdict.Refused r, refl)
+    right : (a : Result ℕ RefusedAt) → (table_read s).answer ≡ a → (v : Verdict) × RightOfRead (table_read s).table a v
+    right (Ok period) e = some_right (table_read s).table period (accepted_is_known s period bytes e)
+    right (Err r) e = (verdict.Refused r, refl)
 
 -- The first length from 1 on that a scan finds to fail is the witness.
-pub smallest_found : (t : Table) (last : ℕ) (w : Witness) → Scanned (table_demand t) 1 last (scan.Fails w) → RightOf t (verdict.Overloaded w)
+pub smallest_found : (t : Table) (last : ℕ) (w : Witness) → Scanned (table_demand t) 1 last (Some w) → RightOf t (verdict.Overloaded w)
 smallest_found t last w found = (record { some_length = found.0; fails = found.2; smaller_fit = found.4 }, omega (arith, found.3))
 
 -- ---- what a verdict says

@@ -12,8 +12,7 @@ use Rattle.table.specs.declared.Server.{Server}
 use Rattle.table.specs.declared.Table.{Table}
 use Rattle.table.specs.Tables.{rows_of, servers_of}
 use Rattle.table.specs.Limits.{max_y, max_period}
-use Rattle.verdict.specs.declared.parts.Part.{Part}
-use Rattle.verdict.specs.HeldTerms.{group_of, held_s, held_p, sum_below, held_demand, Held}
+use Rattle.verdict.specs.HeldTerms.{group_of, held_s, held_p, sum_below}
 
 -- The w of term i.
 abbrev pub held_w : List ℕ → (i : ℕ) → ℕ
@@ -70,13 +69,6 @@ unfoldable pub line_lift : List ℕ → (count P period : ℕ) → ℕ
 line_lift l count P period =
     sum_below count (λ i. left_out_of_part P (held_b l i) (held_growth l period i * held_up l i))
     + left_out_of_part P (held_p l) (timer_growth l period * (held_p l - held_s l))
-
--- What `part_of` makes: terms whose demand is the part for P, and the line above the rest.
-pub record IsPart (l : List ℕ) (count P period : ℕ) (part : Part) : Type 0 where
-  pub held : Held part.terms part.count
-  pub demands : (L : ℕ) → held_demand part.terms part.count L ≡ part_demand l count P L
-  pub is_slope : part.slope ≡ line_slope l count P period
-  pub is_lift : part.lift ≡ line_lift l count P period
 
 -- A demand whose growth in a period is above the period by more than this is not searched by classes.
 abbrev pub max_over : ℕ

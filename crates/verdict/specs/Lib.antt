@@ -6,3 +6,4 @@ pub mod HeldTerms
 pub mod HeldParts
 pub mod QuickVerdict
 pub mod Blocks
+pub mod Searched

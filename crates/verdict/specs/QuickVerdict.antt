@@ -1,5 +1,5 @@
 -- What the quick search for a verdict finds, and that it agrees with the scan of every length. (docs/RULES.md, section 5.)
-use Rattle.std.specs.Prelude.{ℕ, ◌≤◌, ◌<◌, ◌≡◌, List}
+use Rattle.std.specs.Prelude.{ℕ, ◌≤◌, ◌<◌, ◌≡◌, List, Option, MatchOption}
 use Rattle.theory.specs.Descent.{FitsBetween, LargestFrom, SmallestFrom}
 use Rattle.verdict.specs.declared.Verdict.{Verdict}
 use Rattle.verdict.specs.Verdict.{Judged}
@@ -8,15 +8,13 @@ use Rattle.verdict.specs.Verdict.{Judged}
 abbrev pub Failing : (f : ℕ → ℕ) (lo L : ℕ) → Type 0
 Failing f lo L = (lo ≤ L) × (L < f L)
 
--- Either L is 0 and every length from lo to hi fits, or L is the largest of them that fails.
-pub record LargestOrNone (f : ℕ → ℕ) (lo hi L : ℕ) : Type 0 where
-  pub none : L ≡ 0 → FitsBetween f lo hi
-  pub some : 1 ≤ L → LargestFrom f lo hi L
+-- Either none was found and every length from lo to hi fits, or the largest of them that fails was found.
+abbrev pub LargestOrNone : (f : ℕ → ℕ) (lo hi : ℕ) → Option ℕ → Type 0
+LargestOrNone f lo hi found = MatchOption found (FitsBetween f lo hi) (LargestFrom f lo hi)
 
--- Either L is 0 and every length from lo to hi fits, or L is the smallest of them that fails.
-pub record SmallestOrNone (f : ℕ → ℕ) (lo hi L : ℕ) : Type 0 where
-  pub none : L ≡ 0 → FitsBetween f lo hi
-  pub some : 1 ≤ L → SmallestFrom f lo hi L
+-- Either none was found and every length from lo to hi fits, or the smallest of them that fails was found.
+abbrev pub SmallestOrNone : (f : ℕ → ℕ) (lo hi : ℕ) → Option ℕ → Type 0
+SmallestOrNone f lo hi found = MatchOption found (FitsBetween f lo hi) (SmallestFrom f lo hi)
 
 -- ---- what is proved (proofs/QuickVerdict.antt)
 

@@ -1,10 +1,9 @@
 -- A table without servers has the demand of its rows and of the ticks that its timer takes, and its verdict is what these say, as it was before there were
 -- servers. Where its timer has s = 0 and p = 1, it has its rows alone: its demand is the rows' own demand. (docs/RULES.md, 5.14 and 5.18.)
-use Rattle.std.specs.Prelude.{ℕ, ◌+◌, ◌≡◌, ◌↔◌, List}
+use Rattle.std.specs.Prelude.{ℕ, ◌+◌, ◌≡◌, ◌↔◌, List, Ok}
 use Rattle.theory.specs.Ticks.{timer_takes}
 use Rattle.table.specs.declared.Row.{Row}
 use Rattle.table.specs.declared.Table.{Table}
-use Rattle.table.specs.declared.TableAnswer.TheVariants as answer
 use Rattle.table.specs.Content.{without_servers, rows_alone}
 use Rattle.table.specs.Tables.{content_of, table_read}
 use Rattle.verdict.specs.declared.Verdict.{Verdict}
@@ -32,7 +31,7 @@ VerdictWithoutServers = (t : Table) (s p : ℕ) (rows : List Row) → content_of
 
 -- Where bytes are accepted as a table without servers, a verdict is right for them exactly when it is right for the demand of the rows and the timer. (5.18)
 abbrev pub JudgedWithoutServers : Type 0
-JudgedWithoutServers = (bytes : List ℕ) (period s p : ℕ) (rows : List Row) → (table_read bytes).answer ≡ answer.Accepted period
+JudgedWithoutServers = (bytes : List ℕ) (period s p : ℕ) (rows : List Row) → (table_read bytes).answer ≡ Ok period
     → content_of (table_read bytes).table ≡ without_servers s p rows → (v : Verdict) → Judged bytes v ↔ RightFor (demand_of_rows_and_timer s p rows) v
 
 -- The demand of rows alone is the sum of the rows' demands. (5.14)
@@ -46,5 +45,5 @@ VerdictOfRowsAlone = (t : Table) (rows : List Row) → content_of t ≡ rows_alo
 
 -- Where bytes are accepted as a table of rows alone, a verdict is right for them exactly when it is right for the sum of the rows' demands. (5.14)
 abbrev pub JudgedByRowsAlone : Type 0
-JudgedByRowsAlone = (s : List ℕ) (period : ℕ) (rows : List Row) → (table_read s).answer ≡ answer.Accepted period
+JudgedByRowsAlone = (s : List ℕ) (period : ℕ) (rows : List Row) → (table_read s).answer ≡ Ok period
     → content_of (table_read s).table ≡ rows_alone rows → (v : Verdict) → Judged s v ↔ RightFor (demand_of_rows rows) v

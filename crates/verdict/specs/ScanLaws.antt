@@ -1,5 +1,5 @@
 -- A table's demand is a curve, and so some lengths settle its verdict. (docs/RULES.md, section 5.)
-use Rattle.std.specs.Prelude.{ℕ, ◌+◌, ◌*◌, ◌≤◌, ◌<◌, ◌≡◌}
+use Rattle.std.specs.Prelude.{ℕ, ◌+◌, ◌*◌, ◌≤◌, ◌<◌, ◌≡◌, Ok}
 use Rattle.std.specs.Int.{◌∣◌}
 use mathlib.Core.List.{List, Memᴰ}
 use Rattle.numbers.specs.SpelledNumbers.{Bytes}
@@ -7,7 +7,6 @@ use Rattle.theory.specs.Curves.{Curve, EveryLengthFits, SmallestFailing, FitsUpT
 use Rattle.table.specs.declared.Row.{Row}
 use Rattle.table.specs.declared.Server.{Server}
 use Rattle.table.specs.declared.Table.{Table}
-use Rattle.table.specs.declared.TableAnswer.TheVariants as answer
 use Rattle.table.specs.Tables.{rows_of, servers_of, table_read, InRange}
 use Rattle.verdict.specs.Demand.{table_demand, table_growth, largest_d}
 
@@ -23,7 +22,7 @@ TableIsACurve = (t : Table) (period : ℕ) → InRange t → t.p ∣ period → 
 
 -- P holds for every accepted table and its H.
 abbrev OfAccepted : (Table → (period : ℕ) → Type 0) → Type 0
-OfAccepted P = (s : List ℕ) (period : ℕ) → Bytes s → (table_read s).answer ≡ answer.Accepted period → P (table_read s).table period
+OfAccepted P = (s : List ℕ) (period : ℕ) → Bytes s → (table_read s).answer ≡ Ok period → P (table_read s).table period
 
 -- Where the sum of x · c / y over the rows, of a / b over the servers and of s / p is at most 1, the lengths up to H + the largest d settle every length.
 -- (5.7, 5.8)

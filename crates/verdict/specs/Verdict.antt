@@ -1,19 +1,17 @@
 -- Which verdict is right for a table. This is a relation and not a computation. Feasible is right if the demand in every length is at most the length.
 -- Overloaded is right with the smallest length whose demand is above it, and that demand. A table that is refused has its refusal for a verdict. It is proved
 -- that for any bytes exactly one verdict is right. (docs/RULES.md, section 5.)
-use Rattle.std.specs.Prelude.{ℕ, ◌≤◌, ◌<◌, ◌≡◌, List}
+use Rattle.kinds.specs.declared.RefusedAt.{RefusedAt}
+use Rattle.std.specs.Prelude.{ℕ, ◌≤◌, ◌<◌, ◌≡◌, List, Option, Some, None, Result, Ok, Err}
 use Rattle.kinds.specs.Numbering.{Said, refused_says, refusal_number, refusal_at}
 use Rattle.kinds.specs.declared.Refusal.{Refusal}
 use Rattle.numbers.specs.SpelledNumbers.{Bytes}
 use Rattle.theory.specs.Curves.{EveryLengthFits, SmallestFailing}
 use Rattle.table.specs.declared.Table.{Table}
-use Rattle.table.specs.declared.TableAnswer.{TableAnswer}
-use Rattle.table.specs.declared.TableAnswer.TheVariants as answer
 use Rattle.table.specs.Tables.{table_read}
 use Rattle.verdict.specs.declared.Verdict.{Verdict}
 use Rattle.verdict.specs.declared.Verdict.TheVariants as verdict
-use Rattle.verdict.specs.declared.Scan.{Scan}
-use Rattle.verdict.specs.declared.Scan.TheVariants as scan
+use Rattle.verdict.specs.declared.Witness.{Witness}
 use Rattle.verdict.specs.Demand.{table_demand}
 
 -- Where f L is the demand in L, feasible is right if f L is at most L, for every L ≥ 1. Overloaded is right with the smallest L whose demand is above L, and
@@ -28,9 +26,9 @@ abbrev pub RightOf : Table → Verdict → Type 0
 RightOf t v = RightFor (table_demand t) v
 
 -- A verdict is right for what was read if it is right for the table. If the table was refused, only that refusal is right. (9.2)
-abbrev pub RightOfRead : Table → TableAnswer → Verdict → Type 0
-RightOfRead t (answer.Accepted period) v = RightOf t v
-RightOfRead t (answer.Refused r) v = v ≡ verdict.Refused r
+abbrev pub RightOfRead : Table → Result ℕ RefusedAt → Verdict → Type 0
+RightOfRead t (Ok period) v = RightOf t v
+RightOfRead t (Err r) v = v ≡ verdict.Refused r
 
 -- A verdict is right for bytes if it is right for what they are read as.
 abbrev pub Judged : List ℕ → Verdict → Type 0
@@ -43,9 +41,9 @@ verdict_says (verdict.Overloaded w) = record { number = 21; first = w.length; se
 verdict_says (verdict.Refused r) = refused_says r
 
 -- A scan of the lengths from `first` to `last` found that f L is at most L for each of them, or it found the smallest for which it is not, with its f L.
-abbrev pub Scanned : (f : ℕ → ℕ) (first last : ℕ) → Scan → Type 0
-Scanned f first last scan.Fits = (L : ℕ) → first ≤ L → L ≤ last → f L ≤ L
-Scanned f first last (scan.Fails w) =
+abbrev pub Scanned : (f : ℕ → ℕ) (first last : ℕ) → Option Witness → Type 0
+Scanned f first last None = (L : ℕ) → first ≤ L → L ≤ last → f L ≤ L
+Scanned f first last (Some w) =
     (first ≤ w.length) × (w.length ≤ last) × (w.length < f w.length) × (w.demand ≡ f w.length)
     × ((M : ℕ) → first ≤ M → M < w.length → f M ≤ M)
 

@@ -3,56 +3,40 @@
 // same however many terms there are. (docs/RULES.md, 5.4 to 5.9.)
 ghost use Rattle.std.specs.Prelude.{◌≡◌, length, ◌+◌, ◌-◌, ◌%◌, ◌≤◌, ◌<◌};
 ghost use Rattle.table.specs.Limits.{max_y, max_p};
-ghost use Rattle.verdict.specs.HeldTerms.{max_searched, held_demand, Held};
+ghost use Rattle.verdict.specs.HeldTerms.{max_searched};
 ghost use Rattle.verdict.specs.QuickVerdict.{SmallestOrNone};
 ghost use Rattle.verdict.specs.Blocks.{block_size, terms_demand, InBlock, RisesOf};
+ghost use Rattle.verdict.specs.Searched.{held_by};
 
-use crate::terms::{GROUP, ROOM, held_demand};
+use crate::terms::{GROUP, Terms};
 
 // The lengths of one block.
 const BLOCK: usize = 4096;
 
-// A term's v in a length: the length + up − down, or 0 if that is below 0.
-fn reach(length: u64, up: u64, down: u64) -> u64
-    requires { (length ≤ max_searched + 1) × (up ≤ max_y) }
-    ensures { result ≡ length + up - down }
-{
-    if length + up < down {
-        return 0;
-    }
-    length + up - down
-}
-
 // Adds w at each step of term i in a block. Its step number n is the least length whose v has n · b ≤ a · v. The step's remainder is a · v − n · b. The gap
 // to the next step is b/a where the remainder is b mod a or more, and b/a + 1 where it is less.
-fn add_steps(
-    rises: &mut [u64; BLOCK],
-    terms: &[u64; ROOM],
-    count: usize,
-    i: usize,
-    base: u64,
-    size: usize,
-)
-    requires { (Held terms.now count) × (i < count) × (InBlock base size) × (RisesOf (terms_demand terms.now i) base size rises.old) }
-    ensures { RisesOf (terms_demand terms.now (i + 1)) base size rises.new }
+fn add_steps(rises: &mut [u64; BLOCK], terms: &Terms, i: usize, base: u64, size: usize)
+    requires { (i < terms.now.count) × (InBlock base size) × (RisesOf (terms_demand terms.now.entries i) base size rises.old) }
+    ensures { RisesOf (terms_demand terms.now.entries (i + 1)) base size rises.new }
 {
     let at = GROUP * i + GROUP;
-    let w = terms[at + 1];
-    let up = terms[at + 2];
-    let down = terms[at + 3];
-    let b = terms[at + 4];
-    let a = terms[at + 5];
-    let end = reach(base + size as u64, up, down);
+    let w = terms.entries[at + 1];
+    let up = terms.entries[at + 2];
+    let down = terms.entries[at + 3];
+    let b = terms.entries[at + 4];
+    let a = terms.entries[at + 5];
+    let end = (base + size as u64 + up).saturating_sub(down);
     if a * end == 0 {
         return;
     }
-    let start = reach(base - 1, up, down);
+    let start = (base - 1 + up).saturating_sub(down);
     let number = a * start / b + 1;
     let first = (number * b + (a - 1)) / a;
     let gap = (b / a) as usize;
     let part = b % a;
     let mut remainder = a * first - number * b;
     let mut k = (first + down - (base + up)) as usize;
+    // k goes from step to step by unequal gaps, so no `for` counts this loop.
     while k < size {
         rises[k] += w;
         if remainder < part {
@@ -66,19 +50,13 @@ fn add_steps(
 }
 
 // Fills the rises of all terms at the lengths of a block into the array.
-fn fill(rises: &mut [u64; BLOCK], terms: &[u64; ROOM], count: usize, base: u64, size: usize)
-    requires { (Held terms.now count) × (InBlock base size) × (length rises.old ≡ block_size) }
-    ensures { RisesOf (terms_demand terms.now count) base size rises.new }
+fn fill(rises: &mut [u64; BLOCK], terms: &Terms, base: u64, size: usize)
+    requires { (InBlock base size) × (length rises.old ≡ block_size) }
+    ensures { RisesOf (terms_demand terms.now.entries terms.now.count) base size rises.new }
 {
-    let mut k: usize = 0;
-    while k < size {
-        rises[k] = 0;
-        k += 1;
-    }
-    let mut i: usize = 0;
-    while i < count {
-        add_steps(rises, terms, count, i, base, size);
-        i += 1;
+    rises[..size].fill(0);
+    for i in 0..terms.count {
+        add_steps(rises, terms, i, base, size);
     }
 }
 
@@ -86,10 +64,7 @@ fn fill(rises: &mut [u64; BLOCK], terms: &[u64; ROOM], count: usize, base: u64, 
 fn taken_at(rest: u64, s: u64) -> u64
     ensures { (rest < s → result ≡ 1) × (s ≤ rest → result ≡ 0) }
 {
-    if rest < s {
-        return 1;
-    }
-    0
+    if rest < s { 1 } else { 0 }
 }
 
 // The rest by p of the next tick, where the last rest is p − 1.
@@ -97,52 +72,43 @@ fn rest_after(rest: u64, last: u64) -> u64
     requires { (rest ≤ last) × (last < max_p) }
     ensures { result ≡ (rest + 1) % (last + 1) }
 {
-    if rest == last {
-        return 0;
-    }
-    rest + 1
+    if rest == last { 0 } else { rest + 1 }
 }
 
-// The smallest length of a block that fails, or 0 if none does. The rises and the ticks that the timer takes are added up from the demand before the block.
-fn look(rises: &[u64; BLOCK], terms: &[u64; ROOM], count: usize, base: u64, size: usize) -> u64
-    requires { (Held terms.now count) × (InBlock base size) × (RisesOf (terms_demand terms.now count) base size rises.now) }
-    ensures { SmallestOrNone (held_demand terms.now count) base (base + size - 1) result }
+// The smallest length of a block that fails, if one does. The rises and the ticks that the timer takes are added up from the demand before the block.
+fn look(rises: &[u64; BLOCK], terms: &Terms, base: u64, size: usize) -> Option<u64>
+    requires { (InBlock base size) × (RisesOf (terms_demand terms.now.entries terms.now.count) base size rises.now) }
+    ensures { SmallestOrNone (held_by terms.now) base (base + size - 1) result }
 {
-    let s = terms[0];
-    let last = terms[1] - 1;
-    let mut sum = held_demand(terms, count, base - 1);
-    let mut rest = (base - 1) % terms[1];
-    let mut k: usize = 0;
-    while k < size {
+    let s = terms.entries[0];
+    let last = terms.entries[1] - 1;
+    let mut sum = terms.demand(base - 1);
+    let mut rest = (base - 1) % terms.entries[1];
+    for k in 0..size {
         sum += rises[k] + taken_at(rest, s);
         let length = base + k as u64;
         if length < sum {
-            return length;
+            return Some(length);
         }
         rest = rest_after(rest, last);
-        k += 1;
     }
-    0
+    None
 }
 
-// The smallest length from `lo` to `hi` that fails, or 0 if none does. One block after another is filled and looked at.
-pub(crate) fn blocks(terms: &[u64; ROOM], count: usize, lo: u64, hi: u64) -> u64
-    requires { (Held terms.now count) × (1 ≤ lo) × (hi ≤ max_searched) }
-    ensures { SmallestOrNone (held_demand terms.now count) lo hi result }
+// The smallest length from `lo` to `hi` that fails, if one does. One block after another is filled and looked at.
+pub(crate) fn blocks(terms: &Terms, lo: u64, hi: u64) -> Option<u64>
+    requires { (1 ≤ lo) × (hi ≤ max_searched) }
+    ensures { SmallestOrNone (held_by terms.now) lo hi result }
 {
     let mut rises: [u64; BLOCK] = [0; BLOCK];
     let mut base = lo;
     while base <= hi {
-        let mut size = BLOCK;
-        if hi - base < BLOCK as u64 {
-            size = (hi - base) as usize + 1;
-        }
-        fill(&mut rises, terms, count, base, size);
-        let found = look(&rises, terms, count, base, size);
-        if 0 < found {
-            return found;
+        let size = ((hi - base) as usize + 1).min(BLOCK);
+        fill(&mut rises, terms, base, size);
+        if let Some(found) = look(&rises, terms, base, size) {
+            return Some(found);
         }
         base += size as u64;
     }
-    0
+    None
 }

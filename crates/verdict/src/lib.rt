@@ -5,8 +5,10 @@
 mod blocks;
 mod choices;
 mod classes;
+mod cycle;
 mod descent;
 mod lifts;
+mod line;
 mod parts;
 mod terms;
 
@@ -20,10 +22,11 @@ ghost use Rattle.table.specs.Tables.{InRange};
 ghost use Rattle.verdict.specs.Demand.{row_demand_of, server_demand_of, table_demand, table_growth, largest_d, max_length};
 ghost use Rattle.verdict.specs.Verdict.{Scanned, Judged};
 
+use crate::cycle::Cycle;
 use crate::descent::search;
-use crate::terms::terms_of;
+use crate::terms::Terms;
 use kinds::RefusedAt;
-use table::{Row, Server, Table, TableAnswer};
+use table::{Row, Server, Table};
 
 // The witness of an overloaded table is the smallest length whose demand is above it, with that demand. (1.11)
 #[derive(Clone, Copy)]
@@ -33,18 +36,12 @@ pub struct Witness {
 }
 
 // A table is feasible, overloaded with a witness, or refused. (5.4, 5.5)
+// It stays an enum of three cases, since the rules name three answers and one `match` tells them.
 #[derive(Clone, Copy)]
 pub enum Verdict {
     Feasible,
     Overloaded(Witness),
     Refused(RefusedAt),
-}
-
-// A scan of some lengths finds that the demand in each is at most the length, or finds the smallest that fails.
-#[derive(Clone, Copy)]
-enum Scan {
-    Fits,
-    Fails(Witness),
 }
 
 // Below d there is no demand. Testing this first keeps the subtraction from wrapping. (5.1)
@@ -72,42 +69,28 @@ fn timer_takes(s: u64, p: u64, length: u64) -> u64
     ensures { result ≡ timer_takes s p length }
 {
     let whole = length / p * s;
-    let rest = length % p;
-    if rest < s {
-        return whole + rest;
-    }
-    whole + s
+    whole + s.min(length % p)
 }
 
-// The demand in each length from `first` to `last` is worked out, and the first length whose demand is above it ends the scan. The ticks that the timer takes
-// are counted first, then each server's demand, and then each row's. (5.3, 5.5)
-fn scan_range(table: Table, first: u64, last: u64) -> Scan
+// The demand in each length from `first` to `last` is worked out, and the first length whose demand is above it ends the scan as the witness. The ticks that the
+// timer takes are counted first, then each server's demand, and then each row's. (5.3, 5.5)
+fn scan_range(table: Table, first: u64, last: u64) -> Option<Witness>
     requires { (InRange table) × (last ≤ max_length) }
     ensures { Scanned (table_demand table) first last result }
 {
-    let count = table.count;
-    let serving = table.serving;
-    let mut length = first;
-    while length <= last {
-        let mut demand: u64 = timer_takes(table.s, table.p, length);
-        let mut k: usize = 0;
-        while k < serving {
-            let server = table.servers[k];
-            demand += server_demand(server, length);
-            k += 1;
+    for length in first..last + 1 {
+        let mut demand = timer_takes(table.s, table.p, length);
+        for k in 0..table.serving {
+            demand += server_demand(table.servers[k], length);
         }
-        let mut i: usize = 0;
-        while i < count {
-            let row = table.rows[i];
-            demand += row_demand(row, length);
-            i += 1;
+        for i in 0..table.count {
+            demand += row_demand(table.rows[i], length);
         }
         if length < demand {
-            return Scan::Fails(Witness { length, demand });
+            return Some(Witness { length, demand });
         }
-        length += 1;
     }
-    Scan::Fits
+    None
 }
 
 // The sum of s · (period/p), of a · (period/b) over the servers and of x · c · (period/y) over the rows is how much the demand grows in a period. (5.7)
@@ -115,20 +98,14 @@ fn growth(table: Table, period: u64) -> u64
     requires { (InRange table) × (period ≤ max_period) }
     ensures { result ≡ table_growth table period }
 {
-    let count = table.count;
-    let serving = table.serving;
-    let mut sum: u64 = period / table.p * table.s;
-    let mut k: usize = 0;
-    while k < serving {
+    let mut sum = period / table.p * table.s;
+    for k in 0..table.serving {
         let server = table.servers[k];
         sum += period / server.b * server.a;
-        k += 1;
     }
-    let mut i: usize = 0;
-    while i < count {
+    for i in 0..table.count {
         let row = table.rows[i];
         sum += period / row.y * (row.x * row.c);
-        i += 1;
     }
     sum
 }
@@ -138,15 +115,9 @@ fn largest_d(table: Table) -> u64
     requires { InRange table }
     ensures { result ≡ largest_d table }
 {
-    let count = table.count;
     let mut largest: u64 = 0;
-    let mut i: usize = 0;
-    while i < count {
-        let row = table.rows[i];
-        if largest < row.d {
-            largest = row.d;
-        }
-        i += 1;
+    for i in 0..table.count {
+        largest = largest.max(table.rows[i].d);
     }
     largest
 }
@@ -158,10 +129,9 @@ pub fn judge_every_length(bytes: &[u8]) -> Verdict
 {
     let read = table::read_table(bytes);
     let table = read.table;
-    let answer = read.answer;
-    let period = match answer {
-        TableAnswer::Accepted(h) => h,
-        TableAnswer::Refused(r) => return Verdict::Refused(r),
+    let period = match read.answer {
+        Ok(h) => h,
+        Err(r) => return Verdict::Refused(r),
     };
     let d = largest_d(table);
     let mut last = period + d;
@@ -169,8 +139,8 @@ pub fn judge_every_length(bytes: &[u8]) -> Verdict
         last = (d + 1) * period + d;
     }
     match scan_range(table, 1, last) {
-        Scan::Fits => Verdict::Feasible,
-        Scan::Fails(w) => Verdict::Overloaded(w),
+        None => Verdict::Feasible,
+        Some(w) => Verdict::Overloaded(w),
     }
 }
 
@@ -184,26 +154,24 @@ pub fn judge(bytes: &[u8]) -> Verdict
 {
     let read = table::read_table(bytes);
     let table = read.table;
-    let answer = read.answer;
-    let period = match answer {
-        TableAnswer::Accepted(h) => h,
-        TableAnswer::Refused(r) => return Verdict::Refused(r),
+    let period = match read.answer {
+        Ok(h) => h,
+        Err(r) => return Verdict::Refused(r),
     };
     let d = largest_d(table);
-    let mut early = d + period;
-    if EARLY < early {
-        early = EARLY;
-    }
-    if let Scan::Fails(w) = scan_range(table, 1, early) {
+    let early = EARLY.min(d + period);
+    if let Some(w) = scan_range(table, 1, early) {
         return Verdict::Overloaded(w);
     }
-    let grows = growth(table, period);
-    if d + period <= EARLY {
-        if grows <= period {
-            return Verdict::Feasible;
-        }
+    let growth = growth(table, period);
+    if d + period <= EARLY && growth <= period {
+        return Verdict::Feasible;
     }
-    let count = table.serving + table.count;
-    let terms = terms_of(table);
-    search(&terms, count, early, d, period, grows)
+    let cycle = Cycle {
+        terms: Terms::of_table(table),
+        d,
+        period,
+        growth,
+    };
+    search(&cycle, early)
 }

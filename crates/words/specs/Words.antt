@@ -1,10 +1,9 @@
 -- Words: numbers in eight bytes, the lowest byte first. (docs/RULES.md, 9.4 and 10.7.)
-use Rattle.std.specs.Prelude.{ℕ, zero, suc, ◌+◌, ◌*◌, ◌/◌, ◌%◌, cond, List, [], ◌∷◌, ◌++◌, leb, length, take, drop}
+use Rattle.std.specs.Prelude.{ℕ, zero, suc, ◌+◌, ◌*◌, ◌/◌, ◌%◌, cond, List, [], ◌∷◌, ◌++◌, leb, length, take, drop, Result, Ok, Err}
+use Rattle.kinds.specs.declared.RefusedAt.{RefusedAt}
+use Rattle.kinds.specs.declared.Refusal.{Refusal}
 use Rattle.kinds.specs.declared.Refusal.TheVariants.{NoRoom}
-use Rattle.numbers.specs.declared.NumberRead.{NumberRead}
-use Rattle.numbers.specs.declared.NumberRead.TheVariants as answer
-use Rattle.numbers.specs.declared.Written.{Written}
-use Rattle.numbers.specs.declared.Written.TheVariants.{Length, Refused}
+use Rattle.numbers.specs.declared.Number.{Number}
 use Rattle.numbers.specs.Reading.{misspelled_at}
 
 -- The length of a word in bytes. (9.4)
@@ -22,19 +21,19 @@ from_lowest_first [] = 0
 from_lowest_first (b ∷ bytes) = b + 256 * from_lowest_first bytes
 
 -- The answer of writing a word into a buffer of `room` bytes: the length 8, or refusal 12 where the buffer has fewer bytes. (10.7)
-abbrev pub put_word : (room : ℕ) → Written
-put_word room = cond (leb word_length room) (Length word_length) (Refused NoRoom)
+abbrev pub put_word : (room : ℕ) → Result ℕ Refusal
+put_word room = cond (leb word_length room) (Ok word_length) (Err NoRoom)
 
 -- The buffer after the answer of writing a word. After a length it holds the word and then the bytes after it as they were. After a refusal it is
 -- unchanged. (10.7)
-abbrev pub rest_with : Written → (value : ℕ) → List ℕ → List ℕ
-rest_with (Length k) value rest = lowest_first word_length value ++ drop k rest
-rest_with (Refused r) value rest = rest
+abbrev pub rest_with : Result ℕ Refusal → (value : ℕ) → List ℕ → List ℕ
+rest_with (Ok k) value rest = lowest_first word_length value ++ drop k rest
+rest_with (Err r) value rest = rest
 
 -- The answer of reading a word at a place: its number and the place right after its eight bytes. Where fewer than eight bytes stand there, it is refusal 1 at
 -- that place. (10.7)
-abbrev pub word_at : List ℕ → (at : ℕ) → NumberRead
+abbrev pub word_at : List ℕ → (at : ℕ) → Result Number RefusedAt
 word_at s at =
     cond (leb (at + word_length) (length s))
-    (answer.Number (record { value = from_lowest_first (take word_length (drop at s)); next = at + word_length }))
+    (Ok (record { value = from_lowest_first (take word_length (drop at s)); next = at + word_length }))
     (misspelled_at at)

@@ -9,7 +9,8 @@ use Rattle.host.proofs.say.Goals as goal
 pub returns : goal.returns
 returns c =
     let half = c.put in
-    let a = c.args in
-    let first = put_stores_first a.answer.now a.first (omega arith) half.ensures in
-    let second = put_stores half.new.rest word_length a.second (omega arith) c.put-2.ensures in
-    (refl, second ∙ rw first (both_numbers a.answer.now a.first a.second (omega arith)))
+    let answer = c.args.answer.now in
+    let told = c.args.told in
+    let first = put_stores_first answer told.first (omega arith) half.ensures in
+    let second = put_stores half.new.rest word_length told.second (omega arith) c.put-2.ensures in
+    (refl, second ∙ rw first (both_numbers answer told.first told.second (omega arith)))

@@ -1,19 +1,10 @@
 -- `log::write_measured` meets its contract. The invariant of the first loop is that the numbers so far have spellings and are counted. The invariant of the
 -- second is that the numbers so far stand at the start of the rest. A number that was counted is never refused.
-use Prim.Native.Nat.{◌-◌}
-use lib.ListN.{length}
-use Rattle.logs.proofs.Records.{Counted}
-use Rattle.logs.proofs.Records.{Standing}
+use Rattle.logs.proofs.Records.{Counted, Standing}
 use Rattle.logs.proofs.write_measured.Given as goal
 
-abbrev pub invariant-loop-i : goal.invariant-loop-i
-invariant-loop-i l = Counted l.values l.room l.i
+abbrev pub invariant-loop-value : goal.invariant-loop-value
+invariant-loop-value l = Counted l.value-items l.room l.value-index
 
-abbrev pub decreases-loop-i : goal.decreases-loop-i
-decreases-loop-i l = length l.values - l.i
-
-abbrev pub invariant-loop-k : goal.invariant-loop-k
-invariant-loop-k l = Standing l.values l.initial.rest l.rest l.at l.k
-
-abbrev pub decreases-loop-k : goal.decreases-loop-k
-decreases-loop-k l = length l.values - l.k
+abbrev pub invariant-loop-v : goal.invariant-loop-v
+invariant-loop-v l = Standing l.v-items l.initial.rest l.rest l.at l.v-index

@@ -1,3 +1,4 @@
+use Rattle.std.specs.Prelude.{Ok}
 use Prim.Native.Nat.{◌+◌}
 use mathlib.Core.Path.{◌≡◌, ap, ◌∙◌}
 use native.Mathlib.Nat.{zero-add}
@@ -6,7 +7,6 @@ use native.Mathlib.Omega.{arith}
 use borrow.Author.Tests.{le-leb}
 use lib.ListN.{length, length-set}
 use lib.Seq.{sets-eq}
-use Rattle.numbers.specs.declared.Written.TheVariants.{Length}
 use Rattle.numbers.specs.Spelling.{spelling}
 use Rattle.numbers.proofs.Spellings.{spelling_last, spelling_more, spelling_length}
 use Rattle.numbers.proofs.write.Goals as goal
@@ -29,6 +29,6 @@ returns c =
     let a = c.args in
     let last = spelling_last l.rest c.loop-rest-test.false in
     let took : l.i + 1 ≡ length (spelling a.value) = omega (arith, ap length last) in (
-      simp (le-leb _ _ c.if-value-gt-MAX.false, le-leb _ _ l.invariant.4) (ap Length took),
+      simp (le-leb _ _ c.if-value-gt-MAX.false, le-leb _ _ l.invariant.4) (ap Ok took),
       rw last at l.invariant.3 ∙ sets-eq (spelling a.value) a.buffer.now 0 (omega arith) ∙ rw (zero-add, took),
     )

@@ -1,10 +1,9 @@
 use Prim.Native.Nat.{◌+◌, ◌*◌}
 use mathlib.Core.Path.{◌≡◌}
 use mathlib.Core.List.{flatten}
-use native.Mathlib.Numerals.{add-one}
 use native.Mathlib.Omega.{arith}
-use lib.ListN.{get_or}
-use lib.Seq.{slice_empty, length-sets}
+use lib.ListN.{get_or, drop_of_length-le}
+use lib.Seq.{length-sets}
 use Rattle.words.specs.Words.{word_length}
 use Rattle.kinds.proofs.Lists.{sets-append}
 use Rattle.words.proofs.Storing.{length-lowest_first, put_stores}
@@ -14,17 +13,14 @@ use Rattle.probe.proofs.put_words.Goals as goal
 pub loop-k-preserved : goal.loop-k-preserved
 loop-k-preserved c =
     let l = c.loop-k in
-    let a = c.args in
-    let place = a.at + l.k * word_length in
-    let word = get_or a.words l.k 0 in
-    let stored = put_stores l.buffer place word (omega arith) c.put.ensures in
-    let next : a.at + (l.k + 1) * word_length ≡ place + word_length = omega arith in
-    let more = words_next a.words a.count l.k (omega arith) (omega arith) in
-    (omega arith, rw stored (simp length-sets l.invariant.1), rw (stored, next, add-one) (rw (more, sets-append, length-lowest_first) at l.invariant.2))
+    let words = c.args.words.now in
+    let stored = put_stores l.buffer (l.k * word_length) (get_or words l.k 0) (omega arith) c.put.ensures in
+    let next : (l.k + 1) * word_length ≡ l.k * word_length + word_length = omega arith in
+    let more = words_next words l.k (omega arith) in
+    (rw stored (simp length-sets l.invariant.0), rw (stored, next) (rw (more, sets-append, length-lowest_first) at l.invariant.1))
 
 pub returns : goal.returns
 unfolding flatten
 returns c =
     let l = c.loop-k in
-    let all : l.k ≡ c.args.count = omega arith in
-    rw (all, slice_empty) at l.invariant.2
+    rw (drop_of_length-le c.args.words.now {i = l.k} (omega arith)) at l.invariant.1

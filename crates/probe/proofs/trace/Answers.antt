@@ -10,7 +10,7 @@ returns-then-shown-eq0 c = (sym c.if-shown-eq0.true ∙ c.answers_shown-shown.en
 
 pub loop-i-preserved : goal.loop-i-preserved
 loop-i-preserved c =
-    rw (c.put_words-in-loop-i.ensures, c.play-step.ensures, c.word_at.ensures, c.word_at-in-loop-i.ensures, c.word_at-in-loop-i-2.ensures)
+    rw (c.put_words-in-loop-i.ensures, c.play-step.ensures, c.of-call.ensures, c.word_at.ensures, c.word_at-in-loop-i.ensures, c.word_at-in-loop-i-2.ensures)
     (one_standing c.loop-i.invariant c.loop-i-test.true)
 
 pub returns : goal.returns

@@ -8,4 +8,4 @@ pub overflow_cast-result : goal.overflow_cast-result
 overflow_cast-result c =
     let a = c.args in
     let e = c.write.ensures in
-    omega (arith, length_answered a.number _ c.in-Length.n (sym e.0 ∙ c.in-Length.is), spelling_length a.number)
+    omega (arith, length_answered a.number _ c.in-Ok.n (sym e.0 ∙ c.in-Ok.is), spelling_length a.number)

@@ -1,25 +1,23 @@
-use Prim.Native.Nat.{◌<◌}
+-- `replay::play` meets its contract. Each record before the script's end stops the play, or the play on arrays goes on after it. At the end come the final
+-- ticks.
 use native.Mathlib.Omega.{arith}
 use mathlib.Core.Path.{refl, sym, ◌∙◌}
-use lib.ListN.{length}
 use lib.Seq.{length-take-le}
-use Rattle.numbers.specs.SpelledNumbers.{Bytes}
+use Rattle.std.proofs.lemmas.Result.{err_from_is_err_and}
 use Rattle.run.proofs.Ticking.{facts}
-use Rattle.replay.specs.Arrays.{Lists, lists, logged_by, SourceOf}
-use Rattle.replay.proofs.Replaying.{Asks, plays_first, good_timer, limits_within, log_as_long, plays_in_bounds}
-use Rattle.replay.proofs.Replaying.{plays_refused, plays_ready, server_in_table, of_row, of_server, source_in_range, can_go, later_place}
+use Rattle.replay.specs.Arrays.{SourceOf}
+use Rattle.replay.proofs.Replaying.{plays_first, limits_within, log_as_long, plays_in_bounds}
+use Rattle.replay.proofs.Replaying.{plays_refused, plays_ready, row_in_table, server_in_table, of_row, of_server, source_in_range, can_go, later_place}
 use Rattle.replay.proofs.Replaying.{plays_stopped, plays_next}
-use Rattle.replay.proofs.Replaying.{PlaysWhole, plays_too_long, plays_whole, stopped_ends, full_ends, in_time_ends, late_ends}
+use Rattle.replay.proofs.Replaying.{plays_too_long, plays_whole, stopped_ends, full_ends, fit_ends}
 use Rattle.replay.proofs.play.Goals as goal
-use Rattle.replay.proofs.play.Goals.{else-number-count, then-number-count}
+use Rattle.replay.proofs.play.Goals.{else-number-table, then-number-table}
 
 pub overflow_add-in_use : goal.overflow_add-in_use
 overflow_add-in_use c = let known = facts _ c.requires in omega (arith, known.few_rows, known.few_servers)
 
 pub loop-at-init : goal.loop-at-init
-loop-at-init c =
-    let a = c.args in
-    plays_first a.script.now a.table a.log.now c.requires
+loop-at-init c = rw (c.empty.ensures, c.empty-2.ensures) (plays_first c.args.script.now c.args.table c.args.log.now c.requires)
 
 pub slice_bounds-limits-end : goal.slice_bounds-limits-end
 slice_bounds-limits-end c = limits_within c.loop-at.invariant c.cost_limits-limits.ensures
@@ -27,143 +25,94 @@ slice_bounds-limits-end c = limits_within c.loop-at.invariant c.cost_limits-limi
 pub slice_bounds-ready_at-end : goal.slice_bounds-ready_at-end
 slice_bounds-ready_at-end c = sym (length-take-le _ c.cost_limits-limits.result (limits_within c.loop-at.invariant c.cost_limits-limits.ensures))
 
--- Inside the loop the place is before the script's end.
-inside-at-In-Refused : (c : goal.In-Refused) → c.loop-at.at < length c.args.script.now
-inside-at-In-Refused c = omega (arith, c.loop-at-test.true)
-
-pub returns-in-Refused : goal.returns-in-Refused
-returns-in-Refused c =
+pub returns-in_err-ready : goal.returns-in_err-ready
+returns-in_err-ready c =
     let a = c.args in
-    stopped_ends a.script.now a.table a.log.now c.loop-at.log (log_as_long c.loop-at.invariant) _
-    (plays_refused c.loop-at.invariant (inside-at-In-Refused c) refl c.cost_limits-limits.ensures c.ready_at-tested.ensures c.in-Refused.is)
+    let p = err_from_is_err_and c.from_residual.result c.from_residual.ensures.1 in
+    rw (p.1, p.2)
+    (stopped_ends a.script.now a.table a.log.now c.loop-at.log (log_as_long c.loop-at.invariant) _
+    (plays_refused c.loop-at.invariant c.loop-at-test.true refl c.cost_limits-limits.ensures c.ready_at.ensures c.in_err-ready.was))
 
--- Inside the loop the place is before the script's end.
-inside-at-Else-number-count : (c : goal.Else-number-count) → c.loop-at.at < length c.args.script.now
-inside-at-Else-number-count c = omega (arith, c.loop-at-test.true)
+pub bounds-table-number : goal.bounds-table-number
+bounds-table-number c =
+    row_in_table c.loop-at.invariant
+    (plays_ready c.loop-at.invariant c.loop-at-test.true refl c.cost_limits-limits.ensures c.ready_at.ensures c.in_ok-ready.was) c.if-number-table.true
 
--- The record that passed its tests asks for a release.
-its_record-at-Else-number-count : (c : goal.Else-number-count) → Asks c.args.script.now c.loop-at.at c.loop-at.invariant.progress c.in-Ready.r
-its_record-at-Else-number-count c = plays_ready c.loop-at.invariant (inside-at-Else-number-count c) refl c.cost_limits-limits.ensures c.ready_at-tested.ensures c.in-Ready.is
-
-pub offset_bounds-table-place : goal.offset_bounds-table-place
-offset_bounds-table-place c = omega (arith, server_in_table c.loop-at.invariant (its_record-at-Else-number-count c))
+pub offset_bounds-table-number : goal.offset_bounds-table-number
+offset_bounds-table-number c = omega (arith, bounds-table-number c)
 
 pub bounds-table-place : goal.bounds-table-place
-bounds-table-place c = server_in_table c.loop-at.invariant (its_record-at-Else-number-count c)
+bounds-table-place c =
+    server_in_table c.loop-at.invariant
+    (plays_ready c.loop-at.invariant c.loop-at-test.true refl c.cost_limits-limits.ensures c.ready_at.ensures c.in_ok-ready.was)
 
--- Inside the loop the place is before the script's end.
-inside-at-After-play_record-arg-1 : (c : goal.After-play_record-arg-1) → c.loop-at.at < length c.args.script.now
-inside-at-After-play_record-arg-1 c = omega (arith, c.loop-at-test.true)
+pub offset_bounds-table-place : goal.offset_bounds-table-place
+offset_bounds-table-place c = omega (arith, bounds-table-place c)
 
--- The record that passed its tests asks for a release.
-its_record-at-After-play_record-arg-1 : (c : goal.After-play_record-arg-1) → Asks c.args.script.now c.loop-at.at c.loop-at.invariant.progress c.in-Ready.r
-its_record-at-After-play_record-arg-1 c = plays_ready c.loop-at.invariant (inside-at-After-play_record-arg-1 c) refl c.cost_limits-limits.ensures c.ready_at-tested.ensures c.in-Ready.is
+pub invariant_of-timer : goal.invariant_of-timer
+invariant_of-timer c = record { good = (facts _ c.requires).good_timer }
 
--- Where the branches meet, `source` is the row or the server that has the record's row number.
-its_source-at-After-play_record-arg-1 : (c : goal.After-play_record-arg-1) → SourceOf c.args.table c.in-Ready.r.row.0 c.if-number-count.source
-its_source-at-After-play_record-arg-1 c =
-    elim c.if-number-count.branch [ then-number-count w ↦ rw w.source-is (of_row c.loop-at.invariant (its_record-at-After-play_record-arg-1 c) w.if-number-count.true) | else-number-count w ↦ rw w.source-is (of_server c.loop-at.invariant (its_record-at-After-play_record-arg-1 c) w.if-number-count.false) ]
+pub play_record-requires : goal.play_record-requires
+play_record-requires c =
+    let asks = plays_ready c.loop-at.invariant c.loop-at-test.true refl c.cost_limits-limits.ensures c.ready_at.ensures c.in_ok-ready.was in
+    let its : SourceOf c.args.table c.in_ok-ready.ready.row.0 c.if-number-table.source =
+    elim c.if-number-table.branch [
+      | then-number-table w ↦ rw w.source-is (of_row c.loop-at.invariant asks w.if-number-table.true)
+      | else-number-table w ↦ rw w.source-is (of_server c.loop-at.invariant asks w.if-number-table.false)
+    ] in
+    (source_in_range c.loop-at.invariant asks c.if-number-table.source its, can_go c.loop-at.invariant asks)
 
-pub play_record-step-requires : goal.play_record-step-requires
-play_record-step-requires c = (
-  good_timer c.loop-at.invariant,
-  source_in_range c.loop-at.invariant (its_record-at-After-play_record-arg-1 c) c.if-number-count.source (its_source-at-After-play_record-arg-1 c),
-  can_go c.loop-at.invariant (its_record-at-After-play_record-arg-1 c),
-)
-
--- Inside the loop the place is before the script's end.
-inside-at-In-Refused-step : (c : goal.In-Refused-step) → c.loop-at.at < length c.args.script.now
-inside-at-In-Refused-step c = omega (arith, c.loop-at-test.true)
-
--- The record that passed its tests asks for a release.
-its_record-at-In-Refused-step : (c : goal.In-Refused-step) → Asks c.args.script.now c.loop-at.at c.loop-at.invariant.progress c.in-Ready.r
-its_record-at-In-Refused-step c = plays_ready c.loop-at.invariant (inside-at-In-Refused-step c) refl c.cost_limits-limits.ensures c.ready_at-tested.ensures c.in-Ready.is
-
--- The arrays after a record was played.
-abbrev after-at-In-Refused-step : goal.In-Refused-step → Lists
-after-at-In-Refused-step c =
-    let l = c.play_record-step.new in
-    lists l.serials l.rows l.releases l.dues l.left l.times l.many l.oldest
-    l.lasts l.log
-
--- Where the branches meet, `source` is the row or the server that has the record's row number.
-its_source-at-In-Refused-step : (c : goal.In-Refused-step) → SourceOf c.args.table c.in-Ready.r.row.0 c.if-number-count.source
-its_source-at-In-Refused-step c =
-    elim c.if-number-count.branch [ then-number-count w ↦ rw w.source-is (of_row c.loop-at.invariant (its_record-at-In-Refused-step c) w.if-number-count.true) | else-number-count w ↦ rw w.source-is (of_server c.loop-at.invariant (its_record-at-In-Refused-step c) w.if-number-count.false) ]
-
-pub returns-in-Refused-step : goal.returns-in-Refused-step
-returns-in-Refused-step c =
+pub returns-in_err-play_record : goal.returns-in_err-play_record
+returns-in_err-play_record c =
     let a = c.args in
-    stopped_ends a.script.now a.table a.log.now (after-at-In-Refused-step c).log (c.play_record-step.ensures.0 ∙ log_as_long c.loop-at.invariant) _
-    (plays_stopped c.loop-at.invariant (its_record-at-In-Refused-step c) (its_source-at-In-Refused-step c) (after-at-In-Refused-step c) c.play_record-step.result c.play_record-step.ensures.1 c.in-Refused-step.is)
-
--- Inside the loop the place is before the script's end.
-inside-at-In-Next : (c : goal.In-Next) → c.loop-at.at < length c.args.script.now
-inside-at-In-Next c = omega (arith, c.loop-at-test.true)
-
--- The record that passed its tests asks for a release.
-its_record-at-In-Next : (c : goal.In-Next) → Asks c.args.script.now c.loop-at.at c.loop-at.invariant.progress c.in-Ready.r
-its_record-at-In-Next c = plays_ready c.loop-at.invariant (inside-at-In-Next c) refl c.cost_limits-limits.ensures c.ready_at-tested.ensures c.in-Ready.is
-
--- Every element of the script is a byte.
-bytes : (c : goal.In-Next) → Bytes c.args.script.now
-bytes c i = omega (arith, c.type_inv.script i)
+    let p = err_from_is_err_and c.from_residual-in_err-play_record.result c.from_residual-in_err-play_record.ensures.1 in
+    let asks = plays_ready c.loop-at.invariant c.loop-at-test.true refl c.cost_limits-limits.ensures c.ready_at.ensures c.in_ok-ready.was in
+    let its : SourceOf a.table c.in_ok-ready.ready.row.0 c.if-number-table.source =
+    elim c.if-number-table.branch [
+      | then-number-table w ↦ rw w.source-is (of_row c.loop-at.invariant asks w.if-number-table.true)
+      | else-number-table w ↦ rw w.source-is (of_server c.loop-at.invariant asks w.if-number-table.false)
+    ] in
+    rw (p.1, p.2)
+    (stopped_ends a.script.now a.table a.log.now c.play_record.new.log (c.play_record.ensures.0 ∙ log_as_long c.loop-at.invariant) _
+    (plays_stopped c.loop-at.invariant asks its _ _ c.play_record.result c.play_record.ensures.1 c.in_err-play_record.was))
 
 pub loop-at-smaller : goal.loop-at-smaller
 loop-at-smaller c =
-    let later = later_place c.loop-at.invariant (its_record-at-In-Next c) (bytes c) in
+    let asks = plays_ready c.loop-at.invariant c.loop-at-test.true refl c.cost_limits-limits.ensures c.ready_at.ensures c.in_ok-ready.was in
+    let later = later_place c.loop-at.invariant asks (λ i. (c.type_inv.script i).fits) in
     omega (arith, later)
-
--- Where the branches meet, `source` is the row or the server that has the record's row number.
-its_source-at-In-Next : (c : goal.In-Next) → SourceOf c.args.table c.in-Ready.r.row.0 c.if-number-count.source
-its_source-at-In-Next c =
-    elim c.if-number-count.branch [ then-number-count w ↦ rw w.source-is (of_row c.loop-at.invariant (its_record-at-In-Next c) w.if-number-count.true) | else-number-count w ↦ rw w.source-is (of_server c.loop-at.invariant (its_record-at-In-Next c) w.if-number-count.false) ]
-
--- The arrays after a record was played.
-abbrev after-at-In-Next : goal.In-Next → Lists
-after-at-In-Next c =
-    let l = c.play_record-step.new in
-    lists l.serials l.rows l.releases l.dues l.left l.times l.many l.oldest
-    l.lasts l.log
 
 pub loop-at-preserved : goal.loop-at-preserved
 loop-at-preserved c =
-    plays_next c.loop-at.invariant (its_record-at-In-Next c) (its_source-at-In-Next c) (after-at-In-Next c) c.play_record-step.result c.play_record-step.ensures.1 c.in-Next.is
-    (bytes c)
+    let asks = plays_ready c.loop-at.invariant c.loop-at-test.true refl c.cost_limits-limits.ensures c.ready_at.ensures c.in_ok-ready.was in
+    let its : SourceOf c.args.table c.in_ok-ready.ready.row.0 c.if-number-table.source =
+    elim c.if-number-table.branch [
+      | then-number-table w ↦ rw w.source-is (of_row c.loop-at.invariant asks w.if-number-table.true)
+      | else-number-table w ↦ rw w.source-is (of_server c.loop-at.invariant asks w.if-number-table.false)
+    ] in
+    plays_next c.loop-at.invariant asks its _ _ c.play_record.result c.play_record.ensures.1 c.in_ok-play_record.was (λ i. (c.type_inv.script i).fits)
 
-pub run_until-reached-requires : goal.run_until-reached-requires
-run_until-reached-requires c = (omega arith, good_timer c.loop-at.invariant, plays_in_bounds c.loop-at.invariant)
+pub invariant_of-timer-2 : goal.invariant_of-timer-2
+invariant_of-timer-2 c = record { good = (facts _ c.requires).good_timer }
 
-pub returns-then-reached-gt0 : goal.returns-then-reached-gt0
-returns-then-reached-gt0 c =
+pub run_until-requires : goal.run_until-requires
+run_until-requires c = (omega arith, plays_in_bounds c.loop-at.invariant)
+
+pub returns-then-going-gt0 : goal.returns-then-going-gt0
+returns-then-going-gt0 c =
     let a = c.args in
-    let ran = c.run_until-reached in
-    stopped_ends a.script.now a.table a.log.now ran.new.log (ran.ensures.0 ∙ log_as_long c.loop-at.invariant) _
-    (plays_too_long c.loop-at.invariant (omega (arith, c.loop-at-test.false)) ran.ensures.1 c.if-reached-gt0.true)
+    let ran = c.run_until in
+    rw c.at.ensures
+    (stopped_ends a.script.now a.table a.log.now ran.new.log (ran.ensures.0 ∙ log_as_long c.loop-at.invariant) _
+    (plays_too_long c.loop-at.invariant (omega (arith, c.loop-at-test.false)) ran.ensures.1 c.if-going-gt0.true))
 
--- Where nothing is pending after the final ticks, the play came to its end.
-all-at-Then-reached : (c : goal.Then-reached) → (let ran = c.run_until-reached in
-    let a = c.args in
-    PlaysWhole a.script.now a.table a.log.now ran.new.log (logged_by ran.result))
-all-at-Then-reached c = plays_whole c.loop-at.invariant (omega (arith, c.loop-at-test.false)) c.run_until-reached.ensures.1 (omega (arith, c.if-reached-gt0.false))
-
-pub returns-then-reached : goal.returns-then-reached
-returns-then-reached c = full_ends (all-at-Then-reached c) c.if-reached.true
-
--- Where nothing is pending after the final ticks, the play came to its end.
-all-at-Then-reached-eq0 : (c : goal.Then-reached-eq0) → (let ran = c.run_until-reached in
-    let a = c.args in
-    PlaysWhole a.script.now a.table a.log.now ran.new.log (logged_by ran.result))
-all-at-Then-reached-eq0 c = plays_whole c.loop-at.invariant (omega (arith, c.loop-at-test.false)) c.run_until-reached.ensures.1 (omega (arith, c.if-reached-gt0.false))
-
-pub returns-then-reached-eq0 : goal.returns-then-reached-eq0
-returns-then-reached-eq0 c = in_time_ends (all-at-Then-reached-eq0 c) c.if-reached.false c.if-reached-eq0.true
-
--- Where nothing is pending after the final ticks, the play came to its end.
-all-at-Else-reached-eq0 : (c : goal.Else-reached-eq0) → (let ran = c.run_until-reached in
-    let a = c.args in
-    PlaysWhole a.script.now a.table a.log.now ran.new.log (logged_by ran.result))
-all-at-Else-reached-eq0 c = plays_whole c.loop-at.invariant (omega (arith, c.loop-at-test.false)) c.run_until-reached.ensures.1 (omega (arith, c.if-reached-gt0.false))
+pub returns-then-going : goal.returns-then-going
+returns-then-going c =
+    rw c.at-then-going.ensures
+    (full_ends (plays_whole c.loop-at.invariant (omega (arith, c.loop-at-test.false)) c.run_until.ensures.1 (omega (arith, c.if-going-gt0.false)))
+    c.if-going.true)
 
 pub returns : goal.returns
-returns c = late_ends (all-at-Else-reached-eq0 c) c.if-reached.false c.if-reached-eq0.false
+returns c =
+    fit_ends (plays_whole c.loop-at.invariant (omega (arith, c.loop-at-test.false)) c.run_until.ensures.1 (omega (arith, c.if-going-gt0.false)))
+    c.if-going.false

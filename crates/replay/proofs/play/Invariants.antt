@@ -2,13 +2,12 @@
 -- The measure is the number of bytes of the script that are left.
 use Prim.Native.Nat.{◌-◌}
 use lib.ListN.{length}
-use Rattle.replay.specs.Arrays.{lists}
 use Rattle.replay.proofs.Replaying.{Plays}
 use Rattle.replay.proofs.play.Given as goal
 
 abbrev pub invariant-loop-at : goal.invariant-loop-at
 invariant-loop-at l =
-    Plays l.script l.table l.initial.log (lists l.serials l.rows l.releases l.dues l.left l.times l.many l.oldest l.lasts l.log) l.going l.at
+    Plays l.script l.table l.initial.log l.log l.going l.at
 
 abbrev pub decreases-loop-at : goal.decreases-loop-at
 decreases-loop-at l =

@@ -1,130 +1,67 @@
 -- `script::choose` meets its contract: times above 2^40 are refused first, and then what is read at the start of each script decides.
-use Prim.Native.Nat.{◌≤◌}
-use mathlib.Core.Path.{◌≡◌, refl, sym, ◌∙◌}
-use Rattle.numbers.specs.Spelling.{max_number}
-use Rattle.script.specs.declared.RecordAt.{RecordAt}
-use Rattle.script.specs.declared.RecordRead.{RecordRead}
-use Rattle.script.specs.declared.RecordRead.TheVariants as read
-use Rattle.script.specs.declared.Chosen.{Chosen}
-use Rattle.script.specs.Chooser.{comes_next, chosen}
+use Rattle.std.specs.Prelude.{Ok, Err}
+use mathlib.Core.Path.{refl, sym, ap, ◌∙◌}
 use Rattle.script.proofs.Records.{record_stands}
-use Rattle.script.proofs.Chooser.{first_too_late, second_too_late, by_records}
+use Rattle.std.proofs.Common.{rules}
+use Rattle.std.proofs.lemmas.Result.{err_from_is_err_and}
+use Rattle.script.proofs.Chooser.{read_as_found, refused_as_read, first_too_late, second_too_late, by_records}
 use Rattle.script.proofs.choose.Goals as goal
 
 pub returns-then-first_time-gt-MAX : goal.returns-then-first_time-gt-MAX
 returns-then-first_time-gt-MAX c = c.too_late.ensures ∙ sym (first_too_late _ _ _ _ c.if-first_time-gt-MAX.true)
 
 pub returns-then-second_time-gt-MAX : goal.returns-then-second_time-gt-MAX
-returns-then-second_time-gt-MAX c = c.too_late-then-second_time-gt-MAX.ensures ∙ sym (second_too_late _ _ _ _ c.if-first_time-gt-MAX.false c.if-second_time-gt-MAX.true)
+returns-then-second_time-gt-MAX c =
+    c.too_late-then-second_time-gt-MAX.ensures ∙ sym (second_too_late _ _ _ _ c.if-first_time-gt-MAX.false c.if-second_time-gt-MAX.true)
 
--- The gap of a record at the start of the first script is at most 2^42 − 1.
-first_gap : (c : goal.In-Record-other) {a : RecordAt} → c.record_at-one.result ≡ read.Record a → a.release.gap ≤ max_number
-first_gap c e =
-    (record_stands c.args.first.now 0 _ (λ i. (c.type_inv.first i).fits) (sym c.record_at-one.ensures ∙ e)).in_range.gap
+-- Where the first script's record can't be read, its refusal is the answer.
+pub returns-in_err-one : goal.returns-in_err-one
+returns-in_err-one c =
+    let refused = refused_as_read _ _ _ c.map_err.ensures.cases (λ r q e. search rules) c.in_err-one.was in
+    let answer = err_from_is_err_and c.from_residual.result c.from_residual.ensures.1 in
+    let one = sym c.record_at.ensures ∙ refused.1 in
+    answer.1 ∙ ap Err (answer.2 ∙ refused.2) ∙ sym (by_records _ _ _ _ c.if-first_time-gt-MAX.false c.if-second_time-gt-MAX.false one refl)
 
--- The gap of a record at the start of the second script is at most 2^42 − 1.
-second_gap : (c : goal.In-Record-other) {b : RecordAt} → c.record_at-other.result ≡ read.Record b → b.release.gap ≤ max_number
-second_gap c e =
-    (record_stands c.args.second.now 0 _ (λ i. (c.type_inv.second i).fits) (sym c.record_at-other.ensures ∙ e)).in_range.gap
+-- Where only the second script's record can't be read, its refusal is the answer.
+pub returns-in_err-other : goal.returns-in_err-other
+returns-in_err-other c =
+    let refused = refused_as_read _ _ _ c.map_err-2.ensures.cases (λ r q e. search rules) c.in_err-other.was in
+    let answer = err_from_is_err_and c.from_residual-in_err-other.result c.from_residual-in_err-other.ensures.1 in
+    let one = sym c.record_at.ensures ∙ read_as_found _ _ _ c.map_err.ensures.cases c.in_ok-one.was in
+    let other = sym c.record_at-2.ensures ∙ refused.1 in
+    answer.1 ∙ ap Err (answer.2 ∙ refused.2) ∙ sym (by_records _ _ _ _ c.if-first_time-gt-MAX.false c.if-second_time-gt-MAX.false one other)
 
+-- A record that was read has a gap of at most 2^42 − 1, so that its time can be made.
 pub earlier-requires : goal.earlier-requires
 earlier-requires c =
-    (c.if-first_time-gt-MAX.false, c.if-second_time-gt-MAX.false, first_gap c c.in-Record.is, second_gap c c.in-Record-other.is)
+    let one = sym c.record_at.ensures ∙ read_as_found _ _ _ c.map_err.ensures.cases c.in_ok-one.was ∙ ap Ok c.in-Some-Some.is-0 in
+    let other = sym c.record_at-2.ensures ∙ read_as_found _ _ _ c.map_err-2.ensures.cases c.in_ok-other.was ∙ ap Ok c.in-Some-Some.is-1 in (
+      c.if-first_time-gt-MAX.false,
+      c.if-second_time-gt-MAX.false,
+      (record_stands _ 0 _ (λ i. (c.type_inv.first i).fits) one).in_range.gap,
+      (record_stands _ 0 _ (λ i. (c.type_inv.second i).fits) other).in_range.gap,
+    )
 
--- After both scripts were read, the answer by what was read is the chooser's answer.
-as_read-at-After-refused_in : (c : goal.After-refused_in) {one other : RecordRead} {answer : Chosen} → c.record_at-one.result ≡ one → c.record_at-other.result ≡ other
-    → (let a = c.args in
-    answer ≡ comes_next one other a.first_time.0 a.second_time.0
-    → answer ≡ chosen a.first.now a.second.now a.first_time.0 a.second_time.0)
-as_read-at-After-refused_in c p q e =
-    let one_read = sym c.record_at-one.ensures ∙ p in
-    let other_read = sym c.record_at-other.ensures ∙ q in
-    e ∙ sym (by_records _ _ _ _ c.if-first_time-gt-MAX.false c.if-second_time-gt-MAX.false one_read other_read)
+pub returns-in-Some-Some : goal.returns-in-Some-Some
+returns-in-Some-Some c =
+    let one = sym c.record_at.ensures ∙ read_as_found _ _ _ c.map_err.ensures.cases c.in_ok-one.was ∙ ap Ok c.in-Some-Some.is-0 in
+    let other = sym c.record_at-2.ensures ∙ read_as_found _ _ _ c.map_err-2.ensures.cases c.in_ok-other.was ∙ ap Ok c.in-Some-Some.is-1 in
+    c.earlier.ensures ∙ sym (by_records _ _ _ _ c.if-first_time-gt-MAX.false c.if-second_time-gt-MAX.false one other)
 
-pub returns-in-Refused : goal.returns-in-Refused
-returns-in-Refused c =
-    as_read-at-After-refused_in c c.in-Refused.is refl c.refused_in.ensures
+pub returns-in-Some-None : goal.returns-in-Some-None
+returns-in-Some-None c =
+    let one = sym c.record_at.ensures ∙ read_as_found _ _ _ c.map_err.ensures.cases c.in_ok-one.was ∙ ap Ok c.in-Some-None.is-0 in
+    let other = sym c.record_at-2.ensures ∙ read_as_found _ _ _ c.map_err-2.ensures.cases c.in_ok-other.was ∙ ap Ok c.in-Some-None.is-1 in
+    c.next_of.ensures ∙ sym (by_records _ _ _ _ c.if-first_time-gt-MAX.false c.if-second_time-gt-MAX.false one other)
 
--- After both scripts were read, the answer by what was read is the chooser's answer.
-as_read-at-After-refused_in-in-Refused-other : (c : goal.After-refused_in-in-Refused-other) {one other : RecordRead} {answer : Chosen} → c.record_at-one.result ≡ one → c.record_at-other.result ≡ other
-    → (let a = c.args in
-    answer ≡ comes_next one other a.first_time.0 a.second_time.0
-    → answer ≡ chosen a.first.now a.second.now a.first_time.0 a.second_time.0)
-as_read-at-After-refused_in-in-Refused-other c p q e =
-    let one_read = sym c.record_at-one.ensures ∙ p in
-    let other_read = sym c.record_at-other.ensures ∙ q in
-    e ∙ sym (by_records _ _ _ _ c.if-first_time-gt-MAX.false c.if-second_time-gt-MAX.false one_read other_read)
+pub returns-in-None-Some : goal.returns-in-None-Some
+returns-in-None-Some c =
+    let one = sym c.record_at.ensures ∙ read_as_found _ _ _ c.map_err.ensures.cases c.in_ok-one.was ∙ ap Ok c.in-None-Some.is-0 in
+    let other = sym c.record_at-2.ensures ∙ read_as_found _ _ _ c.map_err-2.ensures.cases c.in_ok-other.was ∙ ap Ok c.in-None-Some.is-1 in
+    c.next_of-in-None-Some.ensures ∙ sym (by_records _ _ _ _ c.if-first_time-gt-MAX.false c.if-second_time-gt-MAX.false one other)
 
-pub returns-in-Refused-other : goal.returns-in-Refused-other
-returns-in-Refused-other c =
-    as_read-at-After-refused_in-in-Refused-other c c.in-Record.is c.in-Refused-other.is c.refused_in-in-Refused-other.ensures
-
--- After both scripts were read, the answer by what was read is the chooser's answer.
-as_read-at-After-earlier : (c : goal.After-earlier) {one other : RecordRead} {answer : Chosen} → c.record_at-one.result ≡ one → c.record_at-other.result ≡ other
-    → (let a = c.args in
-    answer ≡ comes_next one other a.first_time.0 a.second_time.0
-    → answer ≡ chosen a.first.now a.second.now a.first_time.0 a.second_time.0)
-as_read-at-After-earlier c p q e =
-    let one_read = sym c.record_at-one.ensures ∙ p in
-    let other_read = sym c.record_at-other.ensures ∙ q in
-    e ∙ sym (by_records _ _ _ _ c.if-first_time-gt-MAX.false c.if-second_time-gt-MAX.false one_read other_read)
-
-pub returns-in-Record-other : goal.returns-in-Record-other
-returns-in-Record-other c =
-    as_read-at-After-earlier c c.in-Record.is c.in-Record-other.is c.earlier.ensures
-
--- After both scripts were read, the answer by what was read is the chooser's answer.
-as_read-at-After-next_of : (c : goal.After-next_of) {one other : RecordRead} {answer : Chosen} → c.record_at-one.result ≡ one → c.record_at-other.result ≡ other
-    → (let a = c.args in
-    answer ≡ comes_next one other a.first_time.0 a.second_time.0
-    → answer ≡ chosen a.first.now a.second.now a.first_time.0 a.second_time.0)
-as_read-at-After-next_of c p q e =
-    let one_read = sym c.record_at-one.ensures ∙ p in
-    let other_read = sym c.record_at-other.ensures ∙ q in
-    e ∙ sym (by_records _ _ _ _ c.if-first_time-gt-MAX.false c.if-second_time-gt-MAX.false one_read other_read)
-
-pub returns-in-End-other : goal.returns-in-End-other
-returns-in-End-other c =
-    as_read-at-After-next_of c c.in-Record.is c.in-End-other.is c.next_of.ensures
-
--- After both scripts were read, the answer by what was read is the chooser's answer.
-as_read-at-After-refused_in-in-Refused-other-2 : (c : goal.After-refused_in-in-Refused-other-2) {one other : RecordRead} {answer : Chosen} → c.record_at-one.result ≡ one → c.record_at-other.result ≡ other
-    → (let a = c.args in
-    answer ≡ comes_next one other a.first_time.0 a.second_time.0
-    → answer ≡ chosen a.first.now a.second.now a.first_time.0 a.second_time.0)
-as_read-at-After-refused_in-in-Refused-other-2 c p q e =
-    let one_read = sym c.record_at-one.ensures ∙ p in
-    let other_read = sym c.record_at-other.ensures ∙ q in
-    e ∙ sym (by_records _ _ _ _ c.if-first_time-gt-MAX.false c.if-second_time-gt-MAX.false one_read other_read)
-
-pub returns-in-Refused-other-2 : goal.returns-in-Refused-other-2
-returns-in-Refused-other-2 c =
-    as_read-at-After-refused_in-in-Refused-other-2 c c.in-End.is c.in-Refused-other-2.is c.refused_in-in-Refused-other-2.ensures
-
--- After both scripts were read, the answer by what was read is the chooser's answer.
-as_read-at-After-next_of-in-Record-other-2 : (c : goal.After-next_of-in-Record-other-2) {one other : RecordRead} {answer : Chosen} → c.record_at-one.result ≡ one → c.record_at-other.result ≡ other
-    → (let a = c.args in
-    answer ≡ comes_next one other a.first_time.0 a.second_time.0
-    → answer ≡ chosen a.first.now a.second.now a.first_time.0 a.second_time.0)
-as_read-at-After-next_of-in-Record-other-2 c p q e =
-    let one_read = sym c.record_at-one.ensures ∙ p in
-    let other_read = sym c.record_at-other.ensures ∙ q in
-    e ∙ sym (by_records _ _ _ _ c.if-first_time-gt-MAX.false c.if-second_time-gt-MAX.false one_read other_read)
-
-pub returns-in-Record-other-2 : goal.returns-in-Record-other-2
-returns-in-Record-other-2 c =
-    as_read-at-After-next_of-in-Record-other-2 c c.in-End.is c.in-Record-other-2.is c.next_of-in-Record-other-2.ensures
-
--- After both scripts were read, the answer by what was read is the chooser's answer.
-as_read-at-In-End-other-2 : (c : goal.In-End-other-2) {one other : RecordRead} {answer : Chosen} → c.record_at-one.result ≡ one → c.record_at-other.result ≡ other
-    → (let a = c.args in
-    answer ≡ comes_next one other a.first_time.0 a.second_time.0
-    → answer ≡ chosen a.first.now a.second.now a.first_time.0 a.second_time.0)
-as_read-at-In-End-other-2 c p q e =
-    let one_read = sym c.record_at-one.ensures ∙ p in
-    let other_read = sym c.record_at-other.ensures ∙ q in
-    e ∙ sym (by_records _ _ _ _ c.if-first_time-gt-MAX.false c.if-second_time-gt-MAX.false one_read other_read)
-
-pub returns-in-End-other-2 : goal.returns-in-End-other-2
-returns-in-End-other-2 c =
-    as_read-at-In-End-other-2 c c.in-End.is c.in-End-other-2.is refl
+pub returns-in-None-None : goal.returns-in-None-None
+returns-in-None-None c =
+    let one = sym c.record_at.ensures ∙ read_as_found _ _ _ c.map_err.ensures.cases c.in_ok-one.was ∙ ap Ok c.in-None-None.is-0 in
+    let other = sym c.record_at-2.ensures ∙ read_as_found _ _ _ c.map_err-2.ensures.cases c.in_ok-other.was ∙ ap Ok c.in-None-None.is-1 in
+    sym (by_records _ _ _ _ c.if-first_time-gt-MAX.false c.if-second_time-gt-MAX.false one other)

@@ -1,5 +1,5 @@
 -- `verdict::growth` meets its contract: the first loop adds the growths of the servers to that of the timer, and the second adds those of the rows to this sum.
-use Prim.Native.Nat.{ℕ, ◌+◌, ◌-◌, ◌*◌, ◌/◌}
+use Prim.Native.Nat.{ℕ, ◌+◌, ◌*◌, ◌/◌}
 use Rattle.theory.specs.Lists.{total}
 use Rattle.table.specs.declared.Table.{Table}
 use Rattle.table.specs.Tables.{servers_of}
@@ -19,11 +19,5 @@ base_growth t period = total (server_growth_in period) (servers_of t) + timer_gr
 abbrev pub invariant-loop-k : goal.invariant-loop-k
 invariant-loop-k l = Summed (server_growth_in l.period) l.table.servers l.table.serving (timer_growth l.table l.period) l.sum l.k
 
-abbrev pub decreases-loop-k : goal.decreases-loop-k
-decreases-loop-k l = l.serving - l.k
-
 abbrev pub invariant-loop-i : goal.invariant-loop-i
 invariant-loop-i l = Summed (growth_in l.period) l.table.rows l.table.count (base_growth l.table l.period) l.sum l.i
-
-abbrev pub decreases-loop-i : goal.decreases-loop-i
-decreases-loop-i l = l.count - l.i

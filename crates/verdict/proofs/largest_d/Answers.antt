@@ -3,7 +3,6 @@ use native.Mathlib.Omega.{arith}
 use Rattle.verdict.specs.Demand.{largest_of}
 use Rattle.verdict.proofs.Rows.{largest_more}
 use Rattle.verdict.proofs.largest_d.Goals as goal
-use Rattle.verdict.proofs.largest_d.Goals.{else-largest-row, then-largest-row}
 
 pub loop-i-init : goal.loop-i-init
 unfolding largest_of
@@ -12,4 +11,4 @@ loop-i-init c = (omega arith, refl)
 pub loop-i-preserved : goal.loop-i-preserved
 loop-i-preserved c =
     let more = largest_more c.requires _ c.loop-i-test.true in
-    elim c.if-largest-row.branch [ then-largest-row w ↦ omega arith | else-largest-row w ↦ omega arith ]
+    omega (arith, c.max-largest.ensures)

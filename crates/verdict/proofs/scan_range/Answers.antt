@@ -1,5 +1,4 @@
 use Prim.Native.Nat.{ℕ, ◌+◌, ◌*◌, ◌≤◌}
-use mathlib.Core.Path.{◌≡◌}
 use native.Mathlib.Omega.{arith}
 use borrow.Author.Count.{below_more}
 use Rattle.table.specs.declared.Table.{Table}
@@ -51,22 +50,14 @@ loop-i-preserved c =
     let in_range = c.requires.0 in
     rw c.row_demand-demand.ensures (summed_more no_row (row_places in_range) c.loop-i.invariant c.loop-i-test.true)
 
--- After the inner loops `demand` is the table's demand in this length.
-whole-at-Then-length-demand : (c : goal.Then-length-demand) → c.loop-i.demand ≡ table_demand c.args.table
-    c.loop-length.length
-unfolding table_demand
-whole-at-Then-length-demand c = all_summed c.loop-i.invariant c.loop-i-test.false
-
 pub returns-then-length-demand : goal.returns-then-length-demand
-returns-then-length-demand c =
-    let e = whole-at-Then-length-demand c in
-    (omega arith, omega arith, omega arith, e, λ M h k. c.loop-length.invariant.1 M k h)
-
--- After the inner loops `demand` is the table's demand in this length.
-whole-at-Else-length-demand : (c : goal.Else-length-demand) → c.loop-i.demand ≡ table_demand c.args.table
-    c.loop-length.length
 unfolding table_demand
-whole-at-Else-length-demand c = all_summed c.loop-i.invariant c.loop-i-test.false
+returns-then-length-demand c =
+    let whole = all_summed c.loop-i.invariant c.loop-i-test.false in
+    (omega arith, omega arith, omega (arith, whole), whole, λ M h k. c.loop-length.invariant.1 M k h)
 
 pub loop-length-preserved : goal.loop-length-preserved
-loop-length-preserved c = (omega arith, below_more _ _ c.loop-length.invariant.1 (λ h. omega (arith, whole-at-Else-length-demand c)))
+unfolding table_demand
+loop-length-preserved c =
+    let whole = all_summed c.loop-i.invariant c.loop-i-test.false in
+    (omega arith, below_more _ _ c.loop-length.invariant.1 (λ h. omega (arith, whole)))

@@ -1,6 +1,6 @@
 -- `verdict::scan_range` meets its contract: the outer loop passes lengths that fit. In one length, the first inner loop adds the demands of the servers to the
 -- ticks that the timer takes there, and the second adds those of the rows to this sum.
-use Prim.Native.Nat.{ℕ, ◌+◌, ◌-◌, ◌≤◌, ◌<◌}
+use Prim.Native.Nat.{ℕ, ◌+◌, ◌≤◌, ◌<◌}
 use Rattle.theory.specs.Lists.{total}
 use Rattle.theory.specs.Ticks.{timer_takes}
 use Rattle.table.specs.declared.Table.{Table}
@@ -23,18 +23,9 @@ abbrev pub invariant-loop-k : goal.invariant-loop-k
 invariant-loop-k l =
     Summed (server_demand_in l.length) l.table.servers l.table.serving (timer_part l.table l.length) l.demand l.k
 
-abbrev pub decreases-loop-k : goal.decreases-loop-k
-decreases-loop-k l = l.serving - l.k
-
 abbrev pub invariant-loop-i : goal.invariant-loop-i
 invariant-loop-i l =
     Summed (demand_in l.length) l.table.rows l.table.count (base_part l.table l.length) l.demand l.i
 
-abbrev pub decreases-loop-i : goal.decreases-loop-i
-decreases-loop-i l = l.count - l.i
-
 abbrev pub invariant-loop-length : goal.invariant-loop-length
 invariant-loop-length l = (l.first ≤ l.length) × ((L : ℕ) → L < l.length → l.first ≤ L → table_demand l.table L ≤ L)
-
-abbrev pub decreases-loop-length : goal.decreases-loop-length
-decreases-loop-length l = l.last + 1 - l.length

@@ -1,27 +1,30 @@
-use mathlib.Core.Path.{sym, ◌∙◌}
+use Prim.Native.Nat.{◌+◌, ◌-◌}
+use mathlib.Core.Path.{◌≡◌, sym, ◌∙◌}
 use native.Mathlib.Omega.{arith}
+use borrow.Author.Rules.{rules}
 use Rattle.columns.proofs.Finding.{looked_none, looked_more, looked_last}
 use Rattle.columns.proofs.places.place_for.Goals as goal
 
-pub loop-at-init : goal.loop-at-init
-loop-at-init c =
-    let a = c.args in (omega arith, omega arith, looked_none a.due a.serial a.dues.now a.serials.now a.first a.count c.requires)
+pub loop-last-init : goal.loop-last-init
+loop-last-init c =
+    let a = c.args in (omega arith, looked_none a.due a.serial a.dues.now a.serials.now (search rules) (search rules) a.first a.count c.requires)
 
 pub returns-then-not-goes_before : goal.returns-then-not-goes_before
 returns-then-not-goes_before c =
-    let k = c.loop-at in
-    let a = c.args in (
-      k.invariant.1,
-      looked_last a.due a.serial a.dues.now a.serials.now a.first a.count c.requires k.at c.loop-at-test.true
-          k.invariant.1 k.invariant.2 (sym c.goes_before.ensures ∙ c.if-not-goes_before.true),
+    let k = c.loop-last in
+    let a = c.args in
+    let behind : k.last - 1 + 1 ≡ k.last = omega (arith, c.loop-last-test.true) in
+    rw behind (
+      k.auto.last,
+      looked_last a.due a.serial a.dues.now a.serials.now (search rules) (search rules) a.first a.count c.requires k.last
+          c.loop-last-test.true k.auto.last k.invariant.1 (sym c.goes_before.ensures ∙ c.if-not-goes_before.true),
     )
 
-pub loop-at-preserved : goal.loop-at-preserved
-loop-at-preserved c =
-    let k = c.loop-at in
+pub loop-last-preserved : goal.loop-last-preserved
+loop-last-preserved c =
+    let k = c.loop-last in
     let a = c.args in (
-      omega arith,
-      omega arith,
-      looked_more a.due a.serial a.dues.now a.serials.now a.first a.count c.requires k.at c.loop-at-test.true
-          k.invariant.1 k.invariant.2 (sym c.goes_before.ensures ∙ c.if-not-goes_before.false),
+      omega (arith, c.loop-last-test.true),
+      looked_more a.due a.serial a.dues.now a.serials.now (search rules) (search rules) a.first a.count c.requires k.last
+          c.loop-last-test.true k.auto.last k.invariant.1 (sym c.goes_before.ensures ∙ c.if-not-goes_before.false),
     )

@@ -1,26 +1,21 @@
-use mathlib.Core.Bool.{true}
-use mathlib.Core.Path.{◌≡◌, sym, ◌∙◌}
+-- `run::soundness::rows_sound` meets its contract: it tests the rows one by one, each with its kept due times.
+use mathlib.Core.Path.{◌∙◌}
+use mathlib.Core.Bool.{◌&&◌}
+use borrow.Author.Rules.{rules}
+use borrow.Author.Tests.{tests}
+use Rattle.std.proofs.lemmas.Iterator.{YieldsList-from_slice, YieldsList-from_zip}
+use Rattle.std.proofs.lemmas.Iterator.Search.{all_from_yields_List}
+use Rattle.table.specs.declared.Row.{Row}
 use Rattle.table.specs.Rows.{row_acceptable}
-use Rattle.run.specs.Runs.{row_at}
-use Rattle.run.proofs.Sound.{row_unacceptable, kept_unsound, row_sound}
+use Rattle.due.specs.declared.Kept.{Kept}
+use Rattle.due.specs.Kept.{kept_sound}
+use Rattle.run.proofs.Sound.{rows_tested}
 use Rattle.run.proofs.soundness.rows_sound.Goals as goal
 
-pub returns-then-not-acceptable : goal.returns-then-not-acceptable
-returns-then-not-acceptable c =
-    row_unacceptable c.loop-i.invariant c.loop-i-test.true (sym c.acceptable.ensures ∙ c.if-not-acceptable.true)
-
--- A row that passed the test is one that a table may have.
-acceptable-at-Then-not-sound : (c : goal.Then-not-sound) → (row_acceptable (row_at c.args.table c.loop-i.i) ≡ true)
-acceptable-at-Then-not-sound c = sym c.acceptable.ensures ∙ c.if-not-acceptable.false
-
-pub returns-then-not-sound : goal.returns-then-not-sound
-returns-then-not-sound c =
-    kept_unsound c.loop-i.invariant c.loop-i-test.true (acceptable-at-Then-not-sound c) (sym c.sound.ensures ∙ c.if-not-sound.true)
-
--- A row that passed the test is one that a table may have.
-acceptable-at-Else-not-sound : (c : goal.Else-not-sound) → (row_acceptable (row_at c.args.table c.loop-i.i) ≡ true)
-acceptable-at-Else-not-sound c = sym c.acceptable.ensures ∙ c.if-not-acceptable.false
-
-pub loop-i-preserved : goal.loop-i-preserved
-loop-i-preserved c =
-    row_sound c.loop-i.invariant c.loop-i-test.true (acceptable-at-Else-not-sound c) (sym c.sound.ensures ∙ c.if-not-sound.false)
+pub returns : goal.returns
+returns c =
+    all_from_yields_List (λ (p : Row × Kept). row_acceptable p.0 && kept_sound p.1 p.0) c.all.new.self _ c.all.result c.all.ensures.ran
+    (YieldsList-from_zip (YieldsList-from_slice c.args.rows.now (rw c.zip.ensures.first c.iter.ensures.rest))
+    (YieldsList-from_slice c.args.kept.now c.zip.ensures.second.0))
+    (λ x b q h. search (rules, tests))
+    ∙ rows_tested c.args.rows.now c.args.kept.now

@@ -1,18 +1,22 @@
-use mathlib.Core.Bool.{true}
-use mathlib.Core.Path.{◌≡◌, sym, ◌∙◌}
-use lib.ListN.{get_or}
-use Rattle.table.specs.Servers.{server_in_range, no_server}
-use Rattle.run.proofs.Sound.{server_out_of_range, last_too_late}
+-- `run::soundness::servers_sound` meets its contract: it tests the servers one by one, each with its last due time.
+use mathlib.Core.Path.{◌∙◌}
+use mathlib.Core.Bool.{◌&&◌}
+use borrow.Author.Rules.{rules}
+use borrow.Author.Tests.{tests}
+use Rattle.std.proofs.lemmas.Iterator.{YieldsList-from_slice, YieldsList-from_zip}
+use Rattle.std.proofs.lemmas.Iterator.Search.{all_from_yields_List}
+use lib.Dec.{leb}
+use Rattle.kinds.specs.Numbering.{max_time}
+use Rattle.kinds.specs.declared.Tick.{Tick}
+use Rattle.table.specs.declared.Server.{Server}
+use Rattle.table.specs.Servers.{server_in_range}
+use Rattle.run.proofs.Sound.{servers_tested}
 use Rattle.run.proofs.soundness.servers_sound.Goals as goal
 
-pub returns-then-not-in_range : goal.returns-then-not-in_range
-returns-then-not-in_range c =
-    server_out_of_range c.loop-k.invariant c.loop-k-test.true (sym c.in_range.ensures ∙ c.if-not-in_range.true)
-
--- A server that passed the test is one that a table may have.
-in_range-at-Then-due-gt-MAX : (c : goal.Then-due-gt-MAX) → server_in_range (get_or c.args.servers c.loop-k.k no_server) ≡ true
-in_range-at-Then-due-gt-MAX c = sym c.in_range.ensures ∙ c.if-not-in_range.false
-
-pub returns-then-due-gt-MAX : goal.returns-then-due-gt-MAX
-returns-then-due-gt-MAX c =
-    last_too_late c.loop-k.invariant c.loop-k-test.true (in_range-at-Then-due-gt-MAX c) c.if-due-gt-MAX.true
+pub returns : goal.returns
+returns c =
+    all_from_yields_List (λ (p : Server × Tick). server_in_range p.0 && leb p.1.0 max_time) c.all.new.self _ c.all.result c.all.ensures.ran
+    (YieldsList-from_zip (YieldsList-from_slice c.args.servers.now (rw c.zip.ensures.first c.iter.ensures.rest))
+    (YieldsList-from_slice c.args.last.now c.zip.ensures.second.0))
+    (λ x b q h. search (rules, tests))
+    ∙ servers_tested c.args.servers.now c.args.last.now

@@ -1,21 +1,18 @@
+use Rattle.std.specs.Prelude.{min}
 use Prim.Native.Nat.{ℕ, ◌+◌, ◌-◌, ◌≤◌, ◌<◌}
 use mathlib.Core.Path.{◌≡◌, sym, ap, ap₂, ◌∙◌}
-use mathlib.Core.Bool.{true, false, ◌&&◌}
 use mathlib.Core.List.{List, ◌++◌, map-append}
 use native.Mathlib.Decide.{dec_le}
 use native.Mathlib.Numerals.{add-one}
 use native.Mathlib.Omega.{arith}
-use lib.Dec.{ltb}
 use lib.ListN.{length, take, get_or, set, replicate, length-set, take-append-drop}
 use lib.Seq.{take_all, take-suc, take-suc-set, length-take-le}
 use borrow.Author.Rules.{rules}
-use borrow.Author.Tests.{lt-ltb, ltb-true, ltb-false}
 use Rattle.kinds.proofs.Lists.{length_mapped}
 use Rattle.table.specs.declared.Table.{Table}
 use Rattle.table.specs.Limits.{max_rows, max_sources, max_c}
 use Rattle.table.specs.Tables.{no_row, rows_of}
 use Rattle.table.specs.Costs.{cs_of, held_limits}
-use Rattle.table.proofs.Ranges.{both_true}
 use Rattle.table.proofs.Reading.{unused_more}
 use Rattle.table.proofs.Table.cost_limits.Invariants.{LimitsSoFar}
 use Rattle.table.proofs.Table.cost_limits.Goals as goal
@@ -32,26 +29,25 @@ module _ {t : Table} {limits : List ℕ} {i : ℕ} (places : length t.rows ≡ m
   }
 
   -- If the loop has ended, the rows passed are the rows in use.
-  all_passed : (ltb i t.count && ltb i max_rows) ≡ false → take i t.rows ≡ rows_of t
-  all_passed ended = elim (dec_le t.count i) [
+  all_passed : min t.count max_rows ≤ i → take i t.rows ≡ rows_of t
+  all_passed ended = elim (dec_le t.count max_rows) [
     | yes h ↦ let all : i ≡ t.count = omega (arith, p.not_past) in ap (λ (n : ℕ). take n t.rows) all
-    | no h ↦
-        let full : max_rows ≤ i = ltb-false i max_rows (rw (lt-ltb i t.count (omega arith)) at ended) in
-        take_all i t.rows (omega arith) ∙ sym (take_all t.count t.rows (omega arith))
+    | no h ↦ take_all i t.rows (omega arith) ∙ sym (take_all t.count t.rows (omega arith))
   ]
 
   -- Then all limits are written.
-  all_written : (ltb i t.count && ltb i max_rows) ≡ false → limits ≡ held_limits t
+  pub all_written : min t.count max_rows ≤ i → limits ≡ held_limits t
   all_written ended =
       let same = all_passed ended in
       let long : length (rows_of t) ≡ i = ap length (sym same) ∙ length-take-le i t.rows (omega (arith, p.few)) in
       sym (take-append-drop i limits) ∙ ap₂ (◌++◌) (p.so_far ∙ ap cs_of same) (p.behind ∙ ap (λ (n : ℕ). replicate (max_sources - n) max_c) (sym long))
 
--- While the loop goes on, row i is in use, and a table has room for it.
-goes_on : (i count : ℕ) → (ltb i count && ltb i max_rows) ≡ true → (i < count) × (i < max_rows)
-goes_on i count e = let both = both_true (ltb i count) (ltb i max_rows) e in (ltb-true i count both.0, ltb-true i max_rows both.1)
-
 pub loop-i-preserved : goal.loop-i-preserved
 loop-i-preserved c =
-    let next = goes_on _ _ c.loop-i-test.true in
-    one_more (search (rules, length_mapped)) c.loop-i.invariant next.0 next.1
+    let below : c.loop-i.i < min c.args.self.count max_rows = rw c.min-i-end.ensures at c.loop-i-test.true in
+    one_more (search (rules, length_mapped)) c.loop-i.invariant (omega (arith, below)) (omega (arith, below))
+
+pub returns : goal.returns
+returns c =
+    let ended : min c.args.self.count max_rows ≤ c.loop-i.i = rw c.min-i-end.ensures at c.loop-i-test.false in
+    all_written (search rules) c.loop-i.invariant ended

@@ -18,6 +18,3 @@ pub record LimitsSoFar (t : Table) (limits : List ℕ) (i : ℕ) : Type 0 where
 
 abbrev pub invariant-loop-i : goal.invariant-loop-i
 invariant-loop-i l = LimitsSoFar l.self l.limits l.i
-
-abbrev pub decreases-loop-i : goal.decreases-loop-i
-decreases-loop-i l = max_rows - l.i

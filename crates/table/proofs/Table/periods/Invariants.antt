@@ -1,6 +1,6 @@
 -- `Table::periods` meets its contract. The first loop's invariant is `YsWritten`: p and, behind it, the y of each row passed are written. The second loop's is
 -- `BsWritten`: behind the y of every row in use, the b of each server passed is written.
-use Prim.Native.Nat.{ℕ, ◌+◌, ◌-◌, ◌≤◌}
+use Prim.Native.Nat.{ℕ, ◌+◌, ◌≤◌}
 use mathlib.Core.Path.{◌≡◌}
 use mathlib.Core.List.{List, ◌∷◌, ◌++◌}
 use lib.ListN.{length, take}
@@ -25,11 +25,5 @@ pub record BsWritten (t : Table) (periods : List ℕ) (k : ℕ) : Type 0 where
 abbrev pub invariant-loop-i : goal.invariant-loop-i
 invariant-loop-i l = YsWritten l.self l.periods l.i
 
-abbrev pub decreases-loop-i : goal.decreases-loop-i
-decreases-loop-i l = l.count - l.i
-
 abbrev pub invariant-loop-k : goal.invariant-loop-k
 invariant-loop-k l = BsWritten l.self l.periods l.k
-
-abbrev pub decreases-loop-k : goal.decreases-loop-k
-decreases-loop-k l = l.self.serving - l.k

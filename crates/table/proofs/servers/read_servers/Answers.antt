@@ -1,26 +1,18 @@
-use mathlib.Core.Path.{◌≡◌, sym, ◌∙◌}
-use Rattle.numbers.specs.declared.NumberRead.TheVariants as number
-use Rattle.numbers.specs.Reading.{read_at}
-use Rattle.table.proofs.ReadingServers.{no_server_read}
-use Rattle.table.proofs.ReadingServers.{server_more, server_refused, all_servers_read}
+use Rattle.std.proofs.lemmas.Result.{err_from_is_err_and}
+use mathlib.Core.Path.{sym}
+use Rattle.table.proofs.ReadingServers.{no_server_read, server_more, server_refused, all_servers_read}
 use Rattle.table.proofs.servers.read_servers.Goals as goal
 
--- The server count is read.
-counted-at-Else-count : (c : goal.Else-count) → (let a = c.args in read_at a.bytes.now a.at ≡ number.Number c.in-Number.n)
-counted-at-Else-count c = sym c.read.ensures ∙ c.in-Number.is
-
 pub loop-i-init : goal.loop-i-init
-loop-i-init c = no_server_read _ _ _ (counted-at-Else-count c) c.if-count.false
+loop-i-init c = no_server_read _ _ _ (sym c.in_ok-count.ensures) c.if-count.false
 
-pub returns-in-Refused-read_server : goal.returns-in-Refused-read_server
-returns-in-Refused-read_server c =
-    let answered = sym c.read_server.ensures ∙ c.in-Refused-read_server.is in
-    c.refused_servers-in-Refused-read_server.ensures ∙ server_refused c.loop-i.invariant _ c.loop-i-test.true answered
+pub returns-in_err-read : goal.returns-in_err-read
+returns-in_err-read c =
+    let p = err_from_is_err_and c.from_residual-in_err-read.result c.from_residual-in_err-read.ensures.1 in
+    rw (p.1, p.2) (server_refused c.loop-i.invariant _ c.loop-i-test.true (sym c.in_err-read.ensures))
 
 pub loop-i-preserved : goal.loop-i-preserved
-loop-i-preserved c =
-    let answered = sym c.read_server.ensures ∙ c.in-Server.is in
-    server_more c.loop-i.invariant _ c.loop-i-test.true answered
+loop-i-preserved c = server_more c.loop-i.invariant _ c.loop-i-test.true (sym c.in_ok-read.ensures)
 
 pub returns : goal.returns
 returns c = all_servers_read c.loop-i.invariant c.loop-i-test.false

@@ -2,13 +2,13 @@
 use Prim.Native.Nat.{◌+◌, ◌-◌, ◌≤◌}
 use mathlib.Core.Path.{◌≡◌}
 use lib.ListN.{length}
-use Rattle.verdict.specs.HeldTerms.{held_demand}
 use Rattle.verdict.specs.Blocks.{block_size}
+use Rattle.verdict.specs.Searched.{held_by}
 use Rattle.verdict.proofs.Searches.{FitsBelow}
 use Rattle.verdict.proofs.blocks.blocks.Given as goal
 
 abbrev pub invariant-loop-base : goal.invariant-loop-base
-invariant-loop-base l = (l.lo ≤ l.base) × (length l.rises ≡ block_size) × FitsBelow (held_demand l.terms l.count) l.lo l.base
+invariant-loop-base l = (l.lo ≤ l.base) × (length l.rises ≡ block_size) × FitsBelow (held_by l.terms) l.lo l.base
 
 abbrev pub decreases-loop-base : goal.decreases-loop-base
 decreases-loop-base l = l.hi + 1 - l.base

@@ -1,14 +1,12 @@
 -- `verdict::classes::descend_part` meets its contract. The part and its line never fall, so that each look at a length that fits
 -- passes all lengths down to the height that was found.
 use Prim.Native.Nat.{◌≤◌}
-use Rattle.theory.specs.Descent.{raised}
-use Rattle.theory.specs.Parts.{part_and_line}
-use Rattle.verdict.specs.HeldTerms.{held_demand}
+use Rattle.verdict.specs.Searched.{with_line}
 use Rattle.verdict.proofs.Searches.{FitsAbove}
 use Rattle.verdict.proofs.classes.descend_part.Given as goal
 
 abbrev pub invariant-loop-at : goal.invariant-loop-at
-invariant-loop-at l = (l.at ≤ l.hi) × FitsAbove (raised (part_and_line (held_demand l.terms l.count) l.period l.slope l.lift) l.extra) l.hi l.at
+invariant-loop-at l = (l.at ≤ l.hi) × FitsAbove (with_line l.part l.line) l.hi l.at
 
 abbrev pub decreases-loop-at : goal.decreases-loop-at
 decreases-loop-at l = l.at

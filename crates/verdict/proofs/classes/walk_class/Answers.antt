@@ -2,8 +2,8 @@
 use Rattle.verdict.proofs.Searches.{none_before_best}
 use Rattle.verdict.proofs.classes.walk_class.Goals as goal
 
-pub returns : goal.returns
-returns c =
+pub returns-else-found-end : goal.returns-else-found-end
+returns-else-found-end c =
     let p = c.requires in
     let a = c.args in
-    none_before_best c.walk-found.ensures _ a.d a.period p.10 p.6 p.8 p.9 c.settled_from-end.ensures c.if-found-end.false
+    none_before_best c.walk-found.ensures _ a.d a.line.now.period p.5 p.1 p.3 p.4 c.settled_from-end.ensures c.if-found-end.false

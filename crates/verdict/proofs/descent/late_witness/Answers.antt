@@ -1,96 +1,82 @@
 -- `verdict::descent::late_witness` meets its contract. The least slack of the period after d is used up after k periods, and k is at most d, so that nothing
 -- overflows.
-use Prim.Native.Nat.{ℕ, ◌+◌, ◌-◌, ◌*◌, ◌≤◌}
+use Prim.Native.Nat.{ℕ, ◌+◌, ◌-◌, ◌*◌, ◌≤◌, ◌<◌}
 use mathlib.Core.Path.{◌≡◌, sym}
 use native.Mathlib.Omega.{arith}
 use native.Mathlib.Nat.{mul-le-mul}
 use Rattle.theory.specs.Curves.{Curve, FitsUpTo}
-use Rattle.theory.specs.Descent.{raised, SmallestFrom, periods_to_fail}
+use Rattle.theory.specs.Descent.{raised, LeastSlack, SmallestFrom, periods_to_fail}
 use Rattle.theory.proofs.Descent.{tightest_fails, fails_soon, late}
 use Rattle.table.specs.Limits.{max_d, max_period}
-use Rattle.verdict.specs.HeldTerms.{max_searched, held_demand}
+use Rattle.verdict.specs.declared.cycle.Cycle.{Cycle}
+use Rattle.verdict.specs.HeldTerms.{max_searched}
+use Rattle.verdict.specs.Searched.{held_by}
 use Rattle.verdict.proofs.Searches.{found_for_sure}
 use Rattle.verdict.proofs.descent.late_witness.Goals as goal
 
--- By how much the growth is above the period.
-abbrev over-at-After-least_slack-slack : goal.After-least_slack-slack → ℕ
-over-at-After-least_slack-slack s = s.args.growth - s.args.period
+-- A cycle that grows by more than its period, and the least slack of the period after d.
+module _ (cycle : Cycle) (grows : cycle.period < cycle.growth) (slack : ℕ) (least : LeastSlack (held_by cycle.terms) (cycle.d + 1) (cycle.d + cycle.period) slack) where
+  -- By how much the growth is above the period.
+  abbrev over : ℕ
+  over = cycle.growth - cycle.period
 
--- The growth is the period and that much.
-grows-at-After-least_slack-slack : (s : goal.After-least_slack-slack) → s.args.period + over-at-After-least_slack-slack s ≡ s.args.growth
-grows-at-After-least_slack-slack s = omega arith
+  -- After so many periods the slack is used up.
+  abbrev many : ℕ
+  many = periods_to_fail slack over
 
--- The demand that is held.
-abbrev demand-at-After-least_slack-slack : goal.After-least_slack-slack → ℕ → ℕ
-demand-at-After-least_slack-slack s = held_demand s.args.terms.now s.args.count
+  -- The growth is the period and that much.
+  whole : cycle.period + over ≡ cycle.growth
+  whole = omega arith
 
--- The demand is a curve that grows by the period and that much.
-curve-at-After-least_slack-slack : (s : goal.After-least_slack-slack) → Curve (demand-at-After-least_slack-slack s) s.args.d s.args.period (s.args.period + over-at-After-least_slack-slack s)
-curve-at-After-least_slack-slack s = rw (grows-at-After-least_slack-slack s) s.requires.5
+  -- The demand is a curve that grows by the period and that much.
+  steep : Curve (held_by cycle.terms) cycle.d cycle.period (cycle.period + over)
+  steep = rw whole cycle.curve
 
--- The slack that is used up is at most d, and so is the number of periods.
-soon-at-After-least_slack-slack : (c : goal.After-least_slack-slack) → (let m = c.least_slack-slack.result in
-    (m + over-at-After-least_slack-slack c ≤ c.args.d) × (periods_to_fail m (over-at-After-least_slack-slack c) * over-at-After-least_slack-slack c ≤ c.args.d) × (periods_to_fail m (over-at-After-least_slack-slack c) ≤ c.args.d))
-soon-at-After-least_slack-slack c =
-    fails_soon (demand-at-After-least_slack-slack c) _ c.args.period (over-at-After-least_slack-slack c) c.least_slack-slack.result (curve-at-After-least_slack-slack c) c.requires.2 (omega arith) c.least_slack-slack.ensures
+  -- The slack that is used up is at most d, and so is the number of periods.
+  soon : (slack + over ≤ cycle.d) × (many * over ≤ cycle.d) × (many ≤ cycle.d)
+  soon = fails_soon (held_by cycle.terms) _ cycle.period over slack steep cycle.some_period (omega arith) least
 
-pub first-r-requires : goal.first-r-requires
-first-r-requires c = let p = c.requires in (p.0, omega (arith, (soon-at-After-least_slack-slack c).1), omega arith, omega arith)
+  -- The products of the number of periods with the period and with the growth are within limits.
+  products : (many * cycle.period ≤ max_d * max_period) × (many * cycle.growth ≤ max_d * max_searched)
+  products =
+      let few : many ≤ max_d = omega (arith, soon.2, cycle.most_d) in
+      let slow : cycle.growth ≤ max_searched = omega (arith, soon.0, whole, cycle.most_d, cycle.most_period) in
+      (mul-le-mul few cycle.most_period, mul-le-mul few slow)
 
--- By how much the growth is above the period.
-abbrev over-at-After-held_demand-demand : goal.After-held_demand-demand → ℕ
-over-at-After-held_demand-demand s = s.args.growth - s.args.period
+  -- Some length of the period has less to spare than is used up.
+  fails : least.tightest < raised (held_by cycle.terms) (many * over) least.tightest
+  fails = tightest_fails _ _ _ _ over (omega arith) least
 
--- The demand that is held.
-abbrev demand-at-After-held_demand-demand : goal.After-held_demand-demand → ℕ → ℕ
-demand-at-After-held_demand-demand s = held_demand s.args.terms.now s.args.count
+  -- The demand in the smallest of them is at most d + period.
+  small : {r : ℕ} → SmallestFrom (raised (held_by cycle.terms) (many * over)) (cycle.d + 1) (cycle.d + cycle.period) r
+      → FitsUpTo (held_by cycle.terms) (cycle.d + cycle.period) → held_by cycle.terms r ≤ cycle.d + cycle.period
+  small {r} found fits = omega (arith, found.to_hi, fits r (omega (arith, found.from_lo)) found.to_hi)
 
--- The growth is the period and that much.
-grows-at-After-held_demand-demand : (s : goal.After-held_demand-demand) → s.args.period + over-at-After-held_demand-demand s ≡ s.args.growth
-grows-at-After-held_demand-demand s = omega arith
+pub first-requires : goal.first-requires
+first-requires c =
+    (omega (arith, (soon c.args.cycle.now c.requires.0 _ c.least_slack.ensures).1), omega arith, omega arith)
 
--- The demand is a curve that grows by the period and that much.
-curve-at-After-held_demand-demand : (s : goal.After-held_demand-demand) → Curve (demand-at-After-held_demand-demand s) s.args.d s.args.period (s.args.period + over-at-After-held_demand-demand s)
-curve-at-After-held_demand-demand s = rw (grows-at-After-held_demand-demand s) s.requires.5
+pub unwrap-r-requires : goal.unwrap-r-requires
+unwrap-r-requires c =
+    let least = c.least_slack.ensures in
+    found_for_sure _ _ _ _ c.first.ensures least.tightest least.from_lo least.to_hi (fails c.args.cycle.now c.requires.0 _ least)
 
--- The slack that is used up is at most d, and so is the number of periods.
-soon-at-After-held_demand-demand : (c : goal.After-held_demand-demand) → (let m = c.least_slack-slack.result in
-    (m + over-at-After-held_demand-demand c ≤ c.args.d) × (periods_to_fail m (over-at-After-held_demand-demand c) * over-at-After-held_demand-demand c ≤ c.args.d) × (periods_to_fail m (over-at-After-held_demand-demand c) ≤ c.args.d))
-soon-at-After-held_demand-demand c =
-    fails_soon (demand-at-After-held_demand-demand c) _ c.args.period (over-at-After-held_demand-demand c) c.least_slack-slack.result (curve-at-After-held_demand-demand c) c.requires.2 (omega arith) c.least_slack-slack.ensures
-
--- The number of periods is within a limit.
-few : (c : goal.After-held_demand-demand) → periods_to_fail c.least_slack-slack.result (over-at-After-held_demand-demand c) ≤ max_d
-few c = omega (arith, (soon-at-After-held_demand-demand c).2)
-
--- The growth is within a limit.
-slow : (c : goal.After-held_demand-demand) → c.args.growth ≤ max_searched
-slow c = omega (arith, (soon-at-After-held_demand-demand c).0, grows-at-After-held_demand-demand c)
-
--- The products of the number of periods with the period and with the growth are within limits.
-products : (c : goal.After-held_demand-demand) → (let k = periods_to_fail c.least_slack-slack.result (over-at-After-held_demand-demand c) in
-    (k * c.args.period ≤ max_d * max_period) × (k * c.args.growth ≤ max_d * max_searched))
-products c = (mul-le-mul (few c) c.requires.3, mul-le-mul (few c) (slow c))
-
--- The smallest length of the period that has less to spare than is used up was found.
-found-at-After-held_demand-demand : (c : goal.After-held_demand-demand) → (
-    SmallestFrom (raised (demand-at-After-held_demand-demand c) (periods_to_fail c.least_slack-slack.result (over-at-After-held_demand-demand c) * over-at-After-held_demand-demand c))
-    (c.args.d + 1) (c.args.d + c.args.period) c.first-r.result)
-found-at-After-held_demand-demand c =
-    let least = c.least_slack-slack.ensures in
-    found_for_sure c.first-r.ensures least.tightest least.from_lo least.to_hi
-    (tightest_fails _ _ _ _ (over-at-After-held_demand-demand c) (omega arith) least)
-
--- The demand in the length that was found is at most d + period.
-small : (c : goal.After-held_demand-demand) → (demand-at-After-held_demand-demand c c.first-r.result ≤ c.args.d + c.args.period)
-small c = let f = found-at-After-held_demand-demand c in omega (arith, f.to_hi, c.requires.6 c.first-r.result (omega (arith, f.from_lo)) f.to_hi)
+pub demand-requires : goal.demand-requires
+demand-requires c =
+    let found = rw c.unwrap-r.ensures at c.first.ensures in omega (arith, found.to_hi, c.args.cycle.now.most_d, c.args.cycle.now.most_period)
 
 pub overflow_add-result-2 : goal.overflow_add-result-2
-overflow_add-result-2 c = omega (arith, products c, (found-at-After-held_demand-demand c).to_hi, small c, c.held_demand-demand.ensures)
+overflow_add-result-2 c =
+    let k = c.args.cycle.now in
+    let least = c.least_slack.ensures in
+    let found = rw c.unwrap-r.ensures at c.first.ensures in
+    omega (arith, products k c.requires.0 _ least, found.to_hi, small k c.requires.0 _ least found c.requires.1, c.demand.ensures, k.most_d, k.most_period)
 
 pub returns : goal.returns
 returns c =
-    let least = c.least_slack-slack.ensures in
-    let fit : FitsUpTo (demand-at-After-held_demand-demand c) c.args.d = λ L one high. c.requires.6 L one (omega arith) in
-    let it = late (demand-at-After-held_demand-demand c) _ _ (over-at-After-held_demand-demand c) _ c.first-r.result (curve-at-After-held_demand-demand c) c.requires.2 (omega arith) fit least (found-at-After-held_demand-demand c) in
-    (it.0, rw c.held_demand-demand.ensures (sym (rw (grows-at-After-held_demand-demand c) at it.1)))
+    let k = c.args.cycle.now in
+    let least = c.least_slack.ensures in
+    let found = rw c.unwrap-r.ensures at c.first.ensures in
+    let fit : FitsUpTo (held_by k.terms) k.d = λ L one high. c.requires.1 L one (omega arith) in
+    let it = late (held_by k.terms) _ _ (over k c.requires.0 _ least) _ c.unwrap-r.result (steep k c.requires.0 _ least) k.some_period (omega arith) fit least found in
+    (it.0, rw c.demand.ensures (sym (rw (whole k c.requires.0 _ least) at it.1)))

@@ -4,15 +4,12 @@ use Prim.Native.Nat.{◌+◌}
 use native.Mathlib.Omega.{arith}
 use Rattle.theory.specs.Curves.{FitsUpTo}
 use Rattle.theory.proofs.Curves.{settled_within_a_period}
-use Rattle.verdict.specs.HeldTerms.{held_demand}
+use Rattle.verdict.specs.Searched.{held_by}
 use Rattle.verdict.proofs.Searches.{all_fit}
 use Rattle.verdict.proofs.descent.search.Goals as goal
 
--- The lengths up to d + period fit, where none was found to fail.
-fit-at-Then-growth-period : (c : goal.Then-growth-period) → (let a = c.args in FitsUpTo (held_demand a.terms.now a.count) (a.d + a.period))
-fit-at-Then-growth-period c = all_fit c.requires.5 (c.period_search-found.ensures.none (omega arith))
-
-pub returns-then-growth-period : goal.returns-then-growth-period
-returns-then-growth-period c =
-    let all = fit-at-Then-growth-period c in
-    settled_within_a_period _ _ c.args.period c.args.growth c.requires.7 c.requires.2 (omega arith) (λ L one high. all L one (omega arith))
+pub returns-then-cycle : goal.returns-then-cycle
+returns-then-cycle c =
+    let k = c.args.cycle.now in
+    let all : FitsUpTo (held_by k.terms) (k.d + k.period) = all_fit c.requires.1 (rw c.in_default.is at c.period_search.ensures) in
+    settled_within_a_period _ _ k.period k.growth k.curve k.some_period (omega arith) (λ L one high. all L one (omega arith))

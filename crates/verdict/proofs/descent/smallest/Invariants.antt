@@ -1,14 +1,14 @@
 -- `verdict::descent::smallest` meets its contract. The length `high` fails, and those below `low` fit.
 use Prim.Native.Nat.{◌-◌, ◌≤◌, ◌<◌}
 use Rattle.theory.specs.Descent.{raised}
-use Rattle.verdict.specs.HeldTerms.{held_demand}
+use Rattle.verdict.specs.Searched.{held_by}
 use Rattle.verdict.proofs.Searches.{FitsBelow}
 use Rattle.verdict.proofs.descent.smallest.Given as goal
 
 abbrev pub invariant-loop-low : goal.invariant-loop-low
 invariant-loop-low l =
-    (l.lo ≤ l.low) × (l.low ≤ l.high) × (l.high ≤ l.failing) × (l.high < raised (held_demand l.terms l.count) l.extra l.high)
-    × FitsBelow (raised (held_demand l.terms l.count) l.extra) l.lo l.low
+    (l.lo ≤ l.low) × (l.low ≤ l.high) × (l.high ≤ l.failing) × (l.high < raised (held_by l.terms) l.extra l.high)
+    × FitsBelow (raised (held_by l.terms) l.extra) l.lo l.low
 
 abbrev pub decreases-loop-low : goal.decreases-loop-low
 decreases-loop-low l = l.high - l.low

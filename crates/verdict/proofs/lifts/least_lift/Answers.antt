@@ -1,40 +1,29 @@
 use native.Mathlib.Omega.{arith}
 use Prim.Native.Nat.{◌+◌, ◌-◌, ◌*◌}
 use mathlib.Core.Path.{◌≡◌}
-use Rattle.verdict.specs.HeldTerms.{held_demand}
+use Rattle.verdict.specs.Searched.{held_by}
 use Rattle.verdict.proofs.HeldParts.{line_product_at_most}
-use Rattle.verdict.proofs.LowerLines.{product_of_rest, lift_stays, lift_raised}
+use Rattle.verdict.proofs.LowerLines.{product_of_rest, larger_lift}
 use Rattle.verdict.proofs.lifts.least_lift.Goals as goal
 
-pub overflow_mul-period : goal.overflow_mul-period
-overflow_mul-period c =
+pub overflow_mul-line : goal.overflow_mul-line
+overflow_mul-line c =
     let a = c.args in
-    let k = c.loop-at in
-    let f = held_demand a.terms.now a.count k.at in
-    let part = held_demand a.part.now a.size k.at in
-    let is : c.past-rest.result ≡ f - part = omega (arith, c.past-rest.ensures, c.held_demand-whole.ensures, c.held_demand.ensures) in
+    let line = a.line.now in
+    let at = c.loop-at.at in
+    let f = held_by a.terms.now at in
+    let part = held_by a.part.now at in
+    let is : c.saturating_sub-rest.result ≡ f - part = omega (arith, c.saturating_sub-rest.ensures, c.demand.ensures, c.demand-in-loop-at.ensures) in
     omega (
       arith,
-      line_product_at_most c.requires.2 k.at (omega arith),
-      product_of_rest a.period f part c.past-rest.result (a.slope * k.at + a.lift) is (c.requires.4 k.at),
+      line_product_at_most line.good at (omega arith),
+      product_of_rest line.period f part c.saturating_sub-rest.result (line.slope * at + line.lift) is (c.requires.1 at),
     )
-
-pub loop-at-preserved-then-most-above : goal.loop-at-preserved-then-most-above
-loop-at-preserved-then-most-above c =
-    let a = c.args in
-    let k = c.loop-at in
-    let f = held_demand a.terms.now a.count k.at in
-    let part = held_demand a.part.now a.size k.at in
-    let is : c.past-rest.result ≡ f - part = omega
-    (arith, c.past-rest.ensures, c.held_demand-whole.ensures, c.held_demand.ensures) in
-    (omega arith, lift_raised k.invariant.1 c.requires.4 is c.past-above.ensures c.if-most-above.true)
 
 pub loop-at-preserved : goal.loop-at-preserved
 loop-at-preserved c =
     let a = c.args in
-    let k = c.loop-at in
-    let f = held_demand a.terms.now a.count k.at in
-    let part = held_demand a.part.now a.size k.at in
-    let is : c.past-rest.result ≡ f - part = omega
-    (arith, c.past-rest.ensures, c.held_demand-whole.ensures, c.held_demand.ensures) in
-    (omega arith, lift_stays k.invariant.1 c.requires.4 is c.past-above.ensures c.if-most-above.false)
+    let at = c.loop-at.at in
+    let is : c.saturating_sub-rest.result ≡ held_by a.terms.now at - held_by a.part.now at =
+    omega (arith, c.saturating_sub-rest.ensures, c.demand.ensures, c.demand-in-loop-at.ensures) in
+    (omega arith, larger_lift c.loop-at.invariant.1 c.requires.1 is c.saturating_sub.ensures c.max-most.ensures)
