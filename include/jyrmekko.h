@@ -30,12 +30,12 @@
  * bench/worst.c and c/test_stack_use.c, which stand in the repository. The numbers are the highest median of ten runs,
  * the slowest of all calls in them, and the stack:
  *
- *     verdict()       5,100     7,900    55,200
+ *     verdict()       5,100     7,900    58,700
  *     replay()          0.5       0.7    73,100
  *     run_start()         6        69    63,100
  *     run_release()      24       150   225,800
  *     run_tick()         11        56   138,500
- *     run_end()          24       139   221,900
+ *     run_end()          24       139   167,500
  *
  * A verdict on a small table takes less than a microsecond. The times of replay() are for jobs of which each goes before
  * 255 others that wait. Where each goes behind those that wait, or none waits, it takes 0.02 to 0.06 microseconds for

@@ -33,7 +33,8 @@ fn say(answer: &mut [u8], told: Saying) -> u32
     told.number
 }
 
-// What a verdict says: 20, or 21 with the smallest length and its demand, or the table's refusal with its place. (9.2, 9.5)
+// What a verdict says: 20, or 21 with the smallest length and its demand, or the table's refusal with its place. It is public, since the probe says its verdicts
+// by it too. (9.2, 9.5)
 pub fn verdict_told(verdict: Verdict) -> Saying
     ensures { as_said result ≡ verdict_says verdict }
 {
@@ -44,7 +45,8 @@ pub fn verdict_told(verdict: Verdict) -> Saying
     }
 }
 
-// What a replay says: 22 or 23 with the log's length and the jobs late, or the refusal with its place. (9.3, 9.5)
+// What a replay says: 22 or 23 with the log's length and the jobs late, or the refusal with its place. Its cases are of another type than those of a verdict.
+// (9.3, 9.5)
 fn replay_told(outcome: Replayed) -> Saying
     ensures { as_said result ≡ replay_says outcome }
 {

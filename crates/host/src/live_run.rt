@@ -1,5 +1,6 @@
 // The four calls on a live run, which stands in the host's own memory: start, release, tick and end. Each is lent the run and an answer buffer, tests the
-// buffer first, makes its call by value, stores the run that this leaves, and writes the answer. (docs/RULES.md, 9.9 to 9.15.)
+// buffer first, makes its call by value, stores the run that this leaves, and writes the answer. C calls each by its name, and each makes another call of `run`
+// and of `live`. (docs/RULES.md, 9.9 to 9.15.)
 ghost use Rattle.std.specs.Prelude.{◌≡◌, length};
 ghost use Rattle.host.specs.Live.{start_told, release_told, tick_told, end_told, answer_after, start_leaves, release_leaves, tick_leaves, end_leaves};
 

@@ -54,7 +54,7 @@ abbrev pub with_one_written : Logged → Finish → List ℕ → List ℕ
 with_one_written l f log =
     cond l.full log (take l.length log ++ rest_after (written_record f (length log - l.length)) f (drop l.length log))
 
--- What one call of `log_finish` does: the job that finished is logged, the log stays within its buffer, and at most one more job is late.
+-- What one call of `Logged::add` does: the job that finished is logged, the log stays within its buffer, and at most one more job is late.
 pub record OneLogged (l : Logged) (f : Finish) (log after : List ℕ) (m : Logged) : Type 0 where
   pub says : m ≡ one_logged (length log) l f
   pub holds : after ≡ with_one_written l f log

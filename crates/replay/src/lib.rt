@@ -26,7 +26,8 @@ pub struct LateJobs {
     pub late: u64,
 }
 
-// What a replay answers: all jobs in time, with the log's length; or with late jobs; or refused. Rule 8.15 names these three outcomes, so this is no `Result`.
+// What a replay answers: all jobs in time, with the log's length; or with late jobs; or refused. The rules tell these three apart side by side, and one `match`
+// does too, so this is no `Result`. (8.15, 8.17)
 #[derive(Clone, Copy)]
 pub enum Replayed {
     InTime(usize),

@@ -2,22 +2,30 @@
 // lengths of a block are filled into an array from each term's steps, and then one pass adds them up and compares each sum with its length. A length costs the
 // same however many terms there are. (docs/RULES.md, 5.4 to 5.9.)
 ghost use Rattle.std.specs.Prelude.{◌≡◌, length, ◌+◌, ◌-◌, ◌%◌, ◌≤◌, ◌<◌};
-ghost use Rattle.table.specs.Limits.{max_y, max_p};
-ghost use Rattle.verdict.specs.HeldTerms.{max_searched};
+ghost use Rattle.table.specs.Limits.{max_p};
 ghost use Rattle.verdict.specs.QuickVerdict.{SmallestOrNone};
 ghost use Rattle.verdict.specs.Blocks.{block_size, terms_demand, InBlock, RisesOf};
 ghost use Rattle.verdict.specs.Searched.{held_by};
 
+use crate::stretch::Stretch;
 use crate::terms::{GROUP, Terms};
 
-// The lengths of one block.
+// The most lengths that one block has.
 const BLOCK: usize = 4096;
+
+// The lengths of one block: `size` lengths from `base` on.
+#[derive(Clone, Copy)]
+struct Block {
+    base: u64,
+    size: usize,
+    ghost within: { InBlock base size },
+}
 
 // Adds w at each step of term i in a block. Its step number n is the least length whose v has n · b ≤ a · v. The step's remainder is a · v − n · b. The gap
 // to the next step is b/a where the remainder is b mod a or more, and b/a + 1 where it is less.
-fn add_steps(rises: &mut [u64; BLOCK], terms: &Terms, i: usize, base: u64, size: usize)
-    requires { (i < terms.now.count) × (InBlock base size) × (RisesOf (terms_demand terms.now.entries i) base size rises.old) }
-    ensures { RisesOf (terms_demand terms.now.entries (i + 1)) base size rises.new }
+fn add_steps(rises: &mut [u64; BLOCK], terms: &Terms, i: usize, block: Block)
+    requires { (i < terms.now.count) × (RisesOf (terms_demand terms.now.entries i) block.base block.size rises.old) }
+    ensures { RisesOf (terms_demand terms.now.entries (i + 1)) block.base block.size rises.new }
 {
     let at = GROUP * i + GROUP;
     let w = terms.entries[at + 1];
@@ -25,19 +33,19 @@ fn add_steps(rises: &mut [u64; BLOCK], terms: &Terms, i: usize, base: u64, size:
     let down = terms.entries[at + 3];
     let b = terms.entries[at + 4];
     let a = terms.entries[at + 5];
-    let end = (base + size as u64 + up).saturating_sub(down);
+    let end = (block.base + block.size as u64 + up).saturating_sub(down);
     if a * end == 0 {
         return;
     }
-    let start = (base - 1 + up).saturating_sub(down);
+    let start = (block.base - 1 + up).saturating_sub(down);
     let number = a * start / b + 1;
     let first = (number * b + (a - 1)) / a;
     let gap = (b / a) as usize;
     let part = b % a;
     let mut remainder = a * first - number * b;
-    let mut k = (first + down - (base + up)) as usize;
+    let mut k = (first + down - (block.base + up)) as usize;
     // k goes from step to step by unequal gaps, so no `for` counts this loop.
-    while k < size {
+    while k < block.size {
         rises[k] += w;
         if remainder < part {
             remainder += a - part;
@@ -50,13 +58,13 @@ fn add_steps(rises: &mut [u64; BLOCK], terms: &Terms, i: usize, base: u64, size:
 }
 
 // Fills the rises of all terms at the lengths of a block into the array.
-fn fill(rises: &mut [u64; BLOCK], terms: &Terms, base: u64, size: usize)
-    requires { (InBlock base size) × (length rises.old ≡ block_size) }
-    ensures { RisesOf (terms_demand terms.now.entries terms.now.count) base size rises.new }
+fn fill(rises: &mut [u64; BLOCK], terms: &Terms, block: Block)
+    requires { length rises.old ≡ block_size }
+    ensures { RisesOf (terms_demand terms.now.entries terms.now.count) block.base block.size rises.new }
 {
-    rises[..size].fill(0);
+    rises[..block.size].fill(0);
     for i in 0..terms.count {
-        add_steps(rises, terms, i, base, size);
+        add_steps(rises, terms, i, block);
     }
 }
 
@@ -76,17 +84,17 @@ fn rest_after(rest: u64, last: u64) -> u64
 }
 
 // The smallest length of a block that fails, if one does. The rises and the ticks that the timer takes are added up from the demand before the block.
-fn look(rises: &[u64; BLOCK], terms: &Terms, base: u64, size: usize) -> Option<u64>
-    requires { (InBlock base size) × (RisesOf (terms_demand terms.now.entries terms.now.count) base size rises.now) }
-    ensures { SmallestOrNone (held_by terms.now) base (base + size - 1) result }
+fn look(rises: &[u64; BLOCK], terms: &Terms, block: Block) -> Option<u64>
+    requires { RisesOf (terms_demand terms.now.entries terms.now.count) block.base block.size rises.now }
+    ensures { SmallestOrNone (held_by terms.now) block.base (block.base + block.size - 1) result }
 {
     let s = terms.entries[0];
     let last = terms.entries[1] - 1;
-    let mut sum = terms.demand(base - 1);
-    let mut rest = (base - 1) % terms.entries[1];
-    for k in 0..size {
+    let mut sum = terms.demand(block.base - 1);
+    let mut rest = (block.base - 1) % terms.entries[1];
+    for k in 0..block.size {
         sum += rises[k] + taken_at(rest, s);
-        let length = base + k as u64;
+        let length = block.base + k as u64;
         if length < sum {
             return Some(length);
         }
@@ -95,20 +103,22 @@ fn look(rises: &[u64; BLOCK], terms: &Terms, base: u64, size: usize) -> Option<u
     None
 }
 
-// The smallest length from `lo` to `hi` that fails, if one does. One block after another is filled and looked at.
-pub(crate) fn blocks(terms: &Terms, lo: u64, hi: u64) -> Option<u64>
-    requires { (1 ≤ lo) × (hi ≤ max_searched) }
-    ensures { SmallestOrNone (held_by terms.now) lo hi result }
+// The smallest length of a stretch that fails, if one does. One block after another is filled and looked at.
+pub(crate) fn blocks(terms: &Terms, stretch: Stretch) -> Option<u64>
+    ensures { SmallestOrNone (held_by terms.now) stretch.lo stretch.hi result }
 {
     let mut rises: [u64; BLOCK] = [0; BLOCK];
-    let mut base = lo;
-    while base <= hi {
-        let size = ((hi - base) as usize + 1).min(BLOCK);
-        fill(&mut rises, terms, base, size);
-        if let Some(found) = look(&rises, terms, base, size) {
+    let mut base = stretch.lo;
+    while base <= stretch.hi {
+        let block = Block {
+            base,
+            size: ((stretch.hi - base) as usize + 1).min(BLOCK),
+        };
+        fill(&mut rises, terms, block);
+        if let Some(found) = look(&rises, terms, block) {
             return Some(found);
         }
-        base += size as u64;
+        base += block.size as u64;
     }
     None
 }

@@ -8,18 +8,24 @@ ghost use Rattle.verdict.specs.HeldParts.{max_over};
 use crate::cycle::Cycle;
 use crate::lifts::{lowered, turn_of};
 use crate::line::Line;
-use crate::parts::{look_at, part_of};
+use crate::parts::Part;
 use crate::terms::Terms;
 
 // A period is divided into at most so many parts.
 const MOST_PARTS: u64 = 4096;
 
-// The P that was chosen, if one was; the lengths after which what its part leaves out repeats itself, where its line is lowered; and about how many looks at
-// lengths the search will need.
+// A way to search a period by classes: the P, and, where the line of its part is lowered, the lengths after which what its part leaves out repeats itself.
+#[derive(Clone, Copy)]
+pub(crate) struct Way {
+    pub(crate) step: u64,
+    pub(crate) turn: Option<u64>,
+    ghost some_step: { 1 ≤ step },
+}
+
+// The way that was chosen, if one was, and about how many looks at lengths the search will need.
 #[derive(Clone, Copy)]
 pub(crate) struct Choice {
-    pub(crate) step: Option<u64>,
-    pub(crate) turn: Option<u64>,
+    pub(crate) way: Option<Way>,
     pub(crate) looks: u64,
 }
 
@@ -41,10 +47,11 @@ fn share(length: u64, demand: u64) -> u64
 
 // About how many looks a search of a period needs with a part that repeats itself every `step`. Samples of the first `range` lengths after d tell how far one
 // look reaches, and how many lengths have to be walked along. Nothing rests on the answer.
-fn guess(part: &Terms, line: &Line, d: u64, step: u64, range: u64) -> u64
-    requires { (64 ≤ line.now.period) × (d ≤ max_d) × (step ≤ line.now.period) × (1 ≤ range) × (range ≤ line.now.period) }
+fn guess(part: &Part, d: u64, step: u64, range: u64) -> u64
+    requires { (64 ≤ part.now.line.period) × (d ≤ max_d) × (step ≤ part.now.line.period) × (1 ≤ range) × (range ≤ part.now.line.period) }
 {
-    let mut samples = (line.period / 64).min(1024);
+    let period = part.line.period;
+    let mut samples = (period / 64).min(1024);
     let mut bad: u64 = 0;
     let mut sum: u64 = 0;
     let mut x: u64 = 1;
@@ -53,7 +60,7 @@ fn guess(part: &Terms, line: &Line, d: u64, step: u64, range: u64) -> u64
     while n < samples {
         x = (x * 1103515245 + 12345) % 2147483648;
         let length = sample(x, d, range);
-        let demand = look_at(part, line, length);
+        let demand = part.look_at(length);
         n += 1;
         sum += share(length, demand);
         if length < demand {
@@ -63,26 +70,25 @@ fn guess(part: &Terms, line: &Line, d: u64, step: u64, range: u64) -> u64
             }
         }
     }
-    step * sum / 64 / n + (bad + 1) * line.period / n
+    step * sum / 64 / n + (bad + 1) * period / n
 }
 
-// About how many looks a search by the classes of a step needs, with the line of its part lowered by looks at the lengths up to d + turn. Nothing rests on the
-// answer.
-fn guess_part(cycle: &Cycle, step: u64, turn: Option<u64>, range: u64) -> u64
-    requires { (64 ≤ cycle.now.period) × (cycle.now.growth ≤ cycle.now.period + max_over) × (1 ≤ step) × (step ≤ cycle.now.period)
+// About how many looks a search by classes needs in one way. Nothing rests on the answer.
+fn guess_part(cycle: &Cycle, way: Way, range: u64) -> u64
+    requires { (64 ≤ cycle.now.period) × (cycle.now.growth ≤ cycle.now.period + max_over) × (way.step ≤ cycle.now.period)
         × (1 ≤ range) × (range ≤ cycle.now.period) }
 {
-    let part = part_of(cycle, step);
-    let line = lowered(cycle, &part, step, turn);
-    guess(&part.terms, &line, cycle.d, step, range)
+    let part = lowered(cycle, way);
+    guess(&part, cycle.d, way.step, range)
 }
 
 // The choice among the steps, beginning with an earlier choice: the step with which a search by classes is thought to need the fewest looks, or the earlier
 // choice where no step is thought to need fewer. Where lines are lowered, looks at lengths are spent on it, but no more than `room` of them.
+// `lowering` is a flag: a closure in its place would change `room`, and would have to promise what `guess_part` requires of the range.
 fn choose(cycle: &Cycle, early: Choice, lowering: bool) -> Choice
     requires { (64 ≤ cycle.now.period) × (cycle.now.growth ≤ cycle.now.period + max_over)
-        × (IfSome early.step (λ step. (1 ≤ step) × (step ≤ cycle.now.period))) }
-    ensures { IfSome result.step (λ step. (1 ≤ step) × (step ≤ cycle.now.period)) }
+        × (IfSome early.way (λ way. way.step ≤ cycle.now.period)) }
+    ensures { IfSome result.way (λ way. way.step ≤ cycle.now.period) }
 {
     let period = cycle.period;
     let mut choice = early;
@@ -105,11 +111,11 @@ fn choose(cycle: &Cycle, early: Choice, lowering: bool) -> Choice
                 room = left.saturating_sub(lengths);
                 range = period;
             }
-            let looks = guess_part(cycle, step, turn, range);
+            let way = Way { step, turn };
+            let looks = guess_part(cycle, way, range);
             if looks < choice.looks {
                 choice = Choice {
-                    step: Some(step),
-                    turn,
+                    way: Some(way),
                     looks,
                 };
             }
@@ -128,28 +134,33 @@ pub(crate) fn by_blocks(cycle: &Cycle, looks: u64) -> bool {
     cycle.period / share < looks
 }
 
-// The step with which the period is searched by classes, or none where it is searched by descent or by blocks.
+// The way in which the period is searched by classes, or none where it is searched by descent or by blocks.
 pub(crate) fn choose_way(cycle: &Cycle) -> Choice
     requires { (64 ≤ cycle.now.period) × (cycle.now.growth ≤ cycle.now.period + max_over) }
-    ensures { IfSome result.step (λ step. (1 ≤ step) × (step ≤ cycle.now.period)) }
+    ensures { IfSome result.way (λ way. way.step ≤ cycle.now.period) }
 {
     let period = cycle.period;
-    let flat = Line {
-        slope: 0,
-        lift: 0,
-        period,
-        extra: cycle.growth.saturating_sub(period),
+    // The part that takes in all terms. Its line is flat.
+    let whole = Part {
+        terms: Terms {
+            entries: cycle.terms.entries,
+            count: cycle.terms.count,
+        },
+        line: Line {
+            slope: 0,
+            lift: 0,
+            period,
+            extra: cycle.growth.saturating_sub(period),
+        },
     };
     let descent = Choice {
-        step: None,
-        turn: None,
-        looks: guess(&cycle.terms, &flat, cycle.d, period, period),
+        way: None,
+        looks: guess(&whole, cycle.d, period, period),
     };
     let choice = choose(cycle, choose(cycle, descent, false), true);
     if by_blocks(cycle, choice.looks) {
         return Choice {
-            step: None,
-            turn: None,
+            way: None,
             looks: choice.looks,
         };
     }

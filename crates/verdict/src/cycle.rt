@@ -8,6 +8,7 @@ ghost use Rattle.verdict.specs.HeldParts.{Repeats};
 use crate::terms::Terms;
 
 // A demand that is higher by `growth` one period later, from the length d on. Each of its terms repeats itself from d on, too.
+// What a search by classes needs besides is a clause: other searches take a cycle of any period and any growth.
 #[derive(Drop)]
 pub(crate) struct Cycle {
     pub(crate) terms: Terms,

@@ -11,21 +11,23 @@ ghost use Rattle.verdict.specs.Searched.{held_by};
 
 use crate::classes::period_search;
 use crate::cycle::Cycle;
+use crate::stretch::Stretch;
 use crate::terms::Terms;
 use crate::{Verdict, Witness};
 
-// The largest length from `lo` to `hi` that fails, if one does. Each look at a length settles all lengths down to its demand.
-fn descend(terms: &Terms, extra: u64, lo: u64, hi: u64) -> Option<u64>
-    requires { (extra ≤ max_searched) × (1 ≤ lo) × (hi ≤ max_searched) }
-    ensures { LargestOrNone (raised (held_by terms.now) extra) lo hi result }
+// The largest length of a stretch that fails, if one does. Each look at a length settles all lengths down to its demand.
+// `extra` stands beside the terms: a struct of both would lend the terms, and each function here would name how long it lends them.
+fn descend(terms: &Terms, extra: u64, stretch: Stretch) -> Option<u64>
+    requires { extra ≤ max_searched }
+    ensures { LargestOrNone (raised (held_by terms.now) extra) stretch.lo stretch.hi result }
 {
-    let mut at = hi;
-    while lo <= at {
+    let mut at = stretch.hi;
+    while stretch.lo <= at {
         let demand = terms.demand(at) + extra;
         if at < demand {
             return Some(at);
         }
-        if demand <= lo {
+        if demand <= stretch.lo {
             return None;
         }
         at = demand - 1;
@@ -33,17 +35,20 @@ fn descend(terms: &Terms, extra: u64, lo: u64, hi: u64) -> Option<u64>
     None
 }
 
-// The smallest length from `lo` on that fails, where `failing` is one that does. The lengths below it are halved until none is left.
-fn smallest(terms: &Terms, extra: u64, lo: u64, failing: u64) -> u64
-    requires { (extra ≤ max_searched) × (1 ≤ lo) × (failing ≤ max_searched)
-        × (Failing (raised (held_by terms.now) extra) lo failing) }
-    ensures { SmallestFrom (raised (held_by terms.now) extra) lo failing result }
+// The smallest length of a stretch that fails, where its last one does. The lengths below it are halved until none is left.
+fn smallest(terms: &Terms, extra: u64, stretch: Stretch) -> u64
+    requires { (extra ≤ max_searched) × (Failing (raised (held_by terms.now) extra) stretch.lo stretch.hi) }
+    ensures { SmallestFrom (raised (held_by terms.now) extra) stretch.lo stretch.hi result }
 {
-    let mut low = lo;
-    let mut high = failing;
+    let mut low = stretch.lo;
+    let mut high = stretch.hi;
     while low < high {
         let middle = low + (high - low - 1) / 2;
-        match descend(terms, extra, low, middle) {
+        let lower = Stretch {
+            lo: low,
+            hi: middle,
+        };
+        match descend(terms, extra, lower) {
             None => low = middle + 1,
             Some(found) => high = found,
         }
@@ -51,32 +56,32 @@ fn smallest(terms: &Terms, extra: u64, lo: u64, failing: u64) -> u64
     high
 }
 
-// The smallest length from `lo` to `hi` that fails, if one does. The stretches that are looked at double, so that the cost follows the smallest one that
-// fails.
-pub(crate) fn first(terms: &Terms, extra: u64, lo: u64, hi: u64) -> Option<u64>
-    requires { (extra ≤ max_searched) × (1 ≤ lo) × (hi ≤ max_searched) }
-    ensures { SmallestOrNone (raised (held_by terms.now) extra) lo hi result }
+// The smallest length of a stretch that fails, if one does. The stretches that are looked at double, so that the cost follows the smallest one that fails.
+pub(crate) fn first(terms: &Terms, extra: u64, stretch: Stretch) -> Option<u64>
+    requires { extra ≤ max_searched }
+    ensures { SmallestOrNone (raised (held_by terms.now) extra) stretch.lo stretch.hi result }
 {
-    let mut low = lo;
-    while low <= hi {
-        let high = (low + (low - lo)).min(hi);
-        if let Some(found) = descend(terms, extra, low, high) {
-            return Some(smallest(terms, extra, low, found));
+    let mut low = stretch.lo;
+    while low <= stretch.hi {
+        let high = (low + (low - stretch.lo)).min(stretch.hi);
+        if let Some(found) = descend(terms, extra, Stretch { lo: low, hi: high }) {
+            return Some(smallest(terms, extra, Stretch { lo: low, hi: found }));
         }
         low = high + 1;
     }
     None
 }
 
-// The least slack of the lengths from `lo` to `hi`, all of which fit: the ticks that the tightest of them has to spare.
-fn least_slack(terms: &Terms, lo: u64, hi: u64) -> u64
-    requires { (1 ≤ lo) × (lo ≤ hi) × (hi ≤ max_searched) × (FitsBetween (held_by terms.now) lo hi) }
-    ensures { LeastSlack (held_by terms.now) lo hi result }
+// The least slack of the lengths of a stretch, all of which fit: the ticks that the tightest of them has to spare.
+fn least_slack(terms: &Terms, stretch: Stretch) -> u64
+    requires { (stretch.lo ≤ stretch.hi) × (FitsBetween (held_by terms.now) stretch.lo stretch.hi) }
+    ensures { LeastSlack (held_by terms.now) stretch.lo stretch.hi result }
 {
+    let Stretch { lo, hi } = stretch;
     let mut slack = hi - terms.demand(hi);
     let mut top = hi - 1;
     while lo <= top {
-        let Some(found) = descend(terms, slack, lo, top) else {
+        let Some(found) = descend(terms, slack, Stretch { lo, hi: top }) else {
             return slack;
         };
         slack = found - terms.demand(found);
@@ -92,11 +97,13 @@ fn late_witness(cycle: &Cycle) -> Witness
     ensures { (SmallestFailing (held_by cycle.now.terms) result.length) × (result.demand ≡ held_by cycle.now.terms result.length) }
 {
     let terms = &cycle.terms;
-    let lo = cycle.d + 1;
-    let hi = cycle.d + cycle.period;
+    let after_d = Stretch {
+        lo: cycle.d + 1,
+        hi: cycle.d + cycle.period,
+    };
     let over = cycle.growth - cycle.period;
-    let k = least_slack(terms, lo, hi) / over + 1;
-    let r = first(terms, k * over, lo, hi).unwrap();
+    let k = least_slack(terms, after_d) / over + 1;
+    let r = first(terms, k * over, after_d).unwrap();
     Witness {
         length: k * cycle.period + r,
         demand: k * cycle.growth + terms.demand(r),

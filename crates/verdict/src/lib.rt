@@ -10,6 +10,7 @@ mod descent;
 mod lifts;
 mod line;
 mod parts;
+mod stretch;
 mod terms;
 
 ghost use Rattle.std.specs.Prelude.{◌≡◌, ◌≤◌};
@@ -36,7 +37,7 @@ pub struct Witness {
 }
 
 // A table is feasible, overloaded with a witness, or refused. (5.4, 5.5)
-// It stays an enum of three cases, since the rules name three answers and one `match` tells them.
+// It is no `Result`: the rules name three answers side by side, and one `match` tells them apart.
 #[derive(Clone, Copy)]
 pub enum Verdict {
     Feasible,

@@ -5,12 +5,12 @@ ghost use Rattle.std.specs.Prelude.{◌≡◌, true, ◌≢◌, ◌+◌, ◌%◌
 ghost use Rattle.std.specs.Int.{◌∣◌};
 ghost use Rattle.table.specs.Limits.{max_period};
 ghost use Rattle.verdict.specs.HeldTerms.{max_searched};
-ghost use Rattle.verdict.specs.HeldParts.{LeftOutRepeats, LineAbove, LowerLift};
-ghost use Rattle.verdict.specs.Searched.{held_by, IsPart, IsLine};
+ghost use Rattle.verdict.specs.HeldParts.{LeftOutRepeats, LineAbove, LowerLift, max_over};
+ghost use Rattle.verdict.specs.Searched.{held_by, IsLine};
 
+use crate::choices::Way;
 use crate::cycle::Cycle;
-use crate::line::Line;
-use crate::parts::Part;
+use crate::parts::{Part, part_of};
 use crate::terms::{GROUP, Terms};
 
 // Whether b divides the step or the turn.
@@ -50,36 +50,32 @@ pub(crate) fn turn_of(terms: &Terms, step: u64, parts: u64, most: u64) -> Option
     None
 }
 
-// The smallest lift with which the line is above what the part leaves out in every length below `end`.
-fn least_lift(terms: &Terms, part: &Terms, line: &Line, end: u64) -> u64
-    requires { (end ≤ max_searched + 1) × (LineAbove (held_by terms.now) (held_by part.now) line.now.period line.now.slope line.now.lift) }
-    ensures { LowerLift (held_by terms.now) (held_by part.now) line.now.period line.now.slope line.now.lift end result }
+// The smallest lift with which the line of a part is above what the part leaves out in every length below `end`.
+fn least_lift(terms: &Terms, part: &Part, end: u64) -> u64
+    requires { (end ≤ max_searched + 1)
+        × (LineAbove (held_by terms.now) (held_by part.now.terms) part.now.line.period part.now.line.slope part.now.line.lift) }
+    ensures { LowerLift (held_by terms.now) (held_by part.now.terms) part.now.line.period part.now.line.slope part.now.line.lift end result }
 {
     let mut most: u64 = 0;
     for at in 0..end {
-        let rest = terms.demand(at).saturating_sub(part.demand(at));
-        most = most.max((line.period * rest).saturating_sub(line.slope * at));
+        let rest = terms.demand(at).saturating_sub(part.terms.demand(at));
+        most = most.max((part.line.period * rest).saturating_sub(part.line.slope * at));
     }
     most
 }
 
-// The line of the part for a step, lowered where there is a `turn` after which what is left out repeats itself.
-pub(crate) fn lowered(cycle: &Cycle, part: &Part, step: u64, turn: Option<u64>) -> Line
-    requires { IsPart cycle.now.terms.entries cycle.now.terms.count step cycle.now.period cycle.now.growth part.now }
-    ensures { IsLine (held_by cycle.now.terms) part.now.terms cycle.now.d step cycle.now.period cycle.now.growth result }
+// The part for the step of a way. Its line is lowered where the way has a `turn` after which what is left out repeats itself.
+pub(crate) fn lowered(cycle: &Cycle, way: Way) -> Part
+    requires { cycle.now.growth ≤ cycle.now.period + max_over }
+    ensures { IsLine (held_by cycle.now.terms) result.terms cycle.now.d way.step cycle.now.period cycle.now.growth result.line }
 {
-    let mut lift = part.line.lift;
-    if let Some(turn) = turn
+    let mut part = part_of(cycle, way.step);
+    if let Some(turn) = way.turn
         && 1 <= turn
         && turn <= cycle.period
-        && repeats_every(&cycle.terms, step, turn)
+        && repeats_every(&cycle.terms, way.step, turn)
     {
-        lift = least_lift(&cycle.terms, &part.terms, &part.line, cycle.d + turn);
+        part.line.lift = least_lift(&cycle.terms, &part, cycle.d + turn);
     }
-    Line {
-        slope: part.line.slope,
-        lift,
-        period: cycle.period,
-        extra: part.line.extra,
-    }
+    part
 }

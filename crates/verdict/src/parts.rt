@@ -17,8 +17,23 @@ pub(crate) struct Part {
     pub(crate) line: Line,
 }
 
+impl Part {
+    // A look at a length: the demand of the part, the height of its line, and the line's `extra`. A line without slope costs no division.
+    pub(crate) fn look_at(&self, length: u64) -> u64
+        requires { length ≤ max_searched }
+        ensures { result ≡ with_line self.now.terms self.now.line length }
+    {
+        let line = &self.line;
+        let demand = self.terms.demand(length) + line.extra;
+        if line.slope == 0 {
+            return demand;
+        }
+        demand + (line.slope * length + line.lift) / line.period
+    }
+}
+
 // The amount n where b divides the step, and otherwise 0.
-// This and `left_out` stay two functions of one line, since each answers one definition of the theory.
+// This and `left_out` are two functions of one line, since each has a definition of the theory for its contract.
 fn taken_in(step: u64, b: u64, n: u64) -> u64
     requires { 1 ≤ b }
     ensures { result ≡ taken_into_part step b n }
@@ -72,16 +87,4 @@ pub(crate) fn part_of(cycle: &Cycle, step: u64) -> Part
             extra: cycle.growth.saturating_sub(period),
         },
     }
-}
-
-// A look at a length: the demand of a part, the height of its line, and the line's `extra`. A line without slope costs no division.
-pub(crate) fn look_at(terms: &Terms, line: &Line, length: u64) -> u64
-    requires { length ≤ max_searched }
-    ensures { result ≡ with_line terms.now line.now length }
-{
-    let demand = terms.demand(length) + line.extra;
-    if line.slope == 0 {
-        return demand;
-    }
-    demand + (line.slope * length + line.lift) / line.period
 }

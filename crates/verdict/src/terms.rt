@@ -23,7 +23,7 @@ pub(crate) const ROOM: usize = GROUP * (Table::MAX_ROWS + Table::MAX_SERVERS + 1
 const PARTS: u64 = 8589934592;
 
 // A timer and the terms of a demand: the array, and how many terms stand in it.
-// The groups stay in one array, since `put` writes six entries one after another in either form, and each definition of the demand reads this array.
+// The groups stand in one array of numbers, which each definition of the demand reads.
 #[derive(Drop)]
 pub(crate) struct Terms {
     pub(crate) entries: [u64; ROOM],
@@ -85,6 +85,7 @@ impl Terms {
     }
 
     // The demand of one term: floor(a · v / b) · w, where v is the length + up − down, or 0 if that is below 0. The reciprocal does the division.
+    // That the length may be searched is a clause: a length is a sum of other numbers, and a type of its own would be made anew at each look.
     fn term_demand(&self, i: usize, length: u64) -> u64
         requires { (i < self.now.count) × (length ≤ max_searched) }
         ensures { result ≡ held_term self.now.entries i length }

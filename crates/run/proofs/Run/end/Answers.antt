@@ -31,20 +31,20 @@ is_found c = sym c.place_of.ensures ∙ c.in-Some.is
 inside : (c : In-Some) → c.in-Some.at < used c.args.self.pending
 inside c = (found_there c.args.self c.args.serial.0 c.in-Some.at (is_found c)).0
 
-pub returns-then-self-ge-MAX_ENDED : goal.returns-then-self-ge-MAX_ENDED
-returns-then-self-ge-MAX_ENDED c =
-    let to = goal.at.returns-then-self-ge-MAX_ENDED c in
-    c.refused_end-then-self-ge-MAX_ENDED.ensures
-    ∙ end_too_many c.args.self c.args.serial.0 (good to.Else-not-sound).0 _ (is_found to.In-Some) c.if-self-ge-MAX_ENDED.true
+pub returns-then-run-ge-MAX_ENDED : goal.returns-then-run-ge-MAX_ENDED
+returns-then-run-ge-MAX_ENDED c =
+    let to = goal.at.returns-then-run-ge-MAX_ENDED c in
+    c.refused_end-then-run-ge-MAX_ENDED.ensures
+    ∙ end_too_many c.args.self c.args.serial.0 (good to.Else-not-sound).0 _ (is_found to.In-Some) c.if-run-ge-MAX_ENDED.true
 
-pub offset_bounds-self-at : goal.offset_bounds-self-at
-offset_bounds-self-at c =
-    let to = goal.at.offset_bounds-self-at c in
+pub offset_bounds-pending-at : goal.offset_bounds-pending-at
+offset_bounds-pending-at c =
+    let to = goal.at.offset_bounds-pending-at c in
     omega (arith, found_in_places c.args.self c.args.serial.0 (good to.Else-not-sound) c.in-Some.at (is_found to.In-Some))
 
-pub bounds-self-at : goal.bounds-self-at
-bounds-self-at c =
-    let to = goal.at.bounds-self-at c in
+pub bounds-pending-at : goal.bounds-pending-at
+bounds-pending-at c =
+    let to = goal.at.bounds-pending-at c in
     omega (arith, found_in_places c.args.self c.args.serial.0 (good to.Else-not-sound) c.in-Some.at (is_found to.In-Some))
 
 pub overflow_sub-result : goal.overflow_sub-result
@@ -60,5 +60,5 @@ returns c =
     let to = goal.at.returns c in
     let run = c.args.self in
     let at = c.in-Some.at in
-    let done = end_done run c.args.serial.0 (good to.Else-not-sound).0 at (is_found to.In-Some) c.if-self-ge-MAX_ENDED.false in
+    let done = end_done run c.args.serial.0 (good to.Else-not-sound).0 at (is_found to.In-Some) c.if-run-ge-MAX_ENDED.false in
     simp (c.take_out-step.ensures, place_holds_job run.pending at (inside to.In-Some)) done

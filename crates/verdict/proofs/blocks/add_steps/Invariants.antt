@@ -8,7 +8,7 @@ use Rattle.verdict.proofs.blocks.add_steps.Given as goal
 
 abbrev pub invariant-loop-k : goal.invariant-loop-k
 invariant-loop-k l =
-    Counting (terms_demand l.terms.entries l.i) (held_term l.terms.entries l.i) l.base l.size (l.base + l.k) l.rises × StepAt l.b l.a l.up l.down (l.base + l.k) l.remainder
+    Counting (terms_demand l.terms.entries l.i) (held_term l.terms.entries l.i) l.block.base l.block.size (l.block.base + l.k) l.rises × StepAt l.b l.a l.up l.down (l.block.base + l.k) l.remainder
 
 abbrev pub decreases-loop-k : goal.decreases-loop-k
-decreases-loop-k l = l.size - l.k
+decreases-loop-k l = l.block.size - l.k

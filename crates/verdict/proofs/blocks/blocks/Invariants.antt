@@ -8,7 +8,7 @@ use Rattle.verdict.proofs.Searches.{FitsBelow}
 use Rattle.verdict.proofs.blocks.blocks.Given as goal
 
 abbrev pub invariant-loop-base : goal.invariant-loop-base
-invariant-loop-base l = (l.lo ≤ l.base) × (length l.rises ≡ block_size) × FitsBelow (held_by l.terms) l.lo l.base
+invariant-loop-base l = (l.stretch.lo ≤ l.base) × (length l.rises ≡ block_size) × FitsBelow (held_by l.terms) l.stretch.lo l.base
 
 abbrev pub decreases-loop-base : goal.decreases-loop-base
-decreases-loop-base l = l.hi + 1 - l.base
+decreases-loop-base l = l.stretch.hi + 1 - l.base

@@ -10,8 +10,8 @@ pub loop-i-init : goal.loop-i-init
 loop-i-init c =
     let a = c.args in
     let filled = c.fill.ensures in
-    let taken = length-take a.size a.rises.now in (
+    let taken = length-take a.block.size a.rises.now in (
       omega arith,
-      no_terms_yet _ _ (omega (arith, length_front a.rises.now c.fill.new.self a.size filled.len))
+      no_terms_yet _ _ (omega (arith, length_front a.rises.now c.fill.new.self a.block.size filled.len))
           (λ j h. get_or-append c.fill.new.self _ 0 j (omega (arith, taken, filled.len)) ∙ filled.clones j 0 (omega (arith, taken)) refl),
     )

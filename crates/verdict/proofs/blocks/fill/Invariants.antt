@@ -4,4 +4,4 @@ use Rattle.verdict.specs.Blocks.{terms_demand, RisesOf}
 use Rattle.verdict.proofs.blocks.fill.Given as goal
 
 abbrev pub invariant-loop-i : goal.invariant-loop-i
-invariant-loop-i l = (l.i ≤ l.terms.count) × RisesOf (terms_demand l.terms.entries l.i) l.base l.size l.rises
+invariant-loop-i l = (l.i ≤ l.terms.count) × RisesOf (terms_demand l.terms.entries l.i) l.block.base l.block.size l.rises

@@ -8,4 +8,4 @@ use Rattle.verdict.proofs.blocks.look.Given as goal
 
 abbrev pub invariant-loop-k : goal.invariant-loop-k
 invariant-loop-k l =
-    (l.k ≤ l.size) × (l.sum ≡ held_by l.terms (l.base + l.k - 1)) × (l.rest ≡ (l.base + l.k - 1) % held_p l.terms.entries) × FitsBelow (held_by l.terms) l.base (l.base + l.k)
+    (l.k ≤ l.block.size) × (l.sum ≡ held_by l.terms (l.block.base + l.k - 1)) × (l.rest ≡ (l.block.base + l.k - 1) % held_p l.terms.entries) × FitsBelow (held_by l.terms) l.block.base (l.block.base + l.k)

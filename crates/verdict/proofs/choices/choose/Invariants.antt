@@ -4,4 +4,4 @@ use Prim.Native.Nat.{◌≤◌}
 use Rattle.verdict.proofs.choices.choose.Given as goal
 
 abbrev pub invariant-loop-parts : goal.invariant-loop-parts
-invariant-loop-parts l = IfSome l.choice.step (λ step. (1 ≤ step) × (step ≤ l.cycle.period)) × (l.room ≤ l.cycle.period)
+invariant-loop-parts l = IfSome l.choice.way (λ way. way.step ≤ l.cycle.period) × (l.room ≤ l.cycle.period)

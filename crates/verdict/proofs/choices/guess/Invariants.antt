@@ -1,4 +1,4 @@
--- `verdict::classes::guess` meets its contract: nothing overflows, no number is divided by 0, and the samples come to an end.
+-- `verdict::choices::guess` meets its contract: nothing overflows, no number is divided by 0, and the samples come to an end.
 use Prim.Native.Nat.{◌-◌, ◌*◌, ◌≤◌, ◌<◌}
 use Rattle.verdict.proofs.choices.guess.Given as goal
 

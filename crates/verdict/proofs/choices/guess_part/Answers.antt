@@ -4,4 +4,4 @@ use Rattle.verdict.proofs.choices.guess_part.Goals as goal
 pub guess-requires : goal.guess-requires
 guess-requires c =
     let p = c.requires in
-    rw c.lowered-line.ensures.is_period (p.0, c.args.cycle.now.most_d, p.3, p.4, p.5)
+    rw c.lowered-part.ensures.is_period (p.0, c.args.cycle.now.most_d, p.2, p.3, p.4)

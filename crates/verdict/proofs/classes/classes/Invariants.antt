@@ -6,7 +6,7 @@ use Rattle.verdict.proofs.classes.classes.Given as goal
 
 abbrev pub invariant-loop-top : goal.invariant-loop-top
 invariant-loop-top l =
-    (l.cycle.d ≤ l.top) × (l.top ≤ l.cycle.d + l.step) × ClassesDone (held_by l.cycle.terms) l.cycle.d l.step l.line.period l.top l.best
+    (l.cycle.d ≤ l.top) × (l.top ≤ l.cycle.d + l.way.step) × ClassesDone (held_by l.cycle.terms) l.cycle.d l.way.step l.part.line.period l.top l.best
 
 abbrev pub decreases-loop-top : goal.decreases-loop-top
 decreases-loop-top l = l.top

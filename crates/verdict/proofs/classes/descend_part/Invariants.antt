@@ -6,7 +6,7 @@ use Rattle.verdict.proofs.Searches.{FitsAbove}
 use Rattle.verdict.proofs.classes.descend_part.Given as goal
 
 abbrev pub invariant-loop-at : goal.invariant-loop-at
-invariant-loop-at l = (l.at ≤ l.hi) × FitsAbove (with_line l.part l.line) l.hi l.at
+invariant-loop-at l = (l.at ≤ l.stretch.hi) × FitsAbove (with_line l.part.terms l.part.line) l.stretch.hi l.at
 
 abbrev pub decreases-loop-at : goal.decreases-loop-at
 decreases-loop-at l = l.at

@@ -4,7 +4,7 @@ use Rattle.verdict.proofs.Searches.{InTurn}
 use Rattle.verdict.proofs.classes.settled_from.Given as goal
 
 abbrev pub invariant-loop-at : goal.invariant-loop-at
-invariant-loop-at l = InTurn l.step l.from l.at
+invariant-loop-at l = InTurn l.class.step l.class.from l.at
 
 abbrev pub decreases-loop-at : goal.decreases-loop-at
-decreases-loop-at l = l.best - l.at
+decreases-loop-at l = l.class.best - l.at

@@ -6,4 +6,4 @@ pub returns-else-found-end : goal.returns-else-found-end
 returns-else-found-end c =
     let p = c.requires in
     let a = c.args in
-    none_before_best c.walk-found.ensures _ a.d a.line.now.period p.5 p.1 p.3 p.4 c.settled_from-end.ensures c.if-found-end.false
+    none_before_best c.walk-found.ensures _ a.d a.part.now.line.period p.2 a.class.some_step p.0 p.1 c.settled_from-end.ensures c.if-found-end.false

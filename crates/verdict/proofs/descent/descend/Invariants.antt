@@ -6,7 +6,7 @@ use Rattle.verdict.proofs.Searches.{FitsAbove}
 use Rattle.verdict.proofs.descent.descend.Given as goal
 
 abbrev pub invariant-loop-at : goal.invariant-loop-at
-invariant-loop-at l = (l.at ≤ l.hi) × FitsAbove (raised (held_by l.terms) l.extra) l.hi l.at
+invariant-loop-at l = (l.at ≤ l.stretch.hi) × FitsAbove (raised (held_by l.terms) l.extra) l.stretch.hi l.at
 
 abbrev pub decreases-loop-at : goal.decreases-loop-at
 decreases-loop-at l = l.at

@@ -6,7 +6,7 @@ use Rattle.verdict.proofs.Searches.{FitsBelow}
 use Rattle.verdict.proofs.descent.first.Given as goal
 
 abbrev pub invariant-loop-low : goal.invariant-loop-low
-invariant-loop-low l = (l.lo ≤ l.low) × FitsBelow (raised (held_by l.terms) l.extra) l.lo l.low
+invariant-loop-low l = (l.stretch.lo ≤ l.low) × FitsBelow (raised (held_by l.terms) l.extra) l.stretch.lo l.low
 
 abbrev pub decreases-loop-low : goal.decreases-loop-low
-decreases-loop-low l = l.hi + 1 - l.low
+decreases-loop-low l = l.stretch.hi + 1 - l.low

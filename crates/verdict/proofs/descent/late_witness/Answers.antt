@@ -53,8 +53,7 @@ module _ (cycle : Cycle) (grows : cycle.period < cycle.growth) (slack : ℕ) (le
   small {r} found fits = omega (arith, found.to_hi, fits r (omega (arith, found.from_lo)) found.to_hi)
 
 pub first-requires : goal.first-requires
-first-requires c =
-    (omega (arith, (soon c.args.cycle.now c.requires.0 _ c.least_slack.ensures).1), omega arith, omega arith)
+first-requires c = omega (arith, (soon c.args.cycle.now c.requires.0 _ c.least_slack.ensures).1, c.args.cycle.now.most_d)
 
 pub unwrap-r-requires : goal.unwrap-r-requires
 unwrap-r-requires c =

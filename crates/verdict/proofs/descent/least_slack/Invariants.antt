@@ -5,7 +5,7 @@ use Rattle.verdict.proofs.Searches.{SlackAbove}
 use Rattle.verdict.proofs.descent.least_slack.Given as goal
 
 abbrev pub invariant-loop-top : goal.invariant-loop-top
-invariant-loop-top l = (l.top ≤ l.hi) × SlackAbove (held_by l.terms) l.lo l.hi l.top l.slack
+invariant-loop-top l = (l.top ≤ l.fn.stretch.hi) × SlackAbove (held_by l.terms) l.lo l.fn.stretch.hi l.top l.slack
 
 abbrev pub decreases-loop-top : goal.decreases-loop-top
 decreases-loop-top l = l.top

@@ -7,8 +7,8 @@ use Rattle.verdict.proofs.descent.smallest.Given as goal
 
 abbrev pub invariant-loop-low : goal.invariant-loop-low
 invariant-loop-low l =
-    (l.lo ≤ l.low) × (l.low ≤ l.high) × (l.high ≤ l.failing) × (l.high < raised (held_by l.terms) l.extra l.high)
-    × FitsBelow (raised (held_by l.terms) l.extra) l.lo l.low
+    (l.fn.stretch.lo ≤ l.low) × (l.low ≤ l.high) × (l.high ≤ l.fn.stretch.hi) × (l.high < raised (held_by l.terms) l.extra l.high)
+    × FitsBelow (raised (held_by l.terms) l.extra) l.fn.stretch.lo l.low
 
 abbrev pub decreases-loop-low : goal.decreases-loop-low
 decreases-loop-low l = l.high - l.low

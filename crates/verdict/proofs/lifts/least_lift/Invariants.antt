@@ -6,4 +6,4 @@ use Rattle.verdict.proofs.lifts.least_lift.Given as goal
 
 abbrev pub invariant-loop-at : goal.invariant-loop-at
 invariant-loop-at l =
-    (l.at ≤ l.end) × LowerLift (held_by l.terms) (held_by l.part) l.line.period l.line.slope l.line.lift l.at l.most
+    (l.at ≤ l.end) × LowerLift (held_by l.terms) (held_by l.part.terms) l.part.line.period l.part.line.slope l.part.line.lift l.at l.most
