@@ -24,15 +24,15 @@
  *
  * Time and stack. Both are measured, and not proved. The times are microseconds on an AMD EPYC processor with little
  * other work beside it, on the slowest inputs that were found for each call. For replay() they are microseconds for
- * each job. They are of an earlier library. The stack is the most bytes that a call
- * takes below its caller, with any input. In the first call of a program the dynamic linker binds memcpy() and
+ * each job. They are of an earlier library, as the kit before this one compiled it. The stack is the most bytes that a
+ * call takes below its caller, with any input. In the first call of a program the dynamic linker binds memcpy() and
  * memset(), which takes some thousand bytes more, 3,200 on that processor. Times and stack are measured by
  * bench/worst.c and c/test_stack_use.c, which stand in the repository. The numbers are the highest median of ten runs,
  * the slowest of all calls in them, and the stack:
  *
- *     verdict()       5,100     7,900    58,700
- *     replay()          0.5       0.7    73,100
- *     run_start()         6        69    63,100
+ *     verdict()       5,100     7,900    54,300
+ *     replay()          0.5       0.7    68,700
+ *     run_start()         6        69    58,700
  *     run_release()      24       150   225,800
  *     run_tick()         11        56   138,500
  *     run_end()          24       139   167,500
@@ -197,7 +197,7 @@ extern "C" {
 
 /*
  * The bytes of stack with which a thread can make verdict() and replay(). With what the system itself puts on a
- * thread's stack, a thread needs at most 81,920 bytes for them. The other 16,384 are room, for the functions that make
+ * thread's stack, a thread needs at most 77,824 bytes for them. The other 20,480 are room, for the functions that make
  * the call and for signal handlers.
  */
 #define JYRMEKKO_STACK_SIZE 98304

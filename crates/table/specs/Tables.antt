@@ -4,7 +4,6 @@ use Rattle.kinds.specs.declared.RefusedAt.{RefusedAt}
 use Rattle.kinds.specs.declared.Refusal.TheVariants.{TooManyRows, ExtraBytes, PeriodTooLong}
 use Rattle.numbers.specs.declared.Number.{Number}
 use Rattle.numbers.specs.Reading.{read_at}
-use Rattle.table.specs.declared.TableWith.{TableWith}
 use Rattle.table.specs.declared.RowsAt.{RowsAt}
 use Rattle.table.specs.declared.RowAt.{RowAt}
 use Rattle.table.specs.declared.Row.{Row}
@@ -111,11 +110,6 @@ held_as (refused r) = Err r
 -- For a refused table the empty table is answered, beside the refusal. (10.5)
 abbrev pub refused_table : RefusedAt → TableRead
 refused_table at = record { table = empty_table; answer = Err at }
-
--- A table that was read stands beside its H. For a refused table the empty table stands beside the refusal. (10.5)
-abbrev pub beside : Result TableWith RefusedAt → TableRead
-beside (Ok read) = record { table = read.table; answer = Ok read.period }
-beside (Err at) = refused_table at
 
 -- The rows and servers were read up to the place `next`. Bytes after them are refusal 4. After that test, an H above 1,048,576 is refusal 5. Otherwise the
 -- table is accepted, with its H. (3.11, 3.12, 3.13)

@@ -11,7 +11,7 @@ ghost use Rattle.std.specs.Prelude.{◌≡◌, ◌+◌, ◌≤◌, take};
 ghost use Rattle.table.specs.Limits.{max_rows, max_servers, limits};
 ghost use Rattle.table.specs.Period.{periods_of};
 ghost use Rattle.table.specs.Rows.{within_limit, fine, row_in_range, hopeless, row_acceptable};
-ghost use Rattle.table.specs.Tables.{content_of, empty_table, beside, table_read};
+ghost use Rattle.table.specs.Tables.{content_of, empty_table, table_read};
 
 use crate::rows::read_rows;
 use crate::servers::read_servers;
@@ -110,13 +110,6 @@ struct ServersAt {
     servers: [Server; Table::MAX_SERVERS],
     serving: usize,
     next: usize,
-}
-
-// A table that was read comes with its H.
-#[derive(Clone, Copy)]
-struct TableWith {
-    table: Table,
-    period: u64,
 }
 
 impl Row {
@@ -228,9 +221,12 @@ impl Table {
     }
 }
 
-// The table that the bytes spell, with its H, or the refusal with its place. (3.6, 3.7, 3.13, 3.17, 3.19)
-fn spelled(bytes: &[u8]) -> Result<TableWith, RefusedAt>
-    ensures { beside result ≡ table_read bytes.now }
+// Reads the table that the bytes spell into a table that is lent, which is empty before. The answer is its H, or the refusal with its place, and a refusal
+// leaves the table empty. The table is lent, and is no part of the answer, so that a `Result` holds no table that is then copied out of it. (3.6, 3.7, 3.13,
+// 3.17, 3.19)
+fn spelled(bytes: &[u8], table: &mut Table) -> Result<u64, RefusedAt>
+    requires { table.old ≡ empty_table }
+    ensures { record { table = table.new; answer = result } ≡ table_read bytes.now }
 {
     let timer = read_timer(bytes)?;
     let read = read_rows(bytes, timer.next)?;
@@ -241,7 +237,7 @@ fn spelled(bytes: &[u8]) -> Result<TableWith, RefusedAt>
     // The check wants an array that goes into a literal in a variable of its own.
     let rows = read.rows;
     let servers = served.servers;
-    let table = Table {
+    let whole = Table {
         s: timer.s,
         p: timer.p,
         rows,
@@ -249,12 +245,15 @@ fn spelled(bytes: &[u8]) -> Result<TableWith, RefusedAt>
         servers,
         serving: served.serving,
     };
-    let periods = table.periods();
+    let periods = whole.periods();
     match periods::period_within(
-        &periods[..table.count + table.serving + 1],
+        &periods[..whole.count + whole.serving + 1],
         Table::MAX_PERIOD,
     ) {
-        Ok(period) => Ok(TableWith { table, period }),
+        Ok(period) => {
+            *table = whole;
+            Ok(period)
+        }
         Err(r) => Err(r.at(bytes.len())),
     }
 }
@@ -264,14 +263,7 @@ fn spelled(bytes: &[u8]) -> Result<TableWith, RefusedAt>
 pub fn read_table(bytes: &[u8]) -> TableRead
     ensures { result ≡ table_read bytes.now }
 {
-    match spelled(bytes) {
-        Ok(read) => TableRead {
-            table: read.table,
-            answer: Ok(read.period),
-        },
-        Err(at) => TableRead {
-            table: Table::empty(),
-            answer: Err(at),
-        },
-    }
+    let mut table = Table::empty();
+    let answer = spelled(bytes, &mut table);
+    TableRead { table, answer }
 }
