@@ -1,15 +1,13 @@
 // How a period is searched: by the classes of a P that divides H, by descent, or by blocks. Samples of the lengths choose. That any choice finds the same length
 // is proved where the lengths are searched, so nothing rests on the samples. (docs/RULES.md, 5.4 to 5.8.)
-ghost use Rattle.std.specs.Prelude.{◌+◌, ◌≤◌, IfSome};
+ghost use Rattle.std.specs.Prelude.{◌≡◌, ◌+◌, ◌≤◌, IfSome};
 ghost use Rattle.table.specs.Limits.{max_d, max_period};
 ghost use Rattle.verdict.specs.HeldTerms.{max_searched};
 ghost use Rattle.verdict.specs.HeldParts.{max_over};
 
 use crate::cycle::Cycle;
 use crate::lifts::{lowered, turn_of};
-use crate::line::Line;
 use crate::parts::Part;
-use crate::terms::Terms;
 
 // A period is divided into at most so many parts.
 const MOST_PARTS: u64 = 4096;
@@ -73,19 +71,19 @@ fn guess(part: &Part, d: u64, step: u64, range: u64) -> u64
     step * sum / 64 / n + (bad + 1) * period / n
 }
 
-// About how many looks a search by classes needs in one way. Nothing rests on the answer.
-fn guess_part(cycle: &Cycle, way: Way, range: u64) -> u64
+// About how many looks a search by classes needs in one way, whose part is made in the place of the part that is lent. Nothing rests on the answer.
+fn guess_part(cycle: &Cycle, way: Way, range: u64, part: &mut Part) -> u64
     requires { (64 ≤ cycle.now.period) × (cycle.now.growth ≤ cycle.now.period + max_over) × (way.step ≤ cycle.now.period)
         × (1 ≤ range) × (range ≤ cycle.now.period) }
 {
-    let part = lowered(cycle, way);
-    guess(&part, cycle.d, way.step, range)
+    lowered(cycle, way, part);
+    guess(part, cycle.d, way.step, range)
 }
 
 // The choice among the steps, beginning with an earlier choice: the step with which a search by classes is thought to need the fewest looks, or the earlier
 // choice where no step is thought to need fewer. Where lines are lowered, looks at lengths are spent on it, but no more than `room` of them.
 // `lowering` is a flag: a closure in its place would change `room`, and would have to promise what `guess_part` requires of the range.
-fn choose(cycle: &Cycle, early: Choice, lowering: bool) -> Choice
+fn choose(cycle: &Cycle, early: Choice, lowering: bool, part: &mut Part) -> Choice
     requires { (64 ≤ cycle.now.period) × (cycle.now.growth ≤ cycle.now.period + max_over)
         × (IfSome early.way (λ way. way.step ≤ cycle.now.period)) }
     ensures { IfSome result.way (λ way. way.step ≤ cycle.now.period) }
@@ -112,7 +110,7 @@ fn choose(cycle: &Cycle, early: Choice, lowering: bool) -> Choice
                 range = period;
             }
             let way = Way { step, turn };
-            let looks = guess_part(cycle, way, range);
+            let looks = guess_part(cycle, way, range, part);
             if looks < choice.looks {
                 choice = Choice {
                     way: Some(way),
@@ -134,30 +132,19 @@ pub(crate) fn by_blocks(cycle: &Cycle, looks: u64) -> bool {
     cycle.period / share < looks
 }
 
-// The way in which the period is searched by classes, or none where it is searched by descent or by blocks.
-pub(crate) fn choose_way(cycle: &Cycle) -> Choice
-    requires { (64 ≤ cycle.now.period) × (cycle.now.growth ≤ cycle.now.period + max_over) }
+// The way in which the period is searched by classes, or none where it is searched by descent or by blocks. `part` is the part that takes in all terms. The
+// parts of the ways that are tried are made in its place.
+pub(crate) fn choose_way(cycle: &Cycle, part: &mut Part) -> Choice
+    requires { (64 ≤ cycle.now.period) × (cycle.now.growth ≤ cycle.now.period + max_over) × (part.old.line.period ≡ cycle.now.period) }
     ensures { IfSome result.way (λ way. way.step ≤ cycle.now.period) }
 {
     let period = cycle.period;
-    // The part that takes in all terms. Its line is flat.
-    let whole = Part {
-        terms: Terms {
-            entries: cycle.terms.entries,
-            count: cycle.terms.count,
-        },
-        line: Line {
-            slope: 0,
-            lift: 0,
-            period,
-            extra: cycle.growth.saturating_sub(period),
-        },
-    };
     let descent = Choice {
         way: None,
-        looks: guess(&whole, cycle.d, period, period),
+        looks: guess(part, cycle.d, period, period),
     };
-    let choice = choose(cycle, choose(cycle, descent, false), true);
+    let early = choose(cycle, descent, false, part);
+    let choice = choose(cycle, early, true, part);
     if by_blocks(cycle, choice.looks) {
         return Choice {
             way: None,

@@ -101,17 +101,17 @@ fn walk_class(terms: &Terms, part: &Part, d: u64, class: Class) -> u64
     if found < end { found } else { class.best }
 }
 
-// The smallest length of the period after d that fails, if one does, by classes. (5.8)
-fn classes(cycle: &Cycle, way: Way) -> Option<u64>
+// The smallest length of the period after d that fails, if one does, by classes. Their part is made in the place of the part that is lent. (5.8)
+fn classes(cycle: &Cycle, way: Way, part: &mut Part) -> Option<u64>
     requires { (cycle.now.growth ≤ cycle.now.period + max_over) × (way.step ≤ cycle.now.period) }
     ensures { SmallestOrNone (held_by cycle.now.terms) (cycle.now.d + 1) (cycle.now.d + cycle.now.period) result }
 {
-    let part = lowered(cycle, way);
+    lowered(cycle, way, part);
     let d = cycle.d;
     let mut best = d + part.line.period + 1;
     let mut top = d + way.step;
     while d < top {
-        match descend_part(&part, Stretch { lo: d + 1, hi: top }) {
+        match descend_part(part, Stretch { lo: d + 1, hi: top }) {
             None => top = d,
             Some(found) => {
                 let class = Class {
@@ -119,7 +119,7 @@ fn classes(cycle: &Cycle, way: Way) -> Option<u64>
                     from: found,
                     best,
                 };
-                best = walk_class(&cycle.terms, &part, d, class);
+                best = walk_class(&cycle.terms, part, d, class);
                 top = found - 1;
             }
         }
@@ -161,7 +161,8 @@ pub(crate) fn period_search(cycle: &Cycle, done: u64) -> Option<u64>
     if let Some(early) = first(terms, 0, near) {
         return Some(early);
     }
-    let choice = choose_way(cycle);
+    let mut part = Part::whole(cycle);
+    let choice = choose_way(cycle, &mut part);
     let rest = Stretch {
         lo: near.hi + 1,
         hi: all.hi,
@@ -176,5 +177,5 @@ pub(crate) fn period_search(cycle: &Cycle, done: u64) -> Option<u64>
     if let Some(sooner) = first(terms, 0, middle) {
         return Some(sooner);
     }
-    classes(cycle, way)
+    classes(cycle, way, &mut part)
 }

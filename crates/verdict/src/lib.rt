@@ -13,7 +13,8 @@ mod parts;
 mod stretch;
 mod terms;
 
-ghost use Rattle.std.specs.Prelude.{◌≡◌, ◌≤◌};
+ghost use Rattle.std.specs.Prelude.{◌≡◌, ◌+◌, ◌≤◌};
+ghost use Rattle.theory.specs.Curves.{Curve, FitsUpTo};
 ghost use Rattle.theory.specs.Ticks.{timer_takes};
 ghost use Rattle.table.specs.SpelledTables.{WithinLimits};
 ghost use Rattle.table.specs.Limits.{max_period};
@@ -21,7 +22,8 @@ ghost use Rattle.table.specs.Timer.{GoodTimer};
 ghost use Rattle.table.specs.Servers.{GoodServer};
 ghost use Rattle.table.specs.Tables.{InRange};
 ghost use Rattle.verdict.specs.Demand.{row_demand_of, server_demand_of, table_demand, table_growth, largest_d, max_length};
-ghost use Rattle.verdict.specs.Verdict.{Scanned, Judged};
+ghost use Rattle.verdict.specs.Verdict.{Scanned, RightFor, Judged};
+ghost use Rattle.verdict.specs.HeldParts.{PeriodOf};
 
 use crate::cycle::Cycle;
 use crate::descent::search;
@@ -145,6 +147,22 @@ pub fn judge_every_length(bytes: &[u8]) -> Verdict
     }
 }
 
+// The quick search on a table whose lengths up to `done` fit. It is a function of its own, so that a verdict that needs no quick search makes no array of terms.
+// (5.4 to 5.9)
+fn search_on(table: Table, d: u64, period: u64, growth: u64, done: u64) -> Verdict
+    requires { (InRange table) × (d ≡ largest_d table) × (1 ≤ period) × (period ≤ max_period) × (PeriodOf table period)
+        × (Curve (table_demand table) d period growth) × (done ≤ d + period) × (FitsUpTo (table_demand table) done) }
+    ensures { RightFor (table_demand table) result }
+{
+    let cycle = Cycle {
+        terms: Terms::of_table(table),
+        d,
+        period,
+        growth,
+    };
+    search(&cycle, done)
+}
+
 // So many lengths are looked at in turn before the quick search begins: tables with a small witness, and small tables, need no more.
 const EARLY: u64 = 64;
 
@@ -168,11 +186,5 @@ pub fn judge(bytes: &[u8]) -> Verdict
     if d + period <= EARLY && growth <= period {
         return Verdict::Feasible;
     }
-    let cycle = Cycle {
-        terms: Terms::of_table(table),
-        d,
-        period,
-        growth,
-    };
-    search(&cycle, early)
+    search_on(table, d, period, growth, early)
 }

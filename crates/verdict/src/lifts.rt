@@ -1,11 +1,11 @@
 // Lower lines above what a part leaves out. The line of a part is the sum of its terms' lines, and may be far above the sum of the terms. What is left out
 // repeats itself every Q, where Q is a multiple of the b of each term that is left out. So looks at the lengths up to d + Q tell the lowest line of the same
 // slope that is above it in every length. (docs/RULES.md, 5.3 and 5.7.)
-ghost use Rattle.std.specs.Prelude.{◌≡◌, true, ◌≢◌, ◌+◌, ◌%◌, ◌≤◌};
+ghost use Rattle.std.specs.Prelude.{◌≡◌, true, ◌≢◌, ℕ, ◌+◌, ◌%◌, ◌≤◌};
 ghost use Rattle.std.specs.Int.{◌∣◌};
 ghost use Rattle.table.specs.Limits.{max_period};
 ghost use Rattle.verdict.specs.HeldTerms.{max_searched};
-ghost use Rattle.verdict.specs.HeldParts.{LeftOutRepeats, LineAbove, LowerLift, max_over};
+ghost use Rattle.verdict.specs.HeldParts.{LeftOutRepeats, LineAbove, LowerLift, max_over, part_demand, line_slope, line_lift};
 ghost use Rattle.verdict.specs.Searched.{held_by, IsLine};
 
 use crate::choices::Way;
@@ -64,18 +64,21 @@ fn least_lift(terms: &Terms, part: &Part, end: u64) -> u64
     most
 }
 
-// The part for the step of a way. Its line is lowered where the way has a `turn` after which what is left out repeats itself.
-pub(crate) fn lowered(cycle: &Cycle, way: Way) -> Part
+// The part for the step of a way, in the place of the part that is lent. Its line is lowered where the way has a `turn` after which what is left out repeats
+// itself.
+pub(crate) fn lowered(cycle: &Cycle, way: Way, part: &mut Part)
     requires { cycle.now.growth ≤ cycle.now.period + max_over }
-    ensures { IsLine (held_by cycle.now.terms) result.terms cycle.now.d way.step cycle.now.period cycle.now.growth result.line }
+    ensures { (IsLine (held_by cycle.now.terms) part.new.terms cycle.now.d way.step cycle.now.period cycle.now.growth part.new.line)
+        × ((L : ℕ) → held_by part.new.terms L ≡ part_demand cycle.now.terms.entries cycle.now.terms.count way.step L)
+        × (part.new.line.slope ≡ line_slope cycle.now.terms.entries cycle.now.terms.count way.step cycle.now.period)
+        × (part.new.line.lift ≤ line_lift cycle.now.terms.entries cycle.now.terms.count way.step cycle.now.period) }
 {
-    let mut part = part_of(cycle, way.step);
+    part_of(cycle, way.step, part);
     if let Some(turn) = way.turn
         && 1 <= turn
         && turn <= cycle.period
         && repeats_every(&cycle.terms, way.step, turn)
     {
-        part.line.lift = least_lift(&cycle.terms, &part, cycle.d + turn);
+        part.line.lift = least_lift(&cycle.terms, part, cycle.d + turn);
     }
-    part
 }

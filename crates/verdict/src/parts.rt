@@ -18,6 +18,25 @@ pub(crate) struct Part {
 }
 
 impl Part {
+    // The part that takes in all terms. Its line is flat.
+    pub(crate) fn whole(cycle: &Cycle) -> Part
+        requires { cycle.now.growth ≤ cycle.now.period + max_over }
+        ensures { result.line.period ≡ cycle.now.period }
+    {
+        Part {
+            terms: Terms {
+                entries: cycle.terms.entries,
+                count: cycle.terms.count,
+            },
+            line: Line {
+                slope: 0,
+                lift: 0,
+                period: cycle.period,
+                extra: cycle.growth.saturating_sub(cycle.period),
+            },
+        }
+    }
+
     // A look at a length: the demand of the part, the height of its line, and the line's `extra`. A line without slope costs no division.
     pub(crate) fn look_at(&self, length: u64) -> u64
         requires { length ≤ max_searched }
@@ -49,18 +68,19 @@ fn left_out(step: u64, b: u64, n: u64) -> u64
     if step % b == 0 { 0 } else { n }
 }
 
-// The part for a step, and its line. A term whose b divides the step is taken in. Any other is left out: its growth in a period is added to the slope, and that
-// growth times `up` to the lift. (5.7)
-pub(crate) fn part_of(cycle: &Cycle, step: u64) -> Part
+// The part for a step, and its line, in the place of the part that is lent. A term whose b divides the step is taken in. Any other is left out: its growth in a
+// period is added to the slope, and that growth times `up` to the lift. (5.7)
+pub(crate) fn part_of(cycle: &Cycle, step: u64, part: &mut Part)
     requires { cycle.now.growth ≤ cycle.now.period + max_over }
-    ensures { IsPart cycle.now.terms.entries cycle.now.terms.count step cycle.now.period cycle.now.growth result }
+    ensures { IsPart cycle.now.terms.entries cycle.now.terms.count step cycle.now.period cycle.now.growth part.new }
 {
     let terms = &cycle.terms;
     let period = cycle.period;
     let s = terms.entries[0];
     let p = terms.entries[1];
     let takes = s * (period / p);
-    let mut part = Terms::of_timer(taken_in(step, p, s), p, terms.entries[2]);
+    part.terms
+        .restart(taken_in(step, p, s), p, terms.entries[2]);
     let mut slope = left_out(step, p, takes);
     let mut lift = left_out(step, p, takes * (p - s));
     for i in 0..terms.count {
@@ -71,20 +91,17 @@ pub(crate) fn part_of(cycle: &Cycle, step: u64) -> Part
         let b = terms.entries[at + 4];
         let a = terms.entries[at + 5];
         if step % b == 0 {
-            part.put(b, a, w, up, down);
+            part.terms.put(b, a, w, up, down);
         } else {
             let growth = period / b * a * w;
             slope += growth;
             lift += growth * up;
         }
     }
-    Part {
-        terms: part,
-        line: Line {
-            slope,
-            lift,
-            period,
-            extra: cycle.growth.saturating_sub(period),
-        },
-    }
+    part.line = Line {
+        slope,
+        lift,
+        period,
+        extra: cycle.growth.saturating_sub(period),
+    };
 }

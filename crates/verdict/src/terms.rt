@@ -33,7 +33,7 @@ pub(crate) struct Terms {
 
 impl Terms {
     // A timer whose p has the reciprocal m, and no terms yet.
-    pub(crate) fn of_timer(s: u64, p: u64, m: u64) -> Self
+    fn of_timer(s: u64, p: u64, m: u64) -> Self
         requires { (GoodTimer s p) × (m ≡ reciprocal parts 1 p) }
         ensures { (length result.entries ≡ held_entries) × (result.count ≡ 0) × (held_p result.entries ≡ p)
             × ((L : ℕ) → held_demand result.entries 0 L ≡ timer_takes s p L) }
@@ -43,6 +43,18 @@ impl Terms {
         entries[1] = p;
         entries[2] = m;
         Terms { entries, count: 0 }
+    }
+
+    // The same in the place of what stands here: a part is made anew for each way that is tried, and no array is cleared or copied for it.
+    pub(crate) fn restart(&mut self, s: u64, p: u64, m: u64)
+        requires { (GoodTimer s p) × (m ≡ reciprocal parts 1 p) }
+        ensures { (length self.new.entries ≡ held_entries) × (self.new.count ≡ 0) × (held_p self.new.entries ≡ p)
+            × ((L : ℕ) → held_demand self.new.entries 0 L ≡ timer_takes s p L) }
+    {
+        self.entries[0] = s;
+        self.entries[1] = p;
+        self.entries[2] = m;
+        self.count = 0;
     }
 
     // One term more. The one division by b is here.

@@ -4,7 +4,6 @@ use Rattle.theory.specs.Curves.{FitsUpTo}
 use Rattle.verdict.specs.Demand.{table_demand}
 use Rattle.verdict.proofs.Bounds.{d_at_most}
 use Rattle.verdict.proofs.Scans.{settled_by_one_period, read_is_known, judged_as_accepted}
-use Rattle.verdict.proofs.QuickVerdict.{same_curve, same_fits}
 use Rattle.verdict.proofs.judge.Goals as goal
 
 pub largest_d-d-requires : goal.largest_d-d-requires
@@ -37,22 +36,16 @@ returns-then-growth-period c =
     (settled_by_one_period _ _ k c.largest_d-d.ensures c.growth-growth.ensures c.if-growth-period.true
     (λ L one high. fits L one (omega (arith, c.min-early.ensures))))
 
-pub of_table-requires : goal.of_table-requires
-of_table-requires c = (read_is_known _ _ c.read_table-read.ensures _ c.in-Ok.is (λ i. (c.type_inv.bytes i).fits)).in_range
-
-pub invariant_of-cycle : goal.invariant_of-cycle
-invariant_of-cycle c =
+pub search_on-requires : goal.search_on-requires
+search_on-requires c =
     let k = read_is_known _ _ c.read_table-read.ensures _ c.in-Ok.is (λ i. (c.type_inv.bytes i).fits) in
-    let held = c.of_table.ensures in
-    record {
-      most_d = omega (arith, c.largest_d-d.ensures, d_at_most k.in_range);
-      some_period = k.some_period;
-      most_period = k.most_period;
-      repeats = rw c.largest_d-d.ensures (held.1 _ k.whole);
-      curve = same_curve _ _ held.0 (rw (c.largest_d-d.ensures, c.growth-growth.ensures) k.curve);
-    }
-
-pub search-requires : goal.search-requires
-search-requires c =
-    let fits : FitsUpTo (table_demand c.read_table-read.result.table) c.min-early.result = rw c.in_default.is at c.scan_range.ensures in
-    (omega (arith, c.min-early.ensures), same_fits _ _ c.of_table.ensures.0 fits)
+    let fits : FitsUpTo (table_demand c.read_table-read.result.table) c.min-early.result = rw c.in_default.is at c.scan_range.ensures in (
+      k.in_range,
+      c.largest_d-d.ensures,
+      k.some_period,
+      k.most_period,
+      k.whole,
+      rw (c.largest_d-d.ensures, c.growth-growth.ensures) k.curve,
+      omega (arith, c.min-early.ensures),
+      fits,
+    )

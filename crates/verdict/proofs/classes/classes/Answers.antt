@@ -5,8 +5,8 @@ use Rattle.verdict.proofs.classes.classes.Goals as goal
 
 pub loop-top-preserved-in-None : goal.loop-top-preserved-in-None
 loop-top-preserved-in-None c =
-    let line = c.lowered-part.result.line in
-    let is = c.lowered-part.ensures in
+    let line = c.lowered.new.part.line in
+    let is = c.lowered.ensures.0 in
     let grows : c.args.cycle.now.growth ≤ line.period + line.extra = omega (arith, is.is_extra, is.is_period) in (
       omega arith,
       omega arith,
@@ -16,8 +16,8 @@ loop-top-preserved-in-None c =
 
 pub walk_class-best-requires : goal.walk_class-best-requires
 walk_class-best-requires c =
-    let line = c.lowered-part.result.line in
-    let is = c.lowered-part.ensures in
+    let line = c.lowered.new.part.line in
+    let is = c.lowered.ensures.0 in
     let grows : c.args.cycle.now.growth ≤ line.period + line.extra = omega (arith, is.is_extra, is.is_period) in
     let some = rw c.in-Some.is at c.descend_part.ensures in (
       omega (arith, some.from_lo),
@@ -27,8 +27,8 @@ walk_class-best-requires c =
 
 pub loop-top-preserved : goal.loop-top-preserved
 loop-top-preserved c =
-    let line = c.lowered-part.result.line in
-    let is = c.lowered-part.ensures in
+    let line = c.lowered.new.part.line in
+    let is = c.lowered.ensures.0 in
     let grows : c.args.cycle.now.growth ≤ line.period + line.extra = omega (arith, is.is_extra, is.is_period) in
     let some = rw c.in-Some.is at c.descend_part.ensures in (
       omega (arith, some.from_lo),

@@ -12,10 +12,10 @@ pub loop-i-init : goal.loop-i-init
 loop-i-init c =
     let l = c.args.cycle.now.terms.entries in
     let a = c.args in
-    let it = c.of_timer-part.ensures in (
+    let it = c.restart.ensures in (
       omega arith,
       omega (arith, it.1),
-      rw it.1 (timer_of_part_filled l a.step it.0 (rw it.1 at c.of_timer-part.result.held) (rw c.taken_in.ensures at it.3)),
+      rw it.1 (timer_of_part_filled l a.step it.0 (rw it.1 at c.restart.new.self.held) (rw c.taken_in.ensures at it.3)),
       c.left_out-slope.ensures ∙ sym (slope_of_none l a.step a.cycle.now.period),
       c.left_out-lift.ensures ∙ sym (lift_of_none l a.step a.cycle.now.period),
     )
@@ -95,8 +95,8 @@ overflow_add-lift c =
       lift_of_term_at_most (held.good v.i c.loop-i-test.true) k.most_period,
     )
 
-pub invariant_of-result : goal.invariant_of-result
-invariant_of-result c =
+pub invariant_of-part : goal.invariant_of-part
+invariant_of-part c =
     let k = c.args.cycle.now in
     let v = c.loop-i.invariant in
     let all : c.loop-i.i ≡ k.terms.count = omega arith in

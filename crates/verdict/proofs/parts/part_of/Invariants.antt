@@ -8,5 +8,5 @@ use Rattle.verdict.proofs.parts.part_of.Given as goal
 abbrev pub invariant-loop-i : goal.invariant-loop-i
 invariant-loop-i l =
     let held = l.cycle.terms.entries in
-    (l.i ≤ l.cycle.terms.count) × (l.part.count ≤ l.i) × Filled l.part.entries l.part.count (part_demand held l.i l.step)
+    (l.i ≤ l.cycle.terms.count) × (l.part.terms.count ≤ l.i) × Filled l.part.terms.entries l.part.terms.count (part_demand held l.i l.step)
     × (l.slope ≡ line_slope held l.i l.step l.cycle.period) × (l.lift ≡ line_lift held l.i l.step l.cycle.period)
